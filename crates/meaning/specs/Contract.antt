@@ -1,0 +1,78 @@
+-- What a call gives: the answer, and the lent slices afterwards. This is what the public function's contract cites.
+use mathlib.Core.Path.{_≡_, refl, sym, ap, _∙_}
+use Prim.Native.Nat.{ℕ, _+_, _-_, _≤_}
+use native.Mathlib.Omega.{arith}
+use mathlib.Core.Bool.{Bool, true, false}
+use mathlib.Core.List.{List, [], _∷_, _++_, map}
+use lib.Dec.{leb, ltb, leb→le, T}
+use lib.ListN.{length, drop, length-append, length-drop}
+use Rattle.meaning.specs.Lists.{each}
+use Rattle.meaning.specs.Names.{Name}
+use Rattle.meaning.specs.Syntax.{Module}
+use Rattle.meaning.specs.Grammar.{Result, done, refused, read}
+use Rattle.meaning.specs.Checks.{fits}
+use Rattle.meaning.specs.Reached.{Ended, normalised, refused-at, normalise}
+use Rattle.meaning.specs.Listing.{lines-text}
+use Rattle.meaning.specs.Answer.{answer, Answer, listing, refusal, of-ended, of-read, within, output-after, memory-after}
+
+pub record Call : Type 0 where
+  pub answer : Answer
+  pub output : List ℕ
+  pub memory : List ℕ
+
+-- the call that is lent this working memory and this output
+unfoldable pub call : (memory output : List ℕ) → Name → List ℕ → Call
+call memory output asked text =
+    let r = answer (length memory) (length output) asked text in
+    record { answer = r; output = output-after r output; memory = memory-after memory }
+
+module _ (memory output : List ℕ) (asked : Name) (text : List ℕ) where
+  -- two results that the contract allows coincide
+  pub coincide : (c c′ : Call) → c ≡ call memory output asked text → c′ ≡ call memory output asked text → c ≡ c′
+  coincide c c′ e e′ = e ∙ sym e′
+
+-- an answer with no line, unless its number is 0
+abbrev Bare : Answer → Type 0
+Bare r = (r .number ≡ 0 → ⊥) → r .lines ≡ []
+
+ended-bare : (asked : Name) (e : Ended) → Bare (of-ended asked e)
+unfolding of-ended refusal
+ended-bare asked (normalised count n) h = absurd (h refl)
+ended-bare asked (refused-at number count m w) h = refl
+
+read-bare : (asked : Name) (r : Result (List Module)) → Bare (of-read asked r)
+unfolding of-read refusal
+read-bare asked (done ms s) = ended-bare asked (normalise asked ms)
+read-bare asked (refused number at) = λ h. refl
+
+answer-bare : (memory-lent output-lent : ℕ) (asked : Name) (text : List ℕ) → Bare (answer memory-lent output-lent asked text)
+unfolding answer within refusal
+answer-bare memory-lent output-lent asked text =
+    by-cases Bare _ _ _ (λ e h. refl) (λ e. by-cases Bare _ _ _ (λ k. read-bare asked (read text)) (λ k h. refl))
+
+-- a listing fits into what is lent
+abbrev Fitting : ℕ → Answer → Type 0
+Fitting lent r = length (listing r) ≤ lent
+
+passed : (b : Bool) → b ≡ true → T b
+passed true e = tt
+passed false e = let z : _≡_ {A = ℕ} 0 1 = cc in absurd (omega arith)
+
+answer-fits : (memory-lent output-lent : ℕ) (asked : Name) (text : List ℕ) → Fitting output-lent (answer memory-lent output-lent asked text)
+unfolding answer within refusal lines-text each
+answer-fits memory-lent output-lent asked text =
+    by-cases (Fitting output-lent) _ _ _ (λ e. omega arith)
+    (λ e. by-cases (Fitting output-lent) _ _ _ (λ k. leb→le _ _ (passed _ k)) (λ k. omega arith))
+
+module _ (memory output : List ℕ) (asked : Name) (text : List ℕ) where
+  -- on any answer but 0 the output is unchanged
+  pub refused-unchanged : (call memory output asked text .answer .number ≡ 0 → ⊥) → call memory output asked text .output ≡ output
+  unfolding call output-after lines-text each
+  refused-unchanged h = rw (answer-bare (length memory) (length output) asked text h)
+
+  -- the output's length is unchanged in any case
+  pub same-length : length (call memory output asked text .output) ≡ length output
+  unfolding call output-after
+  same-length =
+      let fits = answer-fits (length memory) (length output) asked text in
+      rw (length-append, length-drop) (omega (arith, fits))

@@ -1,0 +1,184 @@
+-- One module (document 01, "Evaluating", steps 1 to 4).
+use Prim.Native.Nat.{ℕ}
+use mathlib.Core.Bool.{Bool, true, false, not, _&&_}
+use mathlib.Core.Option.{Option, none, some}
+use mathlib.Core.List.{List, [], _∷_, _++_, map}
+use Rattle.meaning.specs.Lists.{pick, each, agree, repeated}
+use Rattle.meaning.specs.Names.{Name, same, member}
+use Rattle.meaning.specs.Numbers.{named-absent, named-late, declared-twice, bad-variable, in-cycle}
+use Rattle.meaning.specs.Syntax.{Function, Signature, Parameter, Clause, renamed-by, bound-by, Import, Variable, Module, variables-of}
+use Rattle.meaning.specs.Origins.{ResolvedEquation, VisibleSort, VisibleFunction}
+use Rattle.meaning.specs.Normal.{Visible, Hidden, Normal, empty, all-functions, sort-names, unite-visible, unite-hidden, unite}
+use Rattle.meaning.specs.Written.{in-order}
+use Rattle.meaning.specs.Checks.{Outcome, fine, stop, _>>=_, _>>_, Check, unless, consistent, Size, size, add-sizes, room, total-room, checked}
+use Rattle.meaning.specs.Clauses.{rename, bind}
+use Rattle.meaning.specs.Own.{own-visible, own-hidden-sorts, own-hidden-functions, own-variable, available-sorts, wrong-variable, constants}
+use Rattle.meaning.specs.Typing.{known-visible, known-hidden, typed-equations}
+
+-- a module evaluated in this call: its name, the modules that it names, its normal form
+pub record Evaluated : Type 0 where
+  pub name : Name
+  pub names : List Name
+  pub normal : Normal
+
+-- ---- step 1. Names of modules, in text order: absent 7, not declared earlier (itself included) 8
+
+unfoldable pub clause-names : Clause → List Name
+clause-names (renamed-by rs) = []
+clause-names (bound-by p rs m) = m ∷ []
+
+unfoldable pub import-names : Import → List Name
+import-names i = i .name ∷ each clause-names (i .clauses)
+
+unfoldable pub named-by : Module → List Name
+named-by m = each import-names (m .imports)
+
+-- no module is called so
+unfoldable pub missing : List Name → Name → Bool
+missing declared w = not (member w declared)
+
+-- a module is called so, and none that is declared earlier
+unfoldable pub too-late : List Name → List Name → Name → Bool
+too-late declared earlier w = member w declared && not (member w earlier)
+
+unfoldable pub names-right : List Name → List Name → List Name → Check
+names-right declared earlier [] = fine tt
+names-right declared earlier (w ∷ ws) =
+    let more = names-right declared earlier ws in
+    pick (missing declared w) (stop named-absent w) (pick (too-late declared earlier w) (stop named-late w) more)
+
+-- ---- 20, right after step 1: M is among the modules reached from those that it names
+
+-- the names of the modules that the names reach, among those evaluated, the latest first
+unfoldable pub reached-from : List Name → List Evaluated → List Name
+reached-from wanted [] = []
+reached-from wanted (e ∷ es) =
+    let yes = e .name ∷ reached-from (e .names ++ wanted) es in
+    let no-more = reached-from wanted es in
+    pick (member (e .name) wanted) yes no-more
+
+unfoldable pub acyclic : List Evaluated → Module → Check
+acyclic env m = pick (member (m .name) (reached-from (named-by m) env)) (stop in-cycle (m .name)) (fine tt)
+
+-- ---- step 2. Sorts or functions (with type) repeated within one section, or a parameter name repeated: 9, at the first repeat
+
+unfoldable pub same-function : Function → Function → Bool
+same-function f g = same (f .name) (g .name) && agree same (f .inputs) (g .inputs) && same (f .output) (g .output)
+
+unfoldable pub name-of-function : Option Function → Option Name
+name-of-function none = none
+name-of-function (some f) = some (f .name)
+
+unfoldable pub once-in : Signature → Check
+once-in s = do
+  unless declared-twice (repeated same [] (s .sorts))
+  unless declared-twice (name-of-function (repeated same-function [] (s .functions)))
+
+unfoldable pub once-in-parameters : List Name → List Parameter → Check
+once-in-parameters seen [] = fine tt
+once-in-parameters seen (p ∷ ps) =
+    let more = once-in-parameters (p .name ∷ seen) ps in
+    let here = once-in (p .signature) >> more in
+    pick (member (p .name) seen) (stop declared-twice (p .name)) here
+
+unfoldable pub declared-once : Module → Check
+declared-once m = do
+  once-in-parameters [] (m .parameters)
+  once-in (m .exports)
+  once-in (m .hidden)
+
+-- ---- step 3. Each import expression, its clauses in order
+
+-- after step 1 every named module is among those evaluated
+unfoldable pub normal-of : List Evaluated → Name → Normal
+normal-of [] w = empty
+normal-of (e ∷ es) w = let r = normal-of es w in pick (same w (e .name)) (e .normal) r
+
+unfoldable pub clause : List Evaluated → Clause → Normal → Outcome Normal
+clause env (renamed-by rs) n = rename rs n
+clause env (bound-by p rs m) n = bind p rs n (normal-of env m)
+
+unfoldable pub clauses : List Evaluated → List Clause → Normal → Outcome Normal
+clauses env [] n = fine n
+clauses env (c ∷ cs) n = clause env c n >>= λ k. clauses env cs k
+
+unfoldable pub expressions : List Evaluated → List Import → Outcome (List Normal)
+expressions env [] = fine []
+expressions env (i ∷ is) = do
+  n ← clauses env (i .clauses) (normal-of env (i .name))
+  ns ← expressions env is
+  fine (n ∷ ns)
+
+-- ---- step 4. The expressions' results united, left to right; then M's own declarations
+
+unfoldable pub united : Normal → List Normal → Outcome Normal
+united n [] = fine n
+united n (k ∷ ks) = checked (unite n k) >>= λ u. united u ks
+
+unfoldable pub imported : List Evaluated → List Import → Outcome Normal
+imported env is = expressions env is >>= λ ns. united empty ns
+
+-- the names of the visible sorts, M's own included
+unfoldable pub seen-sorts : Module → Visible → List Name
+seen-sorts m v = sort-names v ++ (m .exports .sorts ++ each (λ (p : Parameter). p .signature .sorts) (m .parameters))
+
+-- the visible part, with M's own joined
+unfoldable pub joined-visible : Module → Visible → Visible
+joined-visible m v = unite-visible v (own-visible m (seen-sorts m v))
+
+-- 15, 10, 11, 13, 12, of a visible part with M's own joined
+unfoldable pub own-checks : Module → List Name → Visible → Check
+own-checks m seen v =
+    let functions = own-hidden-functions m seen in
+    do
+      consistent v (own-hidden-sorts m seen) functions
+      available-sorts m seen
+      unless bad-variable (wrong-variable (constants (all-functions v ++ functions)) [] (variables-of m))
+
+-- 17: the equations of M, which is module number `home`
+unfoldable pub own-equations : ℕ → Module → List Name → Visible → Outcome (List ResolvedEquation)
+own-equations home m seen v =
+    typed-equations
+    (map known-visible (all-functions v) ++ map known-hidden (own-hidden-functions m seen))
+    (map (λ (x : Variable). record { name = x .name; variable = own-variable m seen x }) (variables-of m))
+    home 0 (m .equations)
+
+unfoldable pub own-hidden : Module → List Name → List ResolvedEquation → Hidden
+own-hidden m seen equations = record {
+  sorts = map (λ (s : VisibleSort). s .origin) (own-hidden-sorts m seen);
+  functions = map (λ (f : VisibleFunction). record { origin = f .origin; type = f .type }) (own-hidden-functions m seen);
+  variables = map (own-variable m seen) (variables-of m);
+  equations = equations;
+}
+
+unfoldable pub joined-hidden : Module → Visible → Hidden → List ResolvedEquation → Hidden
+joined-hidden m v h equations = unite-hidden h (own-hidden m (seen-sorts m v) equations)
+
+-- M's own declarations joined to what it imports. A module's normal form stands in the order of its listing
+unfoldable pub joined-own : ℕ → Size → Module → Normal → Outcome Normal
+joined-own home total m n =
+    let seen = seen-sorts m (n .visible) in
+    let v = joined-visible m (n .visible) in
+    do
+      own-checks m seen v
+      equations ← own-equations home m seen v
+      let all : Normal = record { visible = v; hidden = joined-hidden m (n .visible) (n .hidden) equations }
+      room all
+      total-room (add-sizes total (size all))
+      fine (in-order all)
+
+-- ---- the four steps for M, which is module number `home` of those called `declared`, with `earlier` before it.
+-- `env` are the modules evaluated in this call, `total` is the size of their normal forms together
+
+unfoldable pub evaluate : List Name → List Name → ℕ → Size → List Evaluated → Module → Outcome Normal
+evaluate declared earlier home total env m = do
+  names-right declared earlier (named-by m)
+  acyclic env m
+  declared-once m
+  n ← imported env (m .imports)
+  joined-own home total m n
+
+-- opens every definition of this file
+unfoldable pub evaluate-opened : Unit {0}
+unfolding clause-names import-names named-by missing too-late names-right reached-from acyclic same-function name-of-function once-in once-in-parameters declared-once normal-of clause clauses expressions united imported seen-sorts joined-visible own-checks own-equations own-hidden joined-hidden joined-own evaluate
+evaluate-opened = tt

@@ -1,0 +1,101 @@
+-- M's own declarations (document 01, "Evaluating", step 4): its items with their origins, and the checks 13 and 12 of them.
+use Prim.Native.Nat.{ℕ}
+use mathlib.Core.Bool.{Bool, true, false, not, _&&_, _||_}
+use mathlib.Core.Option.{Option, none, some}
+use mathlib.Core.List.{List, [], _∷_, _++_, map}
+use Rattle.meaning.specs.Lists.{pick, keep, any, first-some, none-in, each}
+use Rattle.meaning.specs.Names.{Name, member}
+use Rattle.meaning.specs.Numbers.{bad-sort}
+use Rattle.meaning.specs.Syntax.{Function, Parameter, Variable, Module, variables-of}
+use Rattle.meaning.specs.Origins.{Section, export-section, hidden-section, parameter-section, Declared, declared-sort, declared-function, declared-variable, Origin, Sort, visible-sort, hidden-sort, FunctionType, VisibleSort, VisibleFunction, VisibleParameter, HiddenVariable}
+use Rattle.meaning.specs.Normal.{Visible}
+use Rattle.meaning.specs.Checks.{_>>=_, _>>_, Check, unless}
+
+-- ---- M's own items, where `sorts-seen` are the names of the visible sorts, M's own included
+
+module _ (m : Module) (sorts-seen : List Name) where
+  abbrev pub own-origin : Section → Declared → Origin
+  own-origin s d = record { home = m .name; section = s; declared = d }
+
+  -- a visible sort, or M's own hidden one; M's text cannot name an imported hidden item, so any other is not available
+  unfoldable pub resolved : Name → Sort
+  resolved s =
+      pick (member s sorts-seen) (visible-sort s)
+      (pick (member s (m .hidden .sorts)) (hidden-sort (own-origin hidden-section (declared-sort s))) (visible-sort s))
+
+  unfoldable pub function-type : Function → FunctionType
+  function-type f = record { inputs = map resolved (f .inputs); output = resolved (f .output) }
+
+  unfoldable pub own-sort : Section → Name → VisibleSort
+  own-sort s a = record { name = a; origin = own-origin s (declared-sort a) }
+
+  unfoldable pub own-function : Section → Function → VisibleFunction
+  own-function s f = record {
+    name = f .name;
+    type = function-type f;
+    origin = own-origin s (declared-function (f .name) (f .inputs) (f .output));
+  }
+
+  unfoldable pub own-parameter : Parameter → VisibleParameter
+  own-parameter p = record {
+    name = p .name;
+    sorts = map (own-sort (parameter-section (p .name))) (p .signature .sorts);
+    functions = map (own-function (parameter-section (p .name))) (p .signature .functions);
+  }
+
+  unfoldable pub own-visible : Visible
+  own-visible = record {
+    sorts = map (own-sort export-section) (m .exports .sorts);
+    functions = map (own-function export-section) (m .exports .functions);
+    parameters = map own-parameter (m .parameters);
+  }
+
+  unfoldable pub own-hidden-sorts : List VisibleSort
+  own-hidden-sorts = map (own-sort hidden-section) (m .hidden .sorts)
+
+  unfoldable pub own-hidden-functions : List VisibleFunction
+  own-hidden-functions = map (own-function hidden-section) (m .hidden .functions)
+
+  unfoldable pub own-variable : Variable → HiddenVariable
+  own-variable v = record {
+    origin = own-origin hidden-section (declared-variable (v .name) (v .sort));
+    sort = resolved (v .sort);
+  }
+
+-- ---- 13: a type using a sort that is not available; the culprit is the function or variable using it
+
+unfoldable pub lacking : List Name → Function → Option Name
+lacking available f =
+    pick (any (λ (s : Name). not (member s available)) (f .output ∷ f .inputs)) (some (f .name)) none
+
+unfoldable pub lacking-variable : List Name → Variable → Option Name
+lacking-variable available v = pick (member (v .sort) available) none (some (v .name))
+
+unfoldable pub parameter-functions : List Parameter → List Function
+parameter-functions ps = each (λ (p : Parameter). p .signature .functions) ps
+
+-- first in text order; in exports and parameters: not visible
+unfoldable pub available-sorts : Module → List Name → Check
+available-sorts m sorts-seen =
+    let inside = sorts-seen ++ m .hidden .sorts in
+    do
+      unless bad-sort (first-some (lacking sorts-seen) (parameter-functions (m .parameters)))
+      unless bad-sort (first-some (lacking sorts-seen) (m .exports .functions))
+      unless bad-sort (first-some (lacking inside) (m .hidden .functions))
+      unless bad-sort (first-some (lacking-variable inside) (variables-of m))
+
+-- ---- 12: a variable declared twice, or named like a constant in reach of M's text
+
+unfoldable pub wrong-variable : List Name → List Name → List Variable → Option Name
+wrong-variable constants seen [] = none
+wrong-variable constants seen (v ∷ vs) =
+    let more = wrong-variable constants (v .name ∷ seen) vs in
+    pick (member (v .name) seen || member (v .name) constants) (some (v .name)) more
+
+unfoldable pub constants : List VisibleFunction → List Name
+constants fs = map (λ (f : VisibleFunction). f .name) (keep (λ (f : VisibleFunction). none-in (f .type .inputs)) fs)
+
+-- opens every definition of this file
+unfoldable pub own-opened : Unit {0}
+unfolding resolved function-type own-sort own-function own-parameter own-visible own-hidden-sorts own-hidden-functions own-variable lacking lacking-variable parameter-functions available-sorts wrong-variable constants
+own-opened = tt
