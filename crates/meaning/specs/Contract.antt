@@ -6,6 +6,7 @@ use mathlib.Core.Bool.{Bool, true, false}
 use mathlib.Core.List.{List, [], _∷_, _++_, map}
 use lib.Dec.{leb, ltb, leb→le, T}
 use lib.ListN.{length, drop, length-append, length-drop}
+use Rattle.meaning.specs.Laws.{by-cases}
 use Rattle.meaning.specs.Lists.{each}
 use Rattle.meaning.specs.Names.{Name}
 use Rattle.meaning.specs.Syntax.{Module}

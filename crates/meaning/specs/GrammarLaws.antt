@@ -11,12 +11,6 @@ use Rattle.meaning.specs.Tokens.{token, ident, arrow, no-token, token-at
 use Rattle.meaning.specs.Syntax.{Term, node, terms}
 use Rattle.meaning.specs.Grammar.{State, Result, done, refused, Parser, after, _>>=_, _>>_, return, refuse, unexpected, if-next, begins-term, too-many, step, expect, short-name, name, separated, input-type, function, term-name, term-by, in-brackets, term}
 
--- what holds of both branches, each under its test, holds of the choice
-pub by-cases {ℓ} : {A : Type ℓ} (P : A → Type 0) (b : Bool) (x y : A) → (b ≡ true → P x) → (b ≡ false → P y) → P (pick b x y)
-unfolding pick
-by-cases P true x y f g = f refl
-by-cases P false x y f g = g refl
-
 -- a state in which t is next and n names have been read
 abbrev pub at : Token → ℕ → State
 at t n = record { token = t; nodes = n }

@@ -17,6 +17,7 @@ pub mod Listing
 pub mod Answer
 pub mod Reader
 pub mod Trials
+pub mod Laws
 pub mod GrammarLaws
 pub mod Contract
 pub mod Distinct
