@@ -21,3 +21,4 @@ pub mod Laws
 pub mod GrammarLaws
 pub mod Contract
 pub mod Distinct
+pub mod Samples

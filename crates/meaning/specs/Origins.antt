@@ -92,7 +92,6 @@ mutual
     _and-then_ : ResolvedTerm → ResolvedTerms → ResolvedTerms
 
 infixr 40 _and-then_
-
 unfoldable mutual
   pub same-term : ResolvedTerm → ResolvedTerm → Bool
   same-term (var o s) (var p t) = same-origin o p && same-sort s t

@@ -52,7 +52,6 @@ mutual
     _then_ : Term → Terms → Terms
 
 infixr 40 _then_
-
 unfoldable pub terms : List Term → Terms
 terms [] = no-terms
 terms (t ∷ ts) = t then terms ts

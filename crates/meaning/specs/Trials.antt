@@ -54,7 +54,7 @@ table =
     record {
       label = "1.2";
       input =
-          "normalise=M2\nmodule M1\nbegin\n  sorts A\nend M1\nmodule M2\nbegin\n  imports M1\n  functions f : A -> A\n  -- f has improper type, because\n  -- sort A is not available in M2\nend M2\n";
+          "normalise=M2\nmodule M1\nbegin\n  sorts A\nend M1\nmodule M2\nbegin\n  imports M1\n  functions f : A -> A\n  -- A is hidden in M1,\n  -- so it is no sort of M2\nend M2\n";
       output =
           "answer=13\nmodules=2\nmodule=M2\nname=f\nat=0\n";
     }
@@ -70,7 +70,7 @@ table =
     record {
       label = "1.7";
       input =
-          "normalise=M1\nmodule M1\nbegin\n   exports\n      begin sorts A\n            functions f : A -> B\n      end\n   imports M2\nend M1\nmodule M2\nbegin\n   exports\n      begin sorts B\n            functions g : B -> A\n      end\n   imports M1\n   -- Cycles in the import graph are not allowed\nend M2\n";
+          "normalise=M1\nmodule M1\nbegin\n   exports\n      begin sorts A\n            functions f : A -> B\n      end\n   imports M2\nend M1\nmodule M2\nbegin\n   exports\n      begin sorts B\n            functions g : B -> A\n      end\n   imports M1\n   -- M1 and M2 name each other\nend M2\n";
       output =
           "answer=8\nmodules=1\nmodule=M1\nname=M2\nat=0\n";
     }
@@ -78,7 +78,7 @@ table =
     record {
       label = "1.8";
       input =
-          "normalise=M3\nmodule M1\nbegin\n   exports\n      begin sorts A\n            functions a : -> A\n      end\nend M1\n\nmodule M2\nbegin\n   exports\n      begin sorts B\n            functions a : -> B\n      end\nend M2\n\nmodule M3\nbegin\n   imports M1, M2\n   -- Constant a becomes overloaded on import of M1 and M2 in M3\nend M3\n";
+          "normalise=M3\nmodule M1\nbegin\n   exports\n      begin sorts A\n            functions a : -> A\n      end\nend M1\n\nmodule M2\nbegin\n   exports\n      begin sorts B\n            functions a : -> B\n      end\nend M2\n\nmodule M3\nbegin\n   imports M1, M2\n   -- a : -> A and a : -> B meet here\nend M3\n";
       output =
           "answer=11\nmodules=3\nmodule=M3\nname=a\nat=0\n";
     }
@@ -86,7 +86,7 @@ table =
     record {
       label = "1.9";
       input =
-          "normalise=M3\nmodule M1\nbegin\n   exports\n      begin sorts A\n            functions f : A -> A\n      end\nend M1\nmodule M2\nbegin\n   exports\n      begin sorts B\n            functions f : B -> B\n      end\nend M2\nmodule M3\nbegin\n   imports M1, M2\n   -- Overloading of (non-constant) functions is allowed\nend M3\n";
+          "normalise=M3\nmodule M1\nbegin\n   exports\n      begin sorts A\n            functions f : A -> A\n      end\nend M1\nmodule M2\nbegin\n   exports\n      begin sorts B\n            functions f : B -> B\n      end\nend M2\nmodule M3\nbegin\n   imports M1, M2\n   -- two functions f, told apart by their input\nend M3\n";
       output =
           "answer=0\nmodules=3\nmodule=M3\nsort=A\norigin=[M1,export,sort,A]\nsort=B\norigin=[M2,export,sort,B]\nfunction=f:A->A\norigin=[M1,export,function,f:A->A]\nfunction=f:B->B\norigin=[M2,export,function,f:B->B]\nend=M3\n";
     }
@@ -94,7 +94,7 @@ table =
     record {
       label = "1.10";
       input =
-          "normalise=M3\nmodule M1\nbegin\n   exports\n      begin sorts A\n             functions f : A -> A\n      end\nend M1\nmodule M2\nbegin\n   exports\n      begin sorts A\n             functions f : A -> A\n       end\nend M2\nmodule M3\nbegin\n   imports M1, M2\n   -- A and f : A -> A are imported both from M1 and M2,\n   -- but this violates the origin rule\nend M3\n";
+          "normalise=M3\nmodule M1\nbegin\n   exports\n      begin sorts A\n             functions f : A -> A\n      end\nend M1\nmodule M2\nbegin\n   exports\n      begin sorts A\n             functions f : A -> A\n       end\nend M2\nmodule M3\nbegin\n   imports M1, M2\n   -- two sorts A and two functions f,\n   -- each pair of two origins\nend M3\n";
       output =
           "answer=10\nmodules=3\nmodule=M3\nname=A\nat=0\n";
     }
@@ -118,7 +118,7 @@ table =
     record {
       label = "1.16";
       input =
-          "normalise=M2\nmodule M1\nbegin\n   exports begin sorts A, B end\nend M1\nmodule M2\nbegin\n   imports M1 { renamed by [ A -> C,\n                             B -> C ] }\n    -- C is imported twice in M2 with different origins\nend M2\n";
+          "normalise=M2\nmodule M1\nbegin\n   exports begin sorts A, B end\nend M1\nmodule M2\nbegin\n   imports M1 { renamed by [ A -> C,\n                             B -> C ] }\n    -- both sorts are now called C\nend M2\n";
       output =
           "answer=10\nmodules=2\nmodule=M2\nname=C\nat=0\n";
     }
@@ -126,7 +126,7 @@ table =
     record {
       label = "1.17";
       input =
-          "normalise=M3\nmodule M1\nbegin\n   exports begin sorts A end\nend M1\nmodule M2\nbegin\n   imports M1, M1 { renamed by [ A -> B ] }\nend M2\nmodule M3\nbegin\n   imports M2 { renamed by [ A -> C,\n                             B -> C ] }\n   -- C is imported twice in M4, but both\n   -- instances have the same origin and are\n   -- identified\nend M3\n";
+          "normalise=M3\nmodule M1\nbegin\n   exports begin sorts A end\nend M1\nmodule M2\nbegin\n   imports M1, M1 { renamed by [ A -> B ] }\nend M2\nmodule M3\nbegin\n   imports M2 { renamed by [ A -> C,\n                             B -> C ] }\n   -- both are the sort A of M1\nend M3\n";
       output =
           "answer=0\nmodules=3\nmodule=M3\nsort=C\norigin=[M1,export,sort,A]\nend=M3\n";
     }
@@ -134,7 +134,7 @@ table =
     record {
       label = "1.18";
       input =
-          "normalise=M2\nmodule M1\nbegin\n   exports begin sorts A, B end\nend M1\nmodule M2\nbegin\n   imports M1 { renamed by [ A -> B,\n                             B -> A ] }\n   -- Renamings are applied ''simultaneously'', so the\n   -- order in which they are specified does not\n   -- matter and the set of target names need not be\n   -- disjoint from the set of source names\nend M2\n";
+          "normalise=M2\nmodule M1\nbegin\n   exports begin sorts A, B end\nend M1\nmodule M2\nbegin\n   imports M1 { renamed by [ A -> B,\n                             B -> A ] }\n   -- the two names are exchanged\nend M2\n";
       output =
           "answer=0\nmodules=2\nmodule=M2\nsort=A\norigin=[M1,export,sort,B]\nsort=B\norigin=[M1,export,sort,A]\nend=M2\n";
     }

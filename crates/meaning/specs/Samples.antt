@@ -1,0 +1,114 @@
+-- What the program's output does not show, computed: the listing reader, what is lent, readings that look right, and 20.
+use mathlib.Core.Path.{_≡_, refl}
+use Prim.Native.Nat.{ℕ}
+use mathlib.Core.Bool.{Bool, true}
+use mathlib.Core.List.{List, [], _∷_}
+use lib.Dec.{ltb}
+use lib.ListN.{length}
+use Rattle.meaning.specs.Lists.{pick}
+use Rattle.meaning.specs.Names.{bytes, Name}
+use Rattle.meaning.specs.Numbers.{memory-size, clashing, lent-short, bad-line}
+use Rattle.meaning.specs.Syntax.{Module}
+use Rattle.meaning.specs.Grammar.{name, exports, imports}
+use Rattle.meaning.specs.Normal.{empty}
+use Rattle.meaning.specs.Checks.{fine, stop}
+use Rattle.meaning.specs.Evaluate.{acyclic, clauses}
+use Rattle.meaning.specs.Answer.{listing, refusal, answer}
+use Rattle.meaning.specs.Reader.{a-line, at-end, refused-line, line-at}
+use Rattle.meaning.specs.Trials.{all-opened}
+
+-- ---- the listing reader
+
+first-line : line-at (bytes "sort=A\nend=M\n") 0 ≡ a-line (bytes "sort") (bytes "A") 7
+unfolding all-opened
+first-line = refl
+
+next-line : line-at (bytes "sort=A\nend=M\n") 7 ≡ a-line (bytes "end") (bytes "M") 13
+unfolding all-opened
+next-line = refl
+
+the-end : line-at (bytes "sort=A\nend=M\n") 13 ≡ at-end
+unfolding all-opened
+the-end = refl
+
+past-the-end : line-at (bytes "sort=A\nend=M\n") 14 ≡ refused-line bad-line 14
+unfolding all-opened
+past-the-end = refl
+
+unknown-key : line-at (bytes "sorts=A\n") 0 ≡ refused-line bad-line 0
+unfolding all-opened
+unknown-key = refl
+
+no-equals : line-at (bytes "end=M\nsort\nend=M\n") 6 ≡ refused-line bad-line 6
+unfolding all-opened
+no-equals = refl
+
+no-line-feed : line-at (bytes "end=M") 0 ≡ refused-line bad-line 0
+unfolding all-opened
+no-line-feed = refl
+
+first-equals : line-at (bytes "equation=[e] a=b\n") 0 ≡ a-line (bytes "equation") (bytes "[e] a=b") 17
+unfolding all-opened
+first-equals = refl
+
+-- ---- what is lent, whatever the memory's size
+
+short-memory : (memory output : ℕ) (asked : Name) (text : List ℕ) → ltb memory memory-size ≡ true → answer memory output asked text ≡ refusal lent-short 0 asked [] 0
+unfolding answer pick
+short-memory memory output asked text e = rw e
+
+exact-output : listing (answer memory-size 15 (bytes "M") (bytes "module M begin end M")) ≡ bytes "module=M\nend=M\n"
+unfolding all-opened
+exact-output = refl
+
+short-output : answer memory-size 14 (bytes "M") (bytes "module M begin end M") ≡ refusal lent-short 1 (bytes "M") [] 0
+unfolding all-opened
+short-output = refl
+
+-- ---- readings that look right
+
+-- a section is no string: a parameter called `hidden` is not the hidden section
+hidden-parameter : answer memory-size 0 (bytes "M") (bytes "module M begin parameters hidden begin sorts A end hidden sorts A end M") ≡ refusal clashing 1 (bytes "M") (bytes "A") 0
+unfolding all-opened
+hidden-parameter = refl
+
+-- an actual name keeps its own origin
+actual-origin :
+    listing
+    (answer memory-size 99 (bytes "N") (bytes "module L begin parameters P begin sorts X end P end L module B begin exports begin sorts Y end end B module N begin imports L { P bound by [ X -> Y ] to B } end N"))
+    ≡ bytes "module=N\nsort=Y\norigin=[B,export,sort,Y]\nend=N\n"
+unfolding all-opened
+actual-origin = refl
+
+-- a hidden function of a module that is imported under two renamings is two functions
+two-instances :
+    listing
+    (answer memory-size 999 (bytes "N") (bytes "module B begin exports begin sorts A end functions g : A -> A end B module N begin imports B { renamed by [ A -> C ] }, B { renamed by [ A -> D ] } end N"))
+    ≡ bytes "module=N\nsort=C\norigin=[B,export,sort,A]\nsort=D\norigin=[B,export,sort,A]\nhidden-function={1}:C->C\norigin=[B,hidden,function,g:A->A]\nhidden-function={2}:D->D\norigin=[B,hidden,function,g:A->A]\nend=N\n"
+unfolding all-opened
+two-instances = refl
+
+-- ---- 20, of modules that no text gives: M names A, and A, evaluated before, names M, evaluated before
+
+unfoldable cyclic : Module
+cyclic = record {
+  name = bytes "M";
+  parameters = [];
+  exports = record { sorts = []; functions = [] };
+  imports = record { name = bytes "A"; clauses = [] } ∷ [];
+  hidden = record { sorts = []; functions = [] };
+  groups = [];
+  equations = [];
+}
+
+in-a-cycle :
+    acyclic
+    (record { name = bytes "A"; names = bytes "M" ∷ []; normal = empty } ∷ record { name = bytes "M"; names = []; normal = empty } ∷ [])
+    cyclic
+    ≡ stop 20 (bytes "M")
+unfolding all-opened cyclic
+in-a-cycle = refl
+
+in-no-cycle : acyclic (record { name = bytes "A"; names = []; normal = empty } ∷ []) cyclic ≡ fine tt
+unfolding all-opened cyclic
+in-no-cycle = refl
