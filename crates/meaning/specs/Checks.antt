@@ -8,8 +8,8 @@ use lib.ListN.{length}
 use Rattle.meaning.specs.Lists.{pick, any, sum, agree}
 use Rattle.meaning.specs.Names.{Name, same, by-name}
 use Rattle.meaning.specs.Numbers.{parameter-room, item-room, equation-room, item-total, equation-total, node-total, clashing, overloading, bad-parameter, no-room}
-use Rattle.meaning.specs.Origins.{same-origin, same-sort, FunctionType, same-type, ResolvedTerm, var, app, ResolvedTerms, none-left, _and-then_, ResolvedSides, ResolvedEquation, VisibleSort, VisibleFunction, VisibleParameter}
-use Rattle.meaning.specs.Normal.{Visible, Normal, all-sorts, all-functions}
+use Rattle.meaning.specs.Origins.{Section, export-section, hidden-section, parameter-section, same-origin, same-sort, ResolvedTerm, var, app, ResolvedTerms, none-left, _and-then_, ResolvedSides, ResolvedEquation, Shape, sort-shape, function-shape, variable-shape, same-shape, is-sort, is-function, Item}
+use Rattle.meaning.specs.Normal.{Visible, Normal}
 
 -- ---- outcomes
 
@@ -47,54 +47,51 @@ at-odds called wrong (x ∷ xs) = let r = at-odds called wrong xs in pick (any (
 unfoldable pub least-at-odds : {A : Type 0} → (A → Name) → (A → A → Bool) → List A → Option Name
 least-at-odds called wrong xs = at-odds called wrong (by-name called xs)
 
-unfoldable pub parameters-meet : VisibleParameter → VisibleParameter → Bool
-parameters-meet p q = same (p .name) (q .name)
+-- different origins
+unfoldable pub other-origin : Item → Item → Bool
+other-origin a b = not (same-origin (a .origin) (b .origin))
 
-unfoldable pub sorts-clash : VisibleSort → VisibleSort → Bool
-sorts-clash a b = same (a .name) (b .name) && not (same-origin (a .origin) (b .origin))
+unfoldable pub sorts-clash : Item → Item → Bool
+sorts-clash a b = is-sort (a .shape) && is-sort (b .shape) && same (a .name) (b .name) && other-origin a b
 
--- a function and where it stands: 0 in the exports or among M's own hidden ones, k in the k-th parameter
-pub record Standing : Type 0 where
-  pub function : VisibleFunction
-  pub place : ℕ
+unfoldable pub functions-clash : Item → Item → Bool
+functions-clash a b = is-function (a .shape) && same-shape (a .shape) (b .shape) && same (a .name) (b .name) && other-origin a b
 
-unfoldable pub called : Standing → Name
-called s = s .function .name
+-- functions of equal input type with different output
+unfoldable pub other-output : Shape → Shape → Bool
+other-output sort-shape u = false
+other-output (variable-shape s) u = false
+other-output (function-shape t) sort-shape = false
+other-output (function-shape t) (variable-shape s) = false
+other-output (function-shape t) (function-shape u) = agree same-sort (t .inputs) (u .inputs) && not (same-sort (t .output) (u .output))
 
-unfoldable pub standing-at : ℕ → List VisibleFunction → List Standing
-standing-at k fs = map (λ (f : VisibleFunction). record { function = f; place = k }) fs
+-- functions of one parameter
+unfoldable pub in-parameter : Name → Section → Bool
+in-parameter p export-section = false
+in-parameter p hidden-section = false
+in-parameter p (parameter-section q) = same p q
 
-unfoldable pub in-parameters : ℕ → List VisibleParameter → List Standing
-in-parameters k [] = []
-in-parameters k (p ∷ ps) = standing-at k (p .functions) ++ in-parameters (k + 1) ps
+unfoldable pub in-one-parameter : Section → Section → Bool
+in-one-parameter export-section t = false
+in-one-parameter hidden-section t = false
+in-one-parameter (parameter-section p) t = in-parameter p t
 
-unfoldable pub all-standing : Visible → List VisibleFunction → List Standing
-all-standing v own = standing-at 0 (v .functions) ++ (in-parameters 1 (v .parameters) ++ standing-at 0 own)
+unfoldable pub both-in-one : Item → Item → Bool
+both-in-one a b = is-function (a .shape) && is-function (b .shape) && in-one-parameter (a .standing) (b .standing)
 
-unfoldable pub functions-clash : Standing → Standing → Bool
-functions-clash a b =
-    same (called a) (called b) && same-type (a .function .type) (b .function .type)
-    && not (same-origin (a .function .origin) (b .function .origin))
+unfoldable pub overloaded : Item → Item → Bool
+overloaded a b = same (a .name) (b .name) && (other-output (a .shape) (b .shape) || both-in-one a b)
 
--- equal name and input type with different output
-unfoldable pub other-output : FunctionType → FunctionType → Bool
-other-output s t = agree same-sort (s .inputs) (t .inputs) && not (same-sort (s .output) (t .output))
-
--- twice in one parameter
-unfoldable pub in-one-parameter : Standing → Standing → Bool
-in-one-parameter a b = eqb (a .place) (b .place) && not (eqb (a .place) 0)
-
-unfoldable pub overloaded : Standing → Standing → Bool
-overloaded a b = same (called a) (called b) && (other-output (a .function .type) (b .function .type) || in-one-parameter a b)
-
--- two parameters of one name 15, clash 10 (sorts first), overloading 11. Imported hidden items never clash: `own-sorts` and
--- `own-functions` are M's own hidden ones, and none before these are joined
-unfoldable pub consistent : Visible → List VisibleSort → List VisibleFunction → Check
-consistent v own-sorts own-functions = do
-  unless bad-parameter (least-at-odds (λ (p : VisibleParameter). p .name) parameters-meet (v .parameters))
-  unless clashing (least-at-odds (λ (s : VisibleSort). s .name) sorts-clash (all-sorts v ++ own-sorts))
-  unless clashing (least-at-odds called functions-clash (all-standing v own-functions))
-  unless overloading (least-at-odds called overloaded (all-standing v own-functions))
+-- two parameters of one name 15, clash 10 (sorts first), overloading 11. Imported hidden items never clash: `own` are M's own hidden
+-- items, and none before these are joined
+unfoldable pub consistent : Visible → List Item → Check
+consistent v own =
+    let items = v .items ++ own in
+    do
+      unless bad-parameter (least-at-odds (λ (p : Name). p) same (v .parameters))
+      unless clashing (least-at-odds (λ (i : Item). i .name) sorts-clash items)
+      unless clashing (least-at-odds (λ (i : Item). i .name) functions-clash items)
+      unless overloading (least-at-odds (λ (i : Item). i .name) overloaded items)
 
 -- ---- room
 
@@ -119,12 +116,9 @@ sides-nodes e = term-nodes (e .left) + term-nodes (e .right)
 unfoldable pub equation-nodes : ResolvedEquation → ℕ
 equation-nodes e = sides-nodes (e .conclusion) + sum sides-nodes (e .conditions)
 
-unfoldable pub visible-items : Visible → ℕ
-visible-items v = length (all-sorts v) + length (all-functions v)
-
 unfoldable pub size : Normal → Size
 size n = record {
-  items = visible-items (n .visible) + length (n .hidden .sorts) + length (n .hidden .functions) + length (n .hidden .variables);
+  items = length (n .visible .items) + length (n .hidden .items);
   equations = length (n .hidden .equations);
   nodes = sum equation-nodes (n .hidden .equations);
 }
@@ -150,11 +144,11 @@ total-room t = fits (leb (t .items) item-total && leb (t .equations) equation-to
 
 unfoldable pub checked : Normal → Outcome Normal
 checked n = do
-  consistent (n .visible) [] []
+  consistent (n .visible) []
   room n
   fine n
 
 -- opens every definition of this file
 unfoldable pub checks-opened : Unit {0}
-unfolding _>>=_ _>>_ unless at-odds least-at-odds parameters-meet sorts-clash called standing-at in-parameters all-standing functions-clash other-output in-one-parameter overloaded consistent term-nodes sides-nodes equation-nodes visible-items size add-sizes fits room total-room checked
+unfolding _>>=_ _>>_ unless at-odds least-at-odds other-origin sorts-clash functions-clash other-output in-parameter in-one-parameter both-in-one overloaded consistent term-nodes sides-nodes equation-nodes size add-sizes fits room total-room checked
 checks-opened = tt

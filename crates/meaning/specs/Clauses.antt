@@ -3,13 +3,13 @@ use Prim.Native.Nat.{ℕ}
 use mathlib.Core.Bool.{Bool, true, false, not, _&&_, _||_}
 use mathlib.Core.Option.{Option, none, some}
 use mathlib.Core.List.{List, [], _∷_, _++_, map}
-use Rattle.meaning.specs.Lists.{pick, keep, any, first, first-some}
+use Rattle.meaning.specs.Lists.{pick, keep, any, first}
 use Rattle.meaning.specs.Names.{Name, same, member, least}
 use Rattle.meaning.specs.Numbers.{bad-renaming, bad-parameter, bad-binding}
 use Rattle.meaning.specs.Syntax.{Pair}
-use Rattle.meaning.specs.Origins.{Origin, same-origin, Sort, visible-sort, hidden-sort, FunctionType, same-type, VisibleSort, VisibleFunction, VisibleParameter}
-use Rattle.meaning.specs.Normal.{Visible, Normal, all-sorts, all-functions, sort-names, function-names, unite, move-type, move}
-use Rattle.meaning.specs.Checks.{Outcome, stop, _>>=_, _>>_, unless, checked}
+use Rattle.meaning.specs.Origins.{Origin, same-origin, Sort, visible-sort, hidden-sort, FunctionType, Shape, sort-shape, function-shape, variable-shape, same-shape, Item}
+use Rattle.meaning.specs.Normal.{Visible, Normal, names-in, sorts-among, sort-names, is-called, unite, move-type, move}
+use Rattle.meaning.specs.Checks.{Outcome, stop, _>>=_, _>>_, unless, in-parameter, checked}
 
 -- ---- pairs
 
@@ -28,9 +28,6 @@ renaming rs w = otherwise w (paired rs w)
 
 -- ---- renaming: a pair renames the visible sort and all visible function instances of its old name, parameters included
 
-unfoldable pub visible-names : Visible → List Name
-visible-names v = sort-names v ++ function-names v
-
 -- the first pair whose old name is not visible, or was given before
 unfoldable pub wrong-renaming : List Name → List Name → List Pair → Option Name
 wrong-renaming known seen [] = none
@@ -40,14 +37,18 @@ wrong-renaming known seen (r ∷ rs) =
 
 unfoldable pub rename : List Pair → Normal → Outcome Normal
 rename rs n = do
-  unless bad-renaming (wrong-renaming (visible-names (n .visible)) [] rs)
+  unless bad-renaming (wrong-renaming (names-in (n .visible .items)) [] rs)
   checked (move (renaming rs) (λ f t. renaming rs f) n)
 
 -- ---- binding: sorts of a type that are not formal compare by name and origin, unavailable ones by name
 
 -- where a visible sort comes from
+unfoldable pub origin-of-item : Option Item → Option Origin
+origin-of-item none = none
+origin-of-item (some i) = some (i .origin)
+
 unfoldable pub origin-of : Visible → Name → Option Origin
-origin-of v w = first-some (λ (s : VisibleSort). pick (same w (s .name)) (some (s .origin)) none) (all-sorts v)
+origin-of v w = origin-of-item (first (is-called w) (sorts-among (v .items)))
 
 unfoldable pub same-origins : Option Origin → Option Origin → Bool
 same-origins none none = true
@@ -59,41 +60,46 @@ unfoldable pub is-among : List Name → Option Name → Bool
 is-among ws none = false
 is-among ws (some w) = member w ws
 
--- the parameter p of a module whose visible part is `whole`, bound by the pairs rs to a module whose visible part is `actual`
-module _ (p : VisibleParameter) (rs : List Pair) (whole actual : Visible) where
-  unfoldable pub formal-sorts : List Name
-  formal-sorts = map (λ (s : VisibleSort). s .name) (p .sorts)
+-- the items that stand in the parameter p
+unfoldable pub formals : Name → Visible → List Item
+formals p v = keep (λ (i : Item). in-parameter p (i .standing)) (v .items)
 
-  unfoldable pub formal-functions : List Name
-  formal-functions = map (λ (f : VisibleFunction). f .name) (p .functions)
+-- `formal` are the items of a parameter of a module whose visible part is `whole`, bound by the pairs rs to a module whose visible part is
+-- `actual`
+module _ (formal : List Item) (rs : List Pair) (whole actual : Visible) where
+  unfoldable pub is-formal-sort : Name → Bool
+  is-formal-sort s = any (is-called s) (sorts-among formal)
 
   -- formal items alone are replaced, not exported ones of the same name
   unfoldable pub new-sort : Name → Name
-  new-sort s = pick (member s formal-sorts) (renaming rs s) s
+  new-sort s = pick (is-formal-sort s) (renaming rs s) s
 
   unfoldable pub new-function : Name → FunctionType → Name
-  new-function f t =
-      pick (any (λ (g : VisibleFunction). same f (g .name) && same-type t (g .type)) (p .functions)) (renaming rs f) f
+  new-function f t = pick (any (λ (i : Item). is-called f i && same-shape (function-shape t) (i .shape)) formal) (renaming rs f) f
 
   -- a formal sort's first pair names a visible sort of the actual module; any other sort is the same in both
   unfoldable pub sort-right : Sort → Bool
   sort-right (hidden-sort o) = true
   sort-right (visible-sort s) =
-      pick (member s formal-sorts) (is-among (sort-names actual) (paired rs s)) (same-origins (origin-of whole s) (origin-of actual s))
+      pick (is-formal-sort s) (is-among (sort-names actual) (paired rs s)) (same-origins (origin-of whole s) (origin-of actual s))
 
-  -- a formal function needs a visible function with the new name and the formal type after the formal sorts are replaced
-  unfoldable pub function-right : Name → VisibleFunction → Bool
-  function-right new f =
-      not (any (λ (s : Sort). not (sort-right s)) (f .type .output ∷ f .type .inputs))
-      && any (λ (g : VisibleFunction). same new (g .name) && same-type (move-type new-sort new-function (f .type)) (g .type))
-      (all-functions actual)
+  unfoldable pub sorts-right : FunctionType → Bool
+  sorts-right t = not (any (λ (s : Sort). not (sort-right s)) (t .output ∷ t .inputs))
+
+  -- a formal sort needs a visible sort of the actual module; a formal function needs a visible function with the new name and the formal
+  -- type after the formal sorts are replaced
+  unfoldable pub shape-right : Name → Shape → Bool
+  shape-right new sort-shape = member new (sort-names actual)
+  shape-right new (variable-shape s) = true
+  shape-right new (function-shape t) =
+      sorts-right t
+      && any (λ (i : Item). is-called new i && same-shape (function-shape (move-type new-sort new-function t)) (i .shape)) (actual .items)
 
   -- a name of both kinds needs both
   unfoldable pub pair-right : Pair → Bool
   pair-right r =
-      (member (r .old) formal-sorts || member (r .old) formal-functions)
-      && (not (member (r .old) formal-sorts) || member (r .new) (sort-names actual))
-      && not (any (λ (f : VisibleFunction). same (r .old) (f .name) && not (function-right (r .new) f)) (p .functions))
+      any (is-called (r .old)) formal
+      && not (any (λ (i : Item). is-called (r .old) i && not (shape-right (r .new) (i .shape))) formal)
 
   -- the first pair that is wrong, or whose formal name was paired before
   unfoldable pub wrong-pair : List Name → List Pair → Option Name
@@ -103,35 +109,34 @@ module _ (p : VisibleParameter) (rs : List Pair) (whole actual : Visible) where
 
   -- the least formal name without a pair
   unfoldable pub unpaired : Option Name
-  unpaired = least (keep (λ (w : Name). not (any (λ (r : Pair). same w (r .old)) rs)) (formal-sorts ++ formal-functions))
+  unpaired = least (keep (λ (w : Name). not (any (λ (r : Pair). same w (r .old)) rs)) (names-in formal))
 
 -- the module without the parameter
 unfoldable pub without-visible : Name → Visible → Visible
 without-visible p v = record {
-  sorts = v .sorts;
-  functions = v .functions;
-  parameters = keep (λ (q : VisibleParameter). not (same p (q .name))) (v .parameters);
+  parameters = keep (λ (q : Name). not (same p q)) (v .parameters);
+  items = keep (λ (i : Item). not (in-parameter p (i .standing))) (v .items);
 }
 
 unfoldable pub without : Name → Normal → Normal
 without p n = record { visible = without-visible p (n .visible); hidden = n .hidden }
 
 -- formal items replaced by actual ones in types and equations, united with the actual normal form
-unfoldable pub bind-to : Name → List Pair → Normal → Normal → Option VisibleParameter → Outcome Normal
-bind-to name rs n actual none = stop bad-parameter name
-bind-to name rs n actual (some p) =
-    let σ = new-sort p rs (n .visible) (actual .visible) in
-    let φ = new-function p rs (n .visible) (actual .visible) in
+unfoldable pub bound-to : Name → List Pair → Normal → Normal → Outcome Normal
+bound-to p rs n actual =
+    let formal = formals p (n .visible) in
+    let σ = new-sort formal rs (n .visible) (actual .visible) in
+    let φ = new-function formal rs (n .visible) (actual .visible) in
     do
-      unless bad-binding (wrong-pair p rs (n .visible) (actual .visible) [] rs)
-      unless bad-binding (unpaired p rs (n .visible) (actual .visible))
-      checked (unite (move σ φ (without name n)) actual)
+      unless bad-binding (wrong-pair formal rs (n .visible) (actual .visible) [] rs)
+      unless bad-binding (unpaired formal rs (n .visible) (actual .visible))
+      checked (unite (move σ φ (without p n)) actual)
 
 -- the parameter must exist
 unfoldable pub bind : Name → List Pair → Normal → Normal → Outcome Normal
-bind name rs n actual = bind-to name rs n actual (first (λ (q : VisibleParameter). same name (q .name)) (n .visible .parameters))
+bind p rs n actual = let r = bound-to p rs n actual in pick (member p (n .visible .parameters)) r (stop bad-parameter p)
 
 -- opens every definition of this file
 unfoldable pub clauses-opened : Unit {0}
-unfolding paired otherwise renaming visible-names wrong-renaming rename origin-of same-origins is-among formal-sorts formal-functions new-sort new-function sort-right function-right pair-right wrong-pair unpaired without-visible without bind-to bind
+unfolding paired otherwise renaming wrong-renaming rename origin-of-item origin-of same-origins is-among formals is-formal-sort new-sort new-function sort-right sorts-right shape-right pair-right wrong-pair unpaired without-visible without bound-to bind
 clauses-opened = tt

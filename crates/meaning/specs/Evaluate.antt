@@ -6,14 +6,14 @@ use mathlib.Core.List.{List, [], _∷_, _++_, map}
 use Rattle.meaning.specs.Lists.{pick, each, agree, repeated}
 use Rattle.meaning.specs.Names.{Name, same, member}
 use Rattle.meaning.specs.Numbers.{named-absent, named-late, declared-twice, bad-variable, in-cycle}
-use Rattle.meaning.specs.Syntax.{Function, Signature, Parameter, Clause, renamed-by, bound-by, Import, Variable, Module, variables-of}
-use Rattle.meaning.specs.Origins.{ResolvedEquation, VisibleSort, VisibleFunction}
-use Rattle.meaning.specs.Normal.{Visible, Hidden, Normal, empty, all-functions, sort-names, unite-visible, unite-hidden, unite}
+use Rattle.meaning.specs.Syntax.{Function, Signature, Parameter, Clause, renamed-by, bound-by, Import, Module, variables-of}
+use Rattle.meaning.specs.Origins.{ResolvedEquation}
+use Rattle.meaning.specs.Normal.{Visible, Hidden, Normal, empty, sort-names, unite-visible, unite-hidden, unite}
 use Rattle.meaning.specs.Written.{in-order}
 use Rattle.meaning.specs.Checks.{Outcome, fine, stop, _>>=_, _>>_, Check, unless, consistent, Size, size, add-sizes, room, total-room, checked}
 use Rattle.meaning.specs.Clauses.{rename, bind}
-use Rattle.meaning.specs.Own.{own-visible, own-hidden-sorts, own-hidden-functions, own-variable, available-sorts, wrong-variable, constants}
-use Rattle.meaning.specs.Typing.{known-visible, known-hidden, typed-equations}
+use Rattle.meaning.specs.Own.{own-visible, own-hidden-items, available-sorts, wrong-variable, constants}
+use Rattle.meaning.specs.Typing.{typed-equations}
 
 -- a module evaluated in this call: its name, the modules that it names, its normal form
 pub record Evaluated : Type 0 where
@@ -120,7 +120,7 @@ imported env is = expressions env is >>= λ ns. united empty ns
 
 -- the names of the visible sorts, M's own included
 unfoldable pub seen-sorts : Module → Visible → List Name
-seen-sorts m v = sort-names v ++ (m .exports .sorts ++ each (λ (p : Parameter). p .signature .sorts) (m .parameters))
+seen-sorts m v = sort-names v ++ (each (λ (p : Parameter). p .signature .sorts) (m .parameters) ++ m .exports .sorts)
 
 -- the visible part, with M's own joined
 unfoldable pub joined-visible : Module → Visible → Visible
@@ -129,30 +129,18 @@ joined-visible m v = unite-visible v (own-visible m (seen-sorts m v))
 -- 15, 10, 11, 13, 12, of a visible part with M's own joined
 unfoldable pub own-checks : Module → List Name → Visible → Check
 own-checks m seen v =
-    let functions = own-hidden-functions m seen in
+    let own = own-hidden-items m seen in
     do
-      consistent v (own-hidden-sorts m seen) functions
+      consistent v own
       available-sorts m seen
-      unless bad-variable (wrong-variable (constants (all-functions v ++ functions)) [] (variables-of m))
+      unless bad-variable (wrong-variable (constants (v .items ++ own)) [] (variables-of m))
 
 -- 17: the equations of M, which is module number `home`
 unfoldable pub own-equations : ℕ → Module → List Name → Visible → Outcome (List ResolvedEquation)
-own-equations home m seen v =
-    typed-equations
-    (map known-visible (all-functions v) ++ map known-hidden (own-hidden-functions m seen))
-    (map (λ (x : Variable). record { name = x .name; variable = own-variable m seen x }) (variables-of m))
-    home 0 (m .equations)
+own-equations home m seen v = typed-equations (v .items ++ own-hidden-items m seen) home 0 (m .equations)
 
-unfoldable pub own-hidden : Module → List Name → List ResolvedEquation → Hidden
-own-hidden m seen equations = record {
-  sorts = map (λ (s : VisibleSort). s .origin) (own-hidden-sorts m seen);
-  functions = map (λ (f : VisibleFunction). record { origin = f .origin; type = f .type }) (own-hidden-functions m seen);
-  variables = map (own-variable m seen) (variables-of m);
-  equations = equations;
-}
-
-unfoldable pub joined-hidden : Module → Visible → Hidden → List ResolvedEquation → Hidden
-joined-hidden m v h equations = unite-hidden h (own-hidden m (seen-sorts m v) equations)
+unfoldable pub joined-hidden : Module → List Name → Hidden → List ResolvedEquation → Hidden
+joined-hidden m seen h equations = unite-hidden h (record { items = own-hidden-items m seen; equations = equations })
 
 -- M's own declarations joined to what it imports. A module's normal form stands in the order of its listing
 unfoldable pub joined-own : ℕ → Size → Module → Normal → Outcome Normal
@@ -162,7 +150,7 @@ joined-own home total m n =
     do
       own-checks m seen v
       equations ← own-equations home m seen v
-      let all : Normal = record { visible = v; hidden = joined-hidden m (n .visible) (n .hidden) equations }
+      let all : Normal = record { visible = v; hidden = joined-hidden m seen (n .hidden) equations }
       room all
       total-room (add-sizes total (size all))
       fine (in-order all)
@@ -180,5 +168,5 @@ evaluate declared earlier home total env m = do
 
 -- opens every definition of this file
 unfoldable pub evaluate-opened : Unit {0}
-unfolding clause-names import-names named-by missing too-late names-right reached-from acyclic same-function name-of-function once-in once-in-parameters declared-once normal-of clause clauses expressions united imported seen-sorts joined-visible own-checks own-equations own-hidden joined-hidden joined-own evaluate
+unfolding clause-names import-names named-by missing too-late names-right reached-from acyclic same-function name-of-function once-in once-in-parameters declared-once normal-of clause clauses expressions united imported seen-sorts joined-visible own-checks own-equations joined-hidden joined-own evaluate
 evaluate-opened = tt

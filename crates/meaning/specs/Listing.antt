@@ -4,11 +4,12 @@ use Prim.Native.String.{String}
 use mathlib.Core.Bool.{Bool, true, false}
 use mathlib.Core.List.{List, [], _∷_, _++_, map}
 use lib.ListN.{length}
-use Rattle.meaning.specs.Lists.{pick, each}
+use Rattle.meaning.specs.Lists.{pick, keep, each}
 use Rattle.meaning.specs.Names.{bytes, Name, same, member, words}
-use Rattle.meaning.specs.Origins.{Origin, ResolvedEquation, VisibleSort, VisibleFunction, VisibleParameter, HiddenFunction, HiddenVariable}
+use Rattle.meaning.specs.Origins.{Section, export-section, hidden-section, parameter-section, Origin, ResolvedEquation, Shape, sort-shape, function-shape, variable-shape, Item}
 use Rattle.meaning.specs.Normal.{Visible, Hidden, Normal}
-use Rattle.meaning.specs.Written.{origin-text, numbered, sort-text, function-type-text, equation-text, visible-type-text}
+use Rattle.meaning.specs.Written.{origin-text, numbered, shape-text, equation-text}
+use Rattle.meaning.specs.Clauses.{formals}
 
 -- ---- lines `key=value`, each ended by LF
 
@@ -29,49 +30,50 @@ lines-text ls = each line-text ls
 unfoldable pub origin-line : Origin → Line
 origin-line o = line "origin" (origin-text o)
 
--- ---- visible items
+-- ---- items: a key for each kind, the name or number, and what follows it
 
-unfoldable pub sort-lines : String → List VisibleSort → List Line
-sort-lines key ss = each (λ (s : VisibleSort). line key (s .name) ∷ origin-line (s .origin) ∷ []) ss
+unfoldable pub sort-or-function : String → String → String → Shape → List ℕ
+sort-or-function s f v sort-shape = bytes s
+sort-or-function s f v (function-shape t) = bytes f
+sort-or-function s f v (variable-shape r) = bytes v
 
-unfoldable pub function-lines : String → List VisibleFunction → List Line
-function-lines key fs =
-    each (λ (f : VisibleFunction). line key (f .name ++ visible-type-text f) ∷ origin-line (f .origin) ∷ []) fs
+abbrev pub item-line : List ℕ → List ℕ → List Item → Shape → Line
+item-line key called hidden shape = record { key = key; value = called ++ shape-text hidden shape }
 
-unfoldable pub parameter-lines : VisibleParameter → List Line
-parameter-lines p =
-    line "parameter" (p .name) ∷ (sort-lines "parameter-sort" (p .sorts) ++ function-lines "parameter-function" (p .functions))
+unfoldable pub exported-lines : Item → List Line
+exported-lines i =
+    item-line (sort-or-function "sort" "function" "variable" (i .shape)) (i .name) [] (i .shape) ∷ origin-line (i .origin) ∷ []
+
+unfoldable pub formal-lines : Item → List Line
+formal-lines i =
+    item-line (sort-or-function "parameter-sort" "parameter-function" "variable" (i .shape)) (i .name) [] (i .shape)
+    ∷ origin-line (i .origin) ∷ []
+
+-- exported or inherited items, then each parameter with its own
+unfoldable pub is-exported : Section → Bool
+is-exported export-section = true
+is-exported hidden-section = false
+is-exported (parameter-section p) = false
+
+unfoldable pub parameter-lines : Visible → Name → List Line
+parameter-lines v p = line "parameter" p ∷ each formal-lines (formals p v)
 
 unfoldable pub visible-lines : Visible → List Line
-visible-lines v = sort-lines "sort" (v .sorts) ++ (function-lines "function" (v .functions) ++ each parameter-lines (v .parameters))
+visible-lines v =
+    each exported-lines (keep (λ (i : Item). is-exported (i .standing)) (v .items)) ++ each (parameter-lines v) (v .parameters)
 
--- ---- hidden items, from number k on, and equations
+-- hidden items, from number k on
+unfoldable pub hidden-item-lines : List Item → ℕ → List Item → List Line
+hidden-item-lines hidden k [] = []
+hidden-item-lines hidden k (i ∷ is) =
+    item-line (sort-or-function "hidden-sort" "hidden-function" "variable" (i .shape)) (numbered k) hidden (i .shape)
+    ∷ origin-line (i .origin) ∷ hidden-item-lines hidden (k + 1) is
 
-unfoldable pub hidden-sort-lines : ℕ → List Origin → List Line
-hidden-sort-lines k [] = []
-hidden-sort-lines k (o ∷ os) = line "hidden-sort" (numbered k) ∷ origin-line o ∷ hidden-sort-lines (k + 1) os
-
-unfoldable pub hidden-function-lines : List Origin → ℕ → List HiddenFunction → List Line
-hidden-function-lines hs k [] = []
-hidden-function-lines hs k (f ∷ fs) =
-    line "hidden-function" (numbered k ++ function-type-text hs (f .type)) ∷ origin-line (f .origin) ∷ hidden-function-lines hs (k + 1) fs
-
-unfoldable pub variable-lines : List Origin → ℕ → List HiddenVariable → List Line
-variable-lines hs k [] = []
-variable-lines hs k (v ∷ vs) =
-    line "variable" (numbered k ++ (bytes ":" ++ sort-text hs (v .sort))) ∷ origin-line (v .origin) ∷ variable-lines hs (k + 1) vs
-
-unfoldable pub equation-line : Hidden → ResolvedEquation → Line
-equation-line h e = line "equation" (equation-text (h .sorts) (h .functions) (h .variables) e)
+unfoldable pub equation-line : List Item → ResolvedEquation → Line
+equation-line hidden e = line "equation" (equation-text hidden e)
 
 unfoldable pub hidden-lines : Hidden → List Line
-hidden-lines h =
-    let functions-from = length (h .sorts) + 1 in
-    let variables-from = length (h .sorts) + length (h .functions) + 1 in
-    hidden-sort-lines 1 (h .sorts)
-    ++ (hidden-function-lines (h .sorts) functions-from (h .functions)
-    ++ (variable-lines (h .sorts) variables-from (h .variables)
-    ++ map (equation-line h) (h .equations)))
+hidden-lines h = hidden-item-lines (h .items) 1 (h .items) ++ map (equation-line (h .items)) (h .equations)
 
 -- ---- the listing
 
@@ -94,5 +96,5 @@ shown kept (l ∷ ls) =
 
 -- opens every definition of this file
 unfoldable pub listing-opened : Unit {0}
-unfolding line-text lines-text origin-line sort-lines function-lines parameter-lines visible-lines hidden-sort-lines hidden-function-lines variable-lines equation-line hidden-lines listing-lines visible-keys shown
+unfolding line-text lines-text origin-line sort-or-function exported-lines formal-lines is-exported parameter-lines visible-lines hidden-item-lines equation-line hidden-lines listing-lines visible-keys shown
 listing-opened = tt

@@ -1,19 +1,18 @@
 -- Normal forms (document 01, "Origins" and "Evaluating"; 004, section 4.1): a visible part, made of visible parts alone, and a hidden part;
 -- their union, and their translation by new names.
+use mathlib.Core.Bool.{Bool, true, false, _&&_}
 use mathlib.Core.List.{List, [], _∷_, _++_, map}
-use Rattle.meaning.specs.Lists.{each, union}
-use Rattle.meaning.specs.Names.{Name}
-use Rattle.meaning.specs.Origins.{Origin, same-origin, Sort, visible-sort, hidden-sort, FunctionType, Head, visible-head, hidden-head, ResolvedTerm, var, app, ResolvedTerms, none-left, _and-then_, ResolvedSides, ResolvedEquation, VisibleSort, VisibleFunction, VisibleParameter, HiddenFunction, HiddenVariable, one-sort, one-function, one-hidden-function, one-variable, one-equation}
+use Rattle.meaning.specs.Lists.{keep, union}
+use Rattle.meaning.specs.Names.{Name, same}
+use Rattle.meaning.specs.Origins.{Sort, visible-sort, hidden-sort, FunctionType, Head, visible-head, hidden-head, ResolvedTerm, var, app, ResolvedTerms, none-left, _and-then_, ResolvedSides, ResolvedEquation, Shape, sort-shape, function-shape, variable-shape, is-sort, Item, one-item, one-equation}
 
+-- the parameters' names, and the visible items: exported or inherited, or standing in a parameter
 pub record Visible : Type 0 where
-  pub sorts : List VisibleSort
-  pub functions : List VisibleFunction
-  pub parameters : List VisibleParameter
+  pub parameters : List Name
+  pub items : List Item
 
 pub record Hidden : Type 0 where
-  pub sorts : List Origin
-  pub functions : List HiddenFunction
-  pub variables : List HiddenVariable
+  pub items : List Item
   pub equations : List ResolvedEquation
 
 pub record Normal : Type 0 where
@@ -21,41 +20,35 @@ pub record Normal : Type 0 where
   pub hidden : Hidden
 
 unfoldable pub nothing-visible : Visible
-nothing-visible = record { sorts = []; functions = []; parameters = [] }
+nothing-visible = record { parameters = []; items = [] }
+
+unfoldable pub nothing-hidden : Hidden
+nothing-hidden = record { items = []; equations = [] }
 
 unfoldable pub empty : Normal
-empty = record { visible = nothing-visible; hidden = record { sorts = []; functions = []; variables = []; equations = [] } }
+empty = record { visible = nothing-visible; hidden = nothing-hidden }
 
--- ---- all that is visible, the parameters' items included
+-- ---- the names of the visible sorts, and of all that is visible, parameters included
 
-unfoldable pub all-sorts : Visible → List VisibleSort
-all-sorts v = v .sorts ++ each (λ (p : VisibleParameter). p .sorts) (v .parameters)
+unfoldable pub names-in : List Item → List Name
+names-in is = map (λ (i : Item). i .name) is
 
-unfoldable pub all-functions : Visible → List VisibleFunction
-all-functions v = v .functions ++ each (λ (p : VisibleParameter). p .functions) (v .parameters)
+unfoldable pub sorts-among : List Item → List Item
+sorts-among is = keep (λ (i : Item). is-sort (i .shape)) is
 
 unfoldable pub sort-names : Visible → List Name
-sort-names v = map (λ (s : VisibleSort). s .name) (all-sorts v)
+sort-names v = names-in (sorts-among (v .items))
 
-unfoldable pub function-names : Visible → List Name
-function-names v = map (λ (f : VisibleFunction). f .name) (all-functions v)
+unfoldable pub is-called : Name → Item → Bool
+is-called w i = same w (i .name)
 
 -- ---- union: items and equations that are one become one; import keeps origins. Parameters of one name are for check 15
 
 unfoldable pub unite-visible : Visible → Visible → Visible
-unite-visible a b = record {
-  sorts = union one-sort (a .sorts) (b .sorts);
-  functions = union one-function (a .functions) (b .functions);
-  parameters = a .parameters ++ b .parameters;
-}
+unite-visible a b = record { parameters = a .parameters ++ b .parameters; items = union one-item (a .items) (b .items) }
 
 unfoldable pub unite-hidden : Hidden → Hidden → Hidden
-unite-hidden a b = record {
-  sorts = union same-origin (a .sorts) (b .sorts);
-  functions = union one-hidden-function (a .functions) (b .functions);
-  variables = union one-variable (a .variables) (b .variables);
-  equations = union one-equation (a .equations) (b .equations);
-}
+unite-hidden a b = record { items = union one-item (a .items) (b .items); equations = union one-equation (a .equations) (b .equations) }
 
 unfoldable pub unite : Normal → Normal → Normal
 unite a b = record { visible = unite-visible (a .visible) (b .visible); hidden = unite-hidden (a .hidden) (b .hidden) }
@@ -70,6 +63,28 @@ module _ (σ : Name → Name) (φ : Name → FunctionType → Name) where
 
   unfoldable pub move-type : FunctionType → FunctionType
   move-type t = record { inputs = map move-sort (t .inputs); output = move-sort (t .output) }
+
+  unfoldable pub move-shape : Shape → Shape
+  move-shape sort-shape = sort-shape
+  move-shape (function-shape t) = function-shape (move-type t)
+  move-shape (variable-shape s) = variable-shape (move-sort s)
+
+  -- a variable is never visible, and keeps its name
+  unfoldable pub move-name : Name → Shape → Name
+  move-name w sort-shape = σ w
+  move-name w (function-shape t) = φ w t
+  move-name w (variable-shape s) = w
+
+  unfoldable pub move-item : Item → Item
+  move-item i = record {
+    standing = i .standing;
+    name = move-name (i .name) (i .shape);
+    shape = move-shape (i .shape);
+    origin = i .origin;
+  }
+
+  unfoldable pub move-hidden-item : Item → Item
+  move-hidden-item i = record { standing = i .standing; name = i .name; shape = move-shape (i .shape); origin = i .origin }
 
   unfoldable pub move-head : Head → Head
   move-head (visible-head f t) = visible-head (φ f t) (move-type t)
@@ -87,42 +102,21 @@ module _ (σ : Name → Name) (φ : Name → FunctionType → Name) where
   unfoldable pub move-sides : ResolvedSides → ResolvedSides
   move-sides e = record { left = move-term (e .left); right = move-term (e .right) }
 
-  unfoldable pub move-visible-sort : VisibleSort → VisibleSort
-  move-visible-sort s = record { name = σ (s .name); origin = s .origin }
-
-  unfoldable pub move-function : VisibleFunction → VisibleFunction
-  move-function f = record { name = φ (f .name) (f .type); type = move-type (f .type); origin = f .origin }
-
-  unfoldable pub move-parameter : VisibleParameter → VisibleParameter
-  move-parameter p = record { name = p .name; sorts = map move-visible-sort (p .sorts); functions = map move-function (p .functions) }
+  unfoldable pub move-equation : ResolvedEquation → ResolvedEquation
+  move-equation e = record {
+    home = e .home;
+    position = e .position;
+    tag = e .tag;
+    conclusion = move-sides (e .conclusion);
+    conditions = map move-sides (e .conditions);
+  }
 
   unfoldable pub move-visible : Visible → Visible
-  move-visible v = record {
-    sorts = union one-sort [] (map move-visible-sort (v .sorts));
-    functions = union one-function [] (map move-function (v .functions));
-    parameters = map move-parameter (v .parameters);
-  }
-
-  unfoldable pub move-hidden-function : HiddenFunction → HiddenFunction
-  move-hidden-function f = record { origin = f .origin; type = move-type (f .type) }
-
-  unfoldable pub move-variable : HiddenVariable → HiddenVariable
-  move-variable v = record { origin = v .origin; sort = move-sort (v .sort) }
-
-  unfoldable pub move-equation : ResolvedEquation → ResolvedEquation
-  move-equation r = record {
-    home = r .home;
-    position = r .position;
-    tag = r .tag;
-    conclusion = move-sides (r .conclusion);
-    conditions = map move-sides (r .conditions);
-  }
+  move-visible v = record { parameters = v .parameters; items = union one-item [] (map move-item (v .items)) }
 
   unfoldable pub move-hidden : Hidden → Hidden
   move-hidden h = record {
-    sorts = h .sorts;
-    functions = union one-hidden-function [] (map move-hidden-function (h .functions));
-    variables = union one-variable [] (map move-variable (h .variables));
+    items = union one-item [] (map move-hidden-item (h .items));
     equations = union one-equation [] (map move-equation (h .equations));
   }
 
@@ -131,5 +125,5 @@ module _ (σ : Name → Name) (φ : Name → FunctionType → Name) where
 
 -- opens every definition of this file
 unfoldable pub normal-opened : Unit {0}
-unfolding nothing-visible empty all-sorts all-functions sort-names function-names unite-visible unite-hidden unite move-sort move-type move-head move-term move-sides move-visible-sort move-function move-parameter move-visible move-hidden-function move-variable move-equation move-hidden move
+unfolding nothing-visible nothing-hidden empty names-in sorts-among sort-names is-called unite-visible unite-hidden unite move-sort move-type move-shape move-name move-item move-hidden-item move-head move-term move-sides move-equation move-visible move-hidden move
 normal-opened = tt

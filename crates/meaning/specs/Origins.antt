@@ -122,44 +122,48 @@ pub record ResolvedEquation : Type 0 where
 
 -- ---- the items of a normal form
 
-pub record VisibleSort : Type 0 where
+-- a sort, a function with its type, or a variable with its sort
+pub data Shape : Type 0 where
+  sort-shape : Shape
+  function-shape : FunctionType → Shape
+  variable-shape : Sort → Shape
+
+unfoldable pub same-shape : Shape → Shape → Bool
+same-shape sort-shape sort-shape = true
+same-shape sort-shape (function-shape t) = false
+same-shape sort-shape (variable-shape s) = false
+same-shape (function-shape t) sort-shape = false
+same-shape (function-shape t) (function-shape u) = same-type t u
+same-shape (function-shape t) (variable-shape s) = false
+same-shape (variable-shape s) sort-shape = false
+same-shape (variable-shape s) (function-shape t) = false
+same-shape (variable-shape s) (variable-shape r) = same-sort s r
+
+unfoldable pub is-sort : Shape → Bool
+is-sort sort-shape = true
+is-sort (function-shape t) = false
+is-sort (variable-shape s) = false
+
+unfoldable pub is-function : Shape → Bool
+is-function sort-shape = false
+is-function (function-shape t) = true
+is-function (variable-shape s) = false
+
+-- where an item stands now, its name, what it is, and where it comes from. A hidden item's name is its declared one
+pub record Item : Type 0 where
+  pub standing : Section
   pub name : Name
+  pub shape : Shape
   pub origin : Origin
 
-pub record VisibleFunction : Type 0 where
-  pub name : Name
-  pub type : FunctionType
-  pub origin : Origin
+-- ---- which are one
 
-pub record VisibleParameter : Type 0 where
-  pub name : Name
-  pub sorts : List VisibleSort
-  pub functions : List VisibleFunction
-
--- a hidden sort is its origin
-pub record HiddenFunction : Type 0 where
-  pub origin : Origin
-  pub type : FunctionType
-
-pub record HiddenVariable : Type 0 where
-  pub origin : Origin
-  pub sort : Sort
-
--- ---- when two of them are one
-
--- visible items: equal name (and type) and equal origin
-unfoldable pub one-sort : VisibleSort → VisibleSort → Bool
-one-sort a b = same (a .name) (b .name) && same-origin (a .origin) (b .origin)
-
-unfoldable pub one-function : VisibleFunction → VisibleFunction → Bool
-one-function a b = same (a .name) (b .name) && same-type (a .type) (b .type) && same-origin (a .origin) (b .origin)
-
--- hidden sorts: equal origin, `same-origin`; hidden functions and variables: equal origin and resolved type
-unfoldable pub one-hidden-function : HiddenFunction → HiddenFunction → Bool
-one-hidden-function a b = same-origin (a .origin) (b .origin) && same-type (a .type) (b .type)
-
-unfoldable pub one-variable : HiddenVariable → HiddenVariable → Bool
-one-variable a b = same-origin (a .origin) (b .origin) && same-sort (a .sort) (b .sort)
+-- visible items: equal name (and type) and equal origin. Hidden sorts: equal origin; hidden functions and variables: equal origin and
+-- resolved type. Equal origins bring equal declared names, and items that stand in different sections have different origins
+unfoldable pub one-item : Item → Item → Bool
+one-item a b =
+    same-section (a .standing) (b .standing) && same (a .name) (b .name) && same-shape (a .shape) (b .shape)
+    && same-origin (a .origin) (b .origin)
 
 -- equations: equal module, position there and resolved content
 unfoldable pub one-equation : ResolvedEquation → ResolvedEquation → Bool
@@ -169,5 +173,5 @@ one-equation a b =
 
 -- opens every definition of this file
 unfoldable pub origins-opened : Unit {0}
-unfolding same-section same-declared same-origin same-sort same-type same-head same-term same-sides one-sort one-function one-hidden-function one-variable one-equation
+unfolding same-section same-declared same-origin same-sort same-type same-head same-term same-sides same-shape is-sort is-function one-item one-equation
 origins-opened = tt

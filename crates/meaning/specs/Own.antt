@@ -6,9 +6,9 @@ use mathlib.Core.List.{List, [], _∷_, _++_, map}
 use Rattle.meaning.specs.Lists.{pick, keep, any, first-some, none-in, each}
 use Rattle.meaning.specs.Names.{Name, member}
 use Rattle.meaning.specs.Numbers.{bad-sort}
-use Rattle.meaning.specs.Syntax.{Function, Parameter, Variable, Module, variables-of}
-use Rattle.meaning.specs.Origins.{Section, export-section, hidden-section, parameter-section, Declared, declared-sort, declared-function, declared-variable, Origin, Sort, visible-sort, hidden-sort, FunctionType, VisibleSort, VisibleFunction, VisibleParameter, HiddenVariable}
-use Rattle.meaning.specs.Normal.{Visible}
+use Rattle.meaning.specs.Syntax.{Function, Signature, Parameter, Variable, Module, variables-of}
+use Rattle.meaning.specs.Origins.{Section, export-section, hidden-section, parameter-section, Declared, declared-sort, declared-function, declared-variable, Origin, Sort, visible-sort, hidden-sort, FunctionType, Shape, sort-shape, function-shape, variable-shape, Item}
+use Rattle.meaning.specs.Normal.{Visible, names-in}
 use Rattle.meaning.specs.Checks.{_>>=_, _>>_, Check, unless}
 
 -- ---- M's own items, where `sorts-seen` are the names of the visible sorts, M's own included
@@ -26,41 +26,39 @@ module _ (m : Module) (sorts-seen : List Name) where
   unfoldable pub function-type : Function → FunctionType
   function-type f = record { inputs = map resolved (f .inputs); output = resolved (f .output) }
 
-  unfoldable pub own-sort : Section → Name → VisibleSort
-  own-sort s a = record { name = a; origin = own-origin s (declared-sort a) }
+  unfoldable pub own-sort : Section → Name → Item
+  own-sort s a = record { standing = s; name = a; shape = sort-shape; origin = own-origin s (declared-sort a) }
 
-  unfoldable pub own-function : Section → Function → VisibleFunction
+  unfoldable pub own-function : Section → Function → Item
   own-function s f = record {
+    standing = s;
     name = f .name;
-    type = function-type f;
+    shape = function-shape (function-type f);
     origin = own-origin s (declared-function (f .name) (f .inputs) (f .output));
   }
 
-  unfoldable pub own-parameter : Parameter → VisibleParameter
-  own-parameter p = record {
-    name = p .name;
-    sorts = map (own-sort (parameter-section (p .name))) (p .signature .sorts);
-    functions = map (own-function (parameter-section (p .name))) (p .signature .functions);
-  }
+  unfoldable pub own-section : Section → Signature → List Item
+  own-section s g = map (own-sort s) (g .sorts) ++ map (own-function s) (g .functions)
 
   unfoldable pub own-visible : Visible
   own-visible = record {
-    sorts = map (own-sort export-section) (m .exports .sorts);
-    functions = map (own-function export-section) (m .exports .functions);
-    parameters = map own-parameter (m .parameters);
+    parameters = map (λ (p : Parameter). p .name) (m .parameters);
+    items =
+        each (λ (p : Parameter). own-section (parameter-section (p .name)) (p .signature)) (m .parameters)
+        ++ own-section export-section (m .exports);
   }
 
-  unfoldable pub own-hidden-sorts : List VisibleSort
-  own-hidden-sorts = map (own-sort hidden-section) (m .hidden .sorts)
-
-  unfoldable pub own-hidden-functions : List VisibleFunction
-  own-hidden-functions = map (own-function hidden-section) (m .hidden .functions)
-
-  unfoldable pub own-variable : Variable → HiddenVariable
+  -- variables belong to the hidden section
+  unfoldable pub own-variable : Variable → Item
   own-variable v = record {
+    standing = hidden-section;
+    name = v .name;
+    shape = variable-shape (resolved (v .sort));
     origin = own-origin hidden-section (declared-variable (v .name) (v .sort));
-    sort = resolved (v .sort);
   }
+
+  unfoldable pub own-hidden-items : List Item
+  own-hidden-items = own-section hidden-section (m .hidden) ++ map own-variable (variables-of m)
 
 -- ---- 13: a type using a sort that is not available; the culprit is the function or variable using it
 
@@ -92,10 +90,15 @@ wrong-variable constants seen (v ∷ vs) =
     let more = wrong-variable constants (v .name ∷ seen) vs in
     pick (member (v .name) seen || member (v .name) constants) (some (v .name)) more
 
-unfoldable pub constants : List VisibleFunction → List Name
-constants fs = map (λ (f : VisibleFunction). f .name) (keep (λ (f : VisibleFunction). none-in (f .type .inputs)) fs)
+unfoldable pub is-constant : Shape → Bool
+is-constant sort-shape = false
+is-constant (function-shape t) = none-in (t .inputs)
+is-constant (variable-shape s) = false
+
+unfoldable pub constants : List Item → List Name
+constants is = names-in (keep (λ (i : Item). is-constant (i .shape)) is)
 
 -- opens every definition of this file
 unfoldable pub own-opened : Unit {0}
-unfolding resolved function-type own-sort own-function own-parameter own-visible own-hidden-sorts own-hidden-functions own-variable lacking lacking-variable parameter-functions available-sorts wrong-variable constants
+unfolding resolved function-type own-sort own-function own-section own-visible own-variable own-hidden-items lacking lacking-variable parameter-functions available-sorts wrong-variable is-constant constants
 own-opened = tt

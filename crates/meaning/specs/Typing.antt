@@ -3,11 +3,12 @@ use Prim.Native.Nat.{ℕ, _+_}
 use mathlib.Core.Bool.{Bool, true, false, _&&_}
 use mathlib.Core.Option.{Option, none, some}
 use mathlib.Core.List.{List, [], _∷_, _++_, map}
-use Rattle.meaning.specs.Lists.{pick, first, agree}
-use Rattle.meaning.specs.Names.{Name, same}
+use Rattle.meaning.specs.Lists.{pick, first, or-else, agree}
+use Rattle.meaning.specs.Names.{Name}
 use Rattle.meaning.specs.Numbers.{ill-typed}
 use Rattle.meaning.specs.Syntax.{Term, node, Terms, no-terms, _then_, terms, Sides, Equation, conditions-of}
-use Rattle.meaning.specs.Origins.{Sort, same-sort, FunctionType, Head, visible-head, hidden-head, ResolvedTerm, var, app, ResolvedTerms, none-left, _and-then_, ResolvedSides, ResolvedEquation, VisibleFunction, HiddenVariable}
+use Rattle.meaning.specs.Origins.{Section, export-section, hidden-section, parameter-section, Origin, Sort, same-sort, FunctionType, Head, visible-head, hidden-head, ResolvedTerm, var, app, ResolvedTerms, none-left, _and-then_, ResolvedSides, ResolvedEquation, Shape, sort-shape, function-shape, variable-shape, Item}
+use Rattle.meaning.specs.Normal.{is-called}
 use Rattle.meaning.specs.Checks.{Outcome, fine, stop, _>>=_, _>>_}
 
 -- ---- what is typed
@@ -20,30 +21,36 @@ pub record TypedList : Type 0 where
   pub terms : ResolvedTerms
   pub sorts : List Sort
 
--- a function in reach of M's text, and what it is at a node
-pub record KnownFunction : Type 0 where
-  pub name : Name
-  pub head : Head
-  pub type : FunctionType
+-- how a function stands at a node: a hidden one by its origin, a visible one by its name
+unfoldable pub head-of : Section → Name → Origin → FunctionType → Head
+head-of export-section f o t = visible-head f t
+head-of (parameter-section p) f o t = visible-head f t
+head-of hidden-section f o t = hidden-head o t
 
-unfoldable pub known-visible : VisibleFunction → KnownFunction
-known-visible f = record { name = f .name; head = visible-head (f .name) (f .type); type = f .type }
+-- an item that is found, with its arguments: a function, or a variable, which has none
+unfoldable pub of-shape : Item → TypedList → Shape → Option Typed
+of-shape i ts sort-shape = none
+of-shape i ts (function-shape t) =
+    some (record { term = app (head-of (i .standing) (i .name) (i .origin) t) (ts .terms); sort = t .output })
+of-shape i ts (variable-shape s) = some (record { term = var (i .origin) s; sort = s })
 
-unfoldable pub known-hidden : VisibleFunction → KnownFunction
-known-hidden f = record { name = f .name; head = hidden-head (f .origin) (f .type); type = f .type }
+unfoldable pub found-with : TypedList → Option Item → Option Typed
+found-with ts none = none
+found-with ts (some i) = of-shape i ts (i .shape)
 
--- a variable in reach of M's text
-pub record KnownVariable : Type 0 where
-  pub name : Name
-  pub variable : HiddenVariable
+unfoldable pub no-arguments : TypedList
+no-arguments = record { terms = none-left; sorts = [] }
 
-unfoldable pub applied-to : TypedList → Option KnownFunction → Option Typed
-applied-to ts none = none
-applied-to ts (some g) = some (record { term = app (g .head) (ts .terms); sort = g .type .output })
+-- a function that takes such arguments, and a variable
+unfoldable pub takes : List Sort → Shape → Bool
+takes sorts sort-shape = false
+takes sorts (function-shape t) = agree same-sort sorts (t .inputs)
+takes sorts (variable-shape s) = false
 
-unfoldable pub known-or : Option Typed → Option KnownVariable → Option Typed
-known-or constant none = constant
-known-or constant (some b) = some (record { term = var (b .variable .origin) (b .variable .sort); sort = b .variable .sort })
+unfoldable pub is-variable : Shape → Bool
+is-variable sort-shape = false
+is-variable (function-shape t) = false
+is-variable (variable-shape s) = true
 
 unfoldable pub joined-typed : Option Typed → Option TypedList → Option TypedList
 joined-typed none r = none
@@ -67,13 +74,15 @@ made-equation home at tag none ks = stop ill-typed tag
 made-equation home at tag (some c) none = stop ill-typed tag
 made-equation home at tag (some c) (some ks) = fine (record { home = home; position = at; tag = tag; conclusion = c; conditions = ks })
 
-module _ (functions : List KnownFunction) (variables : List KnownVariable) where
+-- `known` are the items in reach of M's text: the visible ones, and M's own hidden ones
+module _ (known : List Item) where
   unfoldable pub applied : Name → TypedList → Option Typed
-  applied f ts = applied-to ts (first (λ (g : KnownFunction). same f (g .name) && agree same-sort (ts .sorts) (g .type .inputs)) functions)
+  applied f ts = found-with ts (first (λ (i : Item). is-called f i && takes (ts .sorts) (i .shape)) known)
 
   -- an identifier alone is a variable if declared, else a constant
   unfoldable pub alone : Name → Option Typed
-  alone w = known-or (applied w (record { terms = none-left; sorts = [] })) (first (λ (b : KnownVariable). same w (b .name)) variables)
+  alone w =
+      or-else (found-with no-arguments (first (λ (i : Item). is-called w i && is-variable (i .shape)) known)) (applied w no-arguments)
 
   -- a name with its arguments, if these are typed: a function, even where a variable has the name
   unfoldable pub with-arguments : Name → Terms → Option TypedList → Option Typed
@@ -86,7 +95,7 @@ module _ (functions : List KnownFunction) (variables : List KnownVariable) where
     typed (node f xs) = with-arguments f xs (typed-list xs)
 
     pub typed-list : Terms → Option TypedList
-    typed-list no-terms = some (record { terms = none-left; sorts = [] })
+    typed-list no-terms = some no-arguments
     typed-list (x then xs) = joined-typed (typed x) (typed-list xs)
 
   unfoldable pub typed-sides : Sides → Option ResolvedSides
@@ -105,5 +114,5 @@ module _ (functions : List KnownFunction) (variables : List KnownVariable) where
 
 -- opens every definition of this file
 unfoldable pub typing-opened : Unit {0}
-unfolding known-visible known-hidden applied-to known-or joined-typed equated joined-sides made-equation applied alone with-arguments typed typed-sides typed-conditions typed-equations
+unfolding head-of of-shape found-with no-arguments takes is-variable joined-typed equated joined-sides made-equation applied alone with-arguments typed typed-sides typed-conditions typed-equations
 typing-opened = tt

@@ -1,13 +1,13 @@
 -- How numbers, origins, types and terms are written, and the order of a normal form that follows from it (document 01, "The listing").
 use Prim.Native.Nat.{ℕ, zero, suc, _+_, _/_, _%_}
-use mathlib.Core.Bool.{Bool, true, false}
+use mathlib.Core.Bool.{Bool, true, false, _&&_}
 use mathlib.Core.List.{List, [], _∷_, _++_, map}
 use lib.Dec.{eqb, leb, ltb}
 use lib.ListN.{length}
 use Rattle.meaning.specs.Lists.{pick, before, sorted}
-use Rattle.meaning.specs.Names.{bytes, not-after, by-name, by-two}
-use Rattle.meaning.specs.Origins.{Section, export-section, hidden-section, parameter-section, Declared, declared-sort, declared-function, declared-variable, Origin, same-origin, Sort, visible-sort, hidden-sort, FunctionType, Head, visible-head, hidden-head, ResolvedTerm, var, app, ResolvedTerms, none-left, _and-then_, ResolvedSides, ResolvedEquation, VisibleSort, VisibleFunction, VisibleParameter, HiddenFunction, HiddenVariable, one-hidden-function, one-variable}
-use Rattle.meaning.specs.Normal.{Visible, Hidden, Normal}
+use Rattle.meaning.specs.Names.{bytes, Name, same, not-after, by-name, by-two}
+use Rattle.meaning.specs.Origins.{Section, export-section, hidden-section, parameter-section, Declared, declared-sort, declared-function, declared-variable, Origin, same-origin, Sort, visible-sort, hidden-sort, FunctionType, Head, visible-head, hidden-head, ResolvedTerm, var, app, ResolvedTerms, none-left, _and-then_, ResolvedSides, ResolvedEquation, Shape, sort-shape, function-shape, variable-shape, same-shape, Item}
+use Rattle.meaning.specs.Normal.{Visible, Hidden, Normal, sorts-among}
 
 -- ---- numbers
 
@@ -52,27 +52,35 @@ unfoldable pub origin-text : Origin → List ℕ
 origin-text o =
     bytes "[" ++ (o .home ++ (bytes "," ++ (section-text (o .section) ++ (bytes "," ++ (declared-text (o .declared) ++ bytes "]")))))
 
--- ---- hidden items are written `{k}`, k from 1 through all hidden sorts, functions and variables together
+-- ---- hidden items are written `{k}`, k from 1 through all hidden sorts, functions and variables together: its place among them in order
 
 unfoldable pub numbered : ℕ → List ℕ
 numbered k = bytes "{" ++ (decimal k ++ bytes "}")
 
--- a sort, where hs are the hidden sorts in order
-unfoldable pub sort-text : List Origin → Sort → List ℕ
-sort-text hs (visible-sort a) = a
-sort-text hs (hidden-sort o) = numbered (before (same-origin o) hs + 1)
+-- a sort, where `hidden` are the hidden items in order, or at the least the hidden sorts
+unfoldable pub sort-text : List Item → Sort → List ℕ
+sort-text hidden (visible-sort a) = a
+sort-text hidden (hidden-sort o) = numbered (before (λ (i : Item). same-origin o (i .origin)) hidden + 1)
 
-unfoldable pub function-type-text : List Origin → FunctionType → List ℕ
-function-type-text hs t = type-text (map (sort-text hs) (t .inputs)) (sort-text hs (t .output))
+unfoldable pub function-type-text : List Item → FunctionType → List ℕ
+function-type-text hidden t = type-text (map (sort-text hidden) (t .inputs)) (sort-text hidden (t .output))
 
--- where hs, hf and hv are the hidden sorts, functions and variables in order
-module _ (hs : List Origin) (hf : List HiddenFunction) (hv : List HiddenVariable) where
+-- what follows an item's name
+unfoldable pub shape-text : List Item → Shape → List ℕ
+shape-text hidden sort-shape = []
+shape-text hidden (function-shape t) = function-type-text hidden t
+shape-text hidden (variable-shape s) = bytes ":" ++ sort-text hidden s
+
+-- where `hidden` are the hidden items in order
+module _ (hidden : List Item) where
   unfoldable pub head-text : Head → List ℕ
   head-text (visible-head f t) = f
-  head-text (hidden-head o t) = numbered (length hs + before (one-hidden-function (record { origin = o; type = t })) hf + 1)
+  head-text (hidden-head o t) =
+      numbered (before (λ (i : Item). same-origin o (i .origin) && same-shape (function-shape t) (i .shape)) hidden + 1)
 
   unfoldable pub variable-text : Origin → Sort → List ℕ
-  variable-text o s = numbered (length hs + length hf + before (one-variable (record { origin = o; sort = s })) hv + 1)
+  variable-text o s =
+      numbered (before (λ (i : Item). same-origin o (i .origin) && same-shape (variable-shape s) (i .shape)) hidden + 1)
 
   unfoldable mutual
     pub term-text : ResolvedTerm → List ℕ
@@ -103,49 +111,46 @@ module _ (hs : List Origin) (hf : List HiddenFunction) (hv : List HiddenVariable
 
 -- ---- a normal form in order
 
--- visible items and parameters ascend by name bytes, then type bytes
-unfoldable pub sorts-in-order : List VisibleSort → List VisibleSort
-sorts-in-order ss = by-name (λ (s : VisibleSort). s .name) ss
+-- sorts, then functions, then variables
+unfoldable pub shape-rank : Shape → ℕ
+shape-rank sort-shape = 0
+shape-rank (function-shape t) = 1
+shape-rank (variable-shape s) = 2
 
-unfoldable pub visible-type-text : VisibleFunction → List ℕ
-visible-type-text f = function-type-text [] (f .type)
+-- exported or inherited items first, then the parameters' by the parameters' names
+unfoldable pub standing-text : Section → List ℕ
+standing-text export-section = []
+standing-text hidden-section = []
+standing-text (parameter-section p) = p
 
-unfoldable pub functions-in-order : List VisibleFunction → List VisibleFunction
-functions-in-order fs = sorted (by-two (λ (f : VisibleFunction). f .name) visible-type-text) fs
+-- visible items ascend by name bytes, then type bytes
+unfoldable pub visible-order : Item → Item → Bool
+visible-order a b =
+    let by-name-and-type = by-two (λ (i : Item). i .name) (λ (i : Item). shape-text [] (i .shape)) a b in
+    let by-rank = pick (eqb (shape-rank (a .shape)) (shape-rank (b .shape))) by-name-and-type (leb (shape-rank (a .shape)) (shape-rank (b .shape))) in
+    let by-standing = not-after (standing-text (a .standing)) (standing-text (b .standing)) in
+    pick (same (standing-text (a .standing)) (standing-text (b .standing))) by-rank by-standing
 
-unfoldable pub parameter-in-order : VisibleParameter → VisibleParameter
-parameter-in-order p = record { name = p .name; sorts = sorts-in-order (p .sorts); functions = functions-in-order (p .functions) }
-
+-- and so do parameters
 unfoldable pub visible-in-order : Visible → Visible
-visible-in-order v = record {
-  sorts = sorts-in-order (v .sorts);
-  functions = functions-in-order (v .functions);
-  parameters = by-name (λ (p : VisibleParameter). p .name) (map parameter-in-order (v .parameters));
-}
+visible-in-order v = record { parameters = by-name (λ (p : Name). p) (v .parameters); items = sorted visible-order (v .items) }
 
--- hidden ones ascend by the bytes of their origin, then type
-unfoldable pub hidden-sorts-in-order : List Origin → List Origin
-hidden-sorts-in-order os = by-name origin-text os
-
-unfoldable pub hidden-functions-in-order : List Origin → List HiddenFunction → List HiddenFunction
-hidden-functions-in-order hs fs =
-    sorted (by-two (λ (f : HiddenFunction). origin-text (f .origin)) (λ (f : HiddenFunction). function-type-text hs (f .type))) fs
-
-unfoldable pub variables-in-order : List Origin → List HiddenVariable → List HiddenVariable
-variables-in-order hs vs =
-    sorted (by-two (λ (v : HiddenVariable). origin-text (v .origin)) (λ (v : HiddenVariable). sort-text hs (v .sort))) vs
+-- hidden ones ascend by the bytes of their origin, then type, in which `sorts` are the hidden sorts in order
+unfoldable pub hidden-order : List Item → Item → Item → Bool
+hidden-order sorts a b =
+    let by-origin-and-type = by-two (λ (i : Item). origin-text (i .origin)) (λ (i : Item). shape-text sorts (i .shape)) a b in
+    pick (eqb (shape-rank (a .shape)) (shape-rank (b .shape))) by-origin-and-type (leb (shape-rank (a .shape)) (shape-rank (b .shape)))
 
 unfoldable pub hidden-in-order : Hidden → Hidden
 hidden-in-order h =
-    let hs = hidden-sorts-in-order (h .sorts) in
-    let hf = hidden-functions-in-order hs (h .functions) in
-    let hv = variables-in-order hs (h .variables) in
-    record { sorts = hs; functions = hf; variables = hv; equations = sorted (equation-order hs hf hv) (h .equations) }
+    let sorts = by-name (λ (i : Item). origin-text (i .origin)) (sorts-among (h .items)) in
+    let items = sorted (hidden-order sorts) (h .items) in
+    record { items = items; equations = sorted (equation-order items) (h .equations) }
 
 unfoldable pub in-order : Normal → Normal
 in-order n = record { visible = visible-in-order (n .visible); hidden = hidden-in-order (n .hidden) }
 
 -- opens every definition of this file
 unfoldable pub written-opened : Unit {0}
-unfolding digits decimal between-marks type-text argument-text section-text declared-text origin-text numbered sort-text function-type-text head-text variable-text term-text sides-text conditions-text equation-text equation-order sorts-in-order visible-type-text functions-in-order parameter-in-order visible-in-order hidden-sorts-in-order hidden-functions-in-order variables-in-order hidden-in-order in-order
+unfolding digits decimal between-marks type-text argument-text section-text declared-text origin-text numbered sort-text function-type-text shape-text head-text variable-text term-text sides-text conditions-text equation-text equation-order shape-rank standing-text visible-order visible-in-order hidden-order hidden-in-order in-order
 written-opened = tt
