@@ -1,0 +1,4 @@
+pub mod Auto
+pub mod Runs
+pub mod Compared
+pub mod Places

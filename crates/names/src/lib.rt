@@ -1,0 +1,172 @@
+// Names of a text: its bytes by place, where an identifier ends, and which of two names comes first.
+// A name is one word: the place where it starts times 64, and its length.
+ghost use mathlib.Core.Path.{_≡_};
+ghost use Prim.Native.Nat.{_/_, min};
+ghost use lib.ListN.{length, getD, take};
+ghost use Rattle.meaning.specs.Names.{same, not-after};
+ghost use Rattle.meaning.specs.Tokens.{is-word, run-end, at-hyphen, at-word};
+ghost use Rattle.names.specs.Word.{name-of, compared};
+
+// The byte at i, and 0 past the end.
+pub fn byte_at(text: &[u8], i: usize) -> u8
+    ensures { λ r. ⌜ r ≡ getD (now (text .entry)) i 0 ⌝ }
+{
+    if i < text.len() { text[i] } else { 0 }
+}
+
+// Is b a letter, a digit or the single quote?
+pub fn is_word(b: u8) -> bool
+    ensures { λ r. ⌜ r ≡ is-word b ⌝ }
+{
+    if b'a' <= b {
+        return b <= b'z';
+    }
+    if b'A' <= b {
+        return b <= b'Z';
+    }
+    if b'0' <= b {
+        return b <= b'9';
+    }
+    b == b'\''
+}
+
+// Past the hyphens at `at`.
+fn hyphens_end(text: &[u8], at: usize) -> usize
+    ensures { λ r. ⌜ r ≡ run-end at-hyphen (now (text .entry)) at ⌝ }
+{
+    let mut i = at;
+    while i < text.len() {
+        if text[i] == b'-' {
+            i += 1;
+        } else {
+            return i;
+        }
+    }
+    i
+}
+
+// Past the identifier at `at`: each turn goes over hyphens and the one byte behind them, so that no hyphen is read twice.
+pub fn word_end(text: &[u8], at: usize) -> usize
+    ensures { λ r. ⌜ r ≡ run-end at-word (now (text .entry)) at ⌝ }
+{
+    let mut i = at;
+    while i < text.len() {
+        let j = hyphens_end(text, i);
+        if is_word(byte_at(text, j)) {
+            i = j + 1;
+        } else {
+            return i;
+        }
+    }
+    i
+}
+
+// Have a and b the same bytes?
+pub fn same_bytes(a: &[u8], b: &[u8]) -> bool
+    ensures { λ r. ⌜ r ≡ same (now (a .entry)) (now (b .entry)) ⌝ }
+{
+    if a.len() != b.len() {
+        return false;
+    }
+    let mut i = 0;
+    while i < a.len() {
+        if a[i] != b[i] {
+            return false;
+        }
+        i += 1;
+    }
+    true
+}
+
+// 1 if a and b have the same bytes, 0 if a comes first, 2 if b does.
+fn compare_bytes(a: &[u8], b: &[u8]) -> u8
+    ensures { λ r. ⌜ r ≡ compared (now (a .entry)) (now (b .entry)) ⌝ }
+{
+    let mut i = 0;
+    while i < a.len() {
+        if b.len() <= i {
+            return 2;
+        }
+        if a[i] < b[i] {
+            return 0;
+        }
+        if b[i] < a[i] {
+            return 2;
+        }
+        i += 1;
+    }
+    if i < b.len() {
+        return 0;
+    }
+    1
+}
+
+fn lesser(a: usize, b: usize) -> usize
+    ensures { λ r. ⌜ r ≡ min a b ⌝ }
+{
+    if a < b { a } else { b }
+}
+
+// Where the name w starts, within the text.
+fn name_start(text: &[u8], w: u32) -> usize
+    ensures { λ r. ⌜ r ≡ min (w / 64) (length (now (text .entry))) ⌝ }
+{
+    lesser((w / 64) as usize, text.len())
+}
+
+// How many bytes the name w has.
+fn name_length(text: &[u8], w: u32) -> usize
+    ensures { λ r. ⌜ r ≡ length (name-of (now (text .entry)) w) ⌝ }
+{
+    let left = text.len() - name_start(text, w);
+    lesser(lesser((w % 64) as usize, 40), left)
+}
+
+// An array that begins with the bytes of the name w.
+fn copied(text: &[u8], w: u32) -> [u8; 40]
+    ensures { λ r. ⌜ take (length (name-of (now (text .entry)) w)) r ≡ name-of (now (text .entry)) w ⌝ }
+{
+    let start = name_start(text, w);
+    let n = name_length(text, w);
+    let mut copy = [0; 40];
+    let mut i = 0;
+    while i < n {
+        copy[i] = text[start + i];
+        i += 1;
+    }
+    copy
+}
+
+// 1 if a and b are the same name, 0 if a comes first, 2 if b does. Both are copied and compared there.
+pub fn compare(text: &[u8], a: u32, b: u32) -> u8
+    ensures { λ r. ⌜ r ≡ compared (name-of (now (text .entry)) a) (name-of (now (text .entry)) b) ⌝ }
+{
+    let x = copied(text, a);
+    let y = copied(text, b);
+    let n = name_length(text, a);
+    let m = name_length(text, b);
+    compare_bytes(&x[0..n], &y[0..m])
+}
+
+// Are a and b the same name?
+pub fn same_name(text: &[u8], a: u32, b: u32) -> bool
+    ensures { λ r. ⌜ r ≡ same (name-of (now (text .entry)) a) (name-of (now (text .entry)) b) ⌝ }
+{
+    compare(text, a, b) == 1
+}
+
+// Are a and b the same name, or does a come first?
+pub fn not_after(text: &[u8], a: u32, b: u32) -> bool
+    ensures { λ r. ⌜ r ≡ not-after (name-of (now (text .entry)) a) (name-of (now (text .entry)) b) ⌝ }
+{
+    compare(text, a, b) < 2
+}
+
+// Has the name a the bytes of `asked`?
+pub fn is_called(text: &[u8], a: u32, asked: &[u8]) -> bool
+    ensures { λ r. ⌜ r ≡ same (name-of (now (text .entry)) a) (now (asked .entry)) ⌝ }
+{
+    let start = name_start(text, a);
+    let end = start + name_length(text, a);
+    same_bytes(&text[start..end], asked)
+}
