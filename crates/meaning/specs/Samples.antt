@@ -88,6 +88,14 @@ two-instances :
 unfolding all-opened
 two-instances = refl
 
+-- imported hidden items never clash: B and C hide a sort each that the other exports
+hidden-names :
+    listing
+    (answer memory-size 999 (bytes "N") (bytes "module B begin exports begin sorts A end sorts S end B module C begin exports begin sorts S end sorts A end C module N begin imports B, C end N"))
+    ≡ bytes "module=N\nsort=A\norigin=[B,export,sort,A]\nsort=S\norigin=[C,export,sort,S]\nhidden-sort={1}\norigin=[B,hidden,sort,S]\nhidden-sort={2}\norigin=[C,hidden,sort,A]\nend=N\n"
+unfolding all-opened
+hidden-names = refl
+
 -- ---- 20, of modules that no text gives: M names A, and A, evaluated before, names M, evaluated before
 
 unfoldable cyclic : Module

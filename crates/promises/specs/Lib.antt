@@ -1,0 +1,32 @@
+-- the statements
+pub mod VisiblePart
+pub mod Demand
+pub mod Enough
+-- names among names
+pub mod Members
+-- a listing's bytes and its lines: no name has an LF
+pub mod Tie
+pub mod Inline
+pub mod Moving
+pub mod Keeping
+pub mod Joining
+pub mod PlainLines
+pub mod Spelling
+pub mod Reading
+pub mod Tied
+-- demand 3
+pub mod Mirror
+pub mod Visibly
+pub mod Public
+pub mod Lines
+pub mod Proof
+-- the other reading of "accepted"
+pub mod Wanting
+pub mod Again
+pub mod Alone
+-- from less, and for the desk
+pub mod Reaches
+pub mod Stored
+-- two texts that meet the premises, and two for each premise that fail by it alone
+pub mod Instance
+pub mod Premises

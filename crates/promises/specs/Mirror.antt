@@ -1,0 +1,114 @@
+-- Two outcomes that agree, but for room: the first may be 18 where the second goes on.
+use mathlib.Core.Path.{_≡_, refl, sym, ap, subst, _∙_}
+use mathlib.Core.Logic.{_⊎_, inl, inr}
+use mathlib.Core.Bool.{Bool, true, false}
+use mathlib.Core.Option.{Option, none, some}
+use Prim.Native.Nat.{ℕ}
+use native.Mathlib.Omega.{arith}
+use Rattle.meaning.specs.Lists.{pick}
+use Rattle.meaning.specs.Names.{Name}
+use Rattle.meaning.specs.Numbers.{no-room}
+use Rattle.meaning.specs.Checks.{_>>=_, _>>_, Outcome, Check, unless, fits, fine, stop}
+
+-- b is what f makes of a; or a is refused by 18; or both are refused alike
+abbrev pub Mirrors : {A B : Type 0} → (A → B) → Outcome A → Outcome B → Type 0
+Mirrors f (fine a) b = b ≡ fine (f a)
+Mirrors f (stop k w) b = (k ≡ no-room) ⊎ (b ≡ stop k w)
+
+-- nothing is fine and refused
+pub never : {A X : Type 0} (k : ℕ) (w : Name) (a : A) → stop k w ≡ fine a → X
+never k w a e = let z : _≡_ {A = ℕ} 0 1 = cc in absurd (omega arith)
+
+module _ {A B : Type 0} (f : A → B) where
+  -- a check that both make
+  pub mirror-then : (c : Check) (a : Outcome A) (b : Outcome B) → Mirrors f a b → Mirrors f (c >> a) (c >> b)
+  unfolding _>>_
+  mirror-then (fine x) a b h = h
+  mirror-then (stop k w) a b h = inr refl
+
+  -- a check for room, that only the first makes
+  pub mirror-room : (enough : Bool) (a : Outcome A) (b : Outcome B) → Mirrors f a b → Mirrors f (fits enough >> a) b
+  unfolding _>>_ fits pick
+  mirror-room true a b h = h
+  mirror-room false a b h = inl refl
+
+  -- a choice that both make, where the second way refuses
+  pub mirror-pick : (b : Bool) (k : ℕ) (w : Name) (a : Outcome A) (a′ : Outcome B) → Mirrors f a a′
+      → Mirrors f (pick b a (stop k w)) (pick b a′ (stop k w))
+  unfolding pick
+  mirror-pick true k w a a′ h = h
+  mirror-pick false k w a a′ h = inr refl
+
+  -- the steps that follow mirror one another
+  pub mirror-bind : {C D : Type 0} (g : C → D) (a : Outcome A) (b : Outcome B) (p : A → Outcome C) (q : B → Outcome D)
+      → Mirrors f a b → ((x : A) → Mirrors g (p x) (q (f x))) → Mirrors g (a >>= p) (b >>= q)
+  unfolding _>>=_
+  mirror-bind g (fine x) b p q h k = subst (λ r. Mirrors g (p x) (r >>= q)) (sym h) (k x)
+  mirror-bind g (stop n w) b p q (inl e) k = inl e
+  mirror-bind g (stop n w) b p q (inr e) k = inr (ap (λ r. r >>= q) e)
+
+-- whether an outcome is fine, or its refusal
+unfoldable pub told : {A : Type 0} → Outcome A → Check
+told (fine a) = fine tt
+told (stop k w) = stop k w
+
+-- what was made on the way is of no account to the second
+pub mirror-told : {A B C : Type 0} (f : A → B) (r : Outcome C) (p : C → Outcome A) (b : Outcome B)
+    → ((x : C) → Mirrors f (p x) b) → Mirrors f (r >>= p) (told r >> b)
+unfolding told _>>=_ _>>_
+mirror-told f (fine x) p b h = h x
+mirror-told f (stop k w) p b h = inr refl
+
+pub told-bind : {A B C D : Type 0} (r : Outcome A) (s : Outcome B) (p : A → Outcome C) (q : B → Outcome D)
+    → told r ≡ told s → ((x : A) (y : B) → told (p x) ≡ told (q y)) → told (r >>= p) ≡ told (s >>= q)
+unfolding told _>>=_
+told-bind (fine x) (fine y) p q e h = h x y
+told-bind (fine x) (stop k w) p q e h = never k w tt (sym e)
+told-bind (stop k w) (fine y) p q e h = never k w tt e
+told-bind (stop k w) (stop j v) p q e h = e
+
+-- ---- what a fine outcome says of its steps
+
+pub then-fine : {A : Type 0} (c : Check) (a : Outcome A) (x : A) → (c >> a) ≡ fine x → (c ≡ fine tt) × (a ≡ fine x)
+unfolding _>>_
+then-fine (fine tt) a x e = (refl, e)
+then-fine (stop k w) a x e = never k w x e
+
+pub bind-fine : {A B : Type 0} (a : Outcome A) (p : A → Outcome B) (y : B) → (a >>= p) ≡ fine y → (x : A) × (a ≡ fine x) × (p x ≡ fine y)
+unfolding _>>=_
+bind-fine (fine x) p y e = (x, refl, e)
+bind-fine (stop k w) p y e = never k w y e
+
+pub unless-fine : (k : ℕ) (o : Option Name) → unless k o ≡ fine tt → o ≡ none
+unfolding unless
+unless-fine k none e = refl
+unless-fine k (some w) e = never k w tt e
+
+-- ---- two outcomes with one mirror
+
+-- unless either is 18: both fine and alike, or both refused alike
+abbrev pub Together : {A B : Type 0} → (A → B) → Outcome A → Outcome A → Type 0
+Together f (fine a) (fine a′) = f a ≡ f a′
+Together f (fine a) (stop k w) = k ≡ no-room
+Together f (stop k w) (fine a) = k ≡ no-room
+Together f (stop k w) (stop k′ w′) = (k ≡ no-room) ⊎ ((k′ ≡ no-room) ⊎ ((k ≡ k′) × (w ≡ w′)))
+
+pub fine-same : {A : Type 0} (a b : A) → fine a ≡ fine b → a ≡ b
+fine-same a b e = cc
+
+stop-number : {A : Type 0} (k k′ : ℕ) (w w′ : Name) → _≡_ {A = Outcome A} (stop k w) (stop k′ w′) → k ≡ k′
+stop-number k k′ w w′ e = cc
+
+stop-name : {A : Type 0} (k k′ : ℕ) (w w′ : Name) → _≡_ {A = Outcome A} (stop k w) (stop k′ w′) → w ≡ w′
+stop-name k k′ w w′ e = cc
+
+pub one-mirror : {A B : Type 0} (f : A → B) (a a′ : Outcome A) (b : Outcome B) → Mirrors f a b → Mirrors f a′ b → Together f a a′
+one-mirror f (fine x) (fine x′) b h h′ = fine-same (f x) (f x′) (sym h ∙ h′)
+one-mirror f (fine x) (stop k w) b h (inl e) = e
+one-mirror f (fine x) (stop k w) b h (inr e) = never k w (f x) (sym e ∙ h)
+one-mirror f (stop k w) (fine x) b (inl e) h′ = e
+one-mirror f (stop k w) (fine x) b (inr e) h′ = never k w (f x) (sym e ∙ h′)
+one-mirror f (stop k w) (stop k′ w′) b (inl e) h′ = inl e
+one-mirror f (stop k w) (stop k′ w′) b (inr e) (inl e′) = inr (inl e′)
+one-mirror f (stop k w) (stop k′ w′) b (inr e) (inr e′) =
+    inr (inr (stop-number k k′ w w′ (sym e ∙ e′), stop-name k k′ w w′ (sym e ∙ e′)))

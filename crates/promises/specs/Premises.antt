@@ -1,0 +1,303 @@
+-- Each premise of demand 3 matters: for each, two texts that meet all the others and get different answers or different visible parts.
+use mathlib.Core.Path.{_≡_, refl}
+use Prim.Native.Nat.{ℕ}
+use native.Mathlib.Omega.{arith}
+use mathlib.Core.Bool.{true, false}
+use mathlib.Core.List.{List, [], _∷_, _++_}
+use lib.Dec.{eqb}
+use Rattle.meaning.specs.Lists.{pick}
+use Rattle.meaning.specs.Names.{bytes, Name, same, member}
+use Rattle.meaning.specs.Numbers.{memory-size, program-output}
+use Rattle.meaning.specs.Syntax.{Module}
+use Rattle.meaning.specs.Grammar.{read}
+use Rattle.meaning.specs.Written.{decimal}
+use Rattle.meaning.specs.Evaluate.{named-by, missing, too-late}
+use Rattle.meaning.specs.Reached.{Placed, reached, module-names}
+use Rattle.meaning.specs.Answer.{listing, answer}
+use Rattle.meaning.specs.Trials.{all-opened}
+use Rattle.promises.specs.VisiblePart.{visible-part, visible-part-opened}
+use Rattle.promises.specs.Demand.{ReadAs, ForEach, Counterparts, InTurn, InTheCall, Comparable}
+use Rattle.promises.specs.Instance.{modules-in, state-in, asked, not-m1}
+
+-- ---- the premises but one
+
+pub data Premise : Type 0 where
+  nothing same-parameters same-exports same-imports asked-unchanged names-found same-modules others-accepted : Premise
+
+unfoldable pub place : Premise → ℕ
+place nothing = 0
+place same-parameters = 1
+place same-exports = 2
+place same-imports = 3
+place asked-unchanged = 4
+place names-found = 5
+place same-modules = 6
+place others-accepted = 7
+
+-- the premise P, which stands at p, unless it is the one left out
+abbrev pub But : Premise → Premise → Type 0 → Type 0
+But left-out p P = pick (eqb (place left-out) (place p)) (Unit {0}) P
+
+pub record CounterpartsBut (left-out : Premise) (asked : Name) (ms ms′ : List Module) (x x′ : Placed) : Type 0 where
+  pub name : x .self .name ≡ x′ .self .name
+  pub parameters : But left-out same-parameters (x .self .parameters ≡ x′ .self .parameters)
+  pub exports : But left-out same-exports (x .self .exports ≡ x′ .self .exports)
+  pub imports : But left-out same-imports (x .self .imports ≡ x′ .self .imports)
+  pub asked-same : But left-out asked-unchanged (x .self .name ≡ asked → x .self ≡ x′ .self)
+  pub both-missing :
+      But left-out names-found (ForEach (λ w. missing (module-names ms) w ≡ missing (module-names ms′) w) (named-by (x .self)))
+  pub both-late :
+      But left-out names-found
+      (ForEach (λ w. too-late (module-names ms) (x .earlier) w ≡ too-late (module-names ms′) (x′ .earlier) w) (named-by (x .self)))
+
+pub record ComparableBut (left-out : Premise) (asked : Name) (text text′ : List ℕ) (ms ms′ : List Module) : Type 0 where
+  pub read-as : ReadAs text ms
+  pub read-as′ : ReadAs text′ ms′
+  pub stands : member asked (module-names ms) ≡ true
+  pub stands′ : member asked (module-names ms′) ≡ true
+  pub same-order : But left-out same-modules (InTurn (CounterpartsBut left-out asked ms ms′) (reached asked ms) (reached asked ms′))
+  pub accepted : But left-out others-accepted (InTheCall asked ms)
+  pub accepted′ : But left-out others-accepted (InTheCall asked ms′)
+
+-- where nothing is left out, these are the premises
+all-alike : (asked : Name) (ms ms′ : List Module) (xs xs′ : List Placed) → InTurn (CounterpartsBut nothing asked ms ms′) xs xs′
+    → InTurn (Counterparts asked ms ms′) xs xs′
+unfolding pick place
+all-alike asked ms ms′ [] [] h = tt
+all-alike asked ms ms′ [] (x′ ∷ xs′) h = absurd h
+all-alike asked ms ms′ (x ∷ xs) [] h = absurd h
+all-alike asked ms ms′ (x ∷ xs) (x′ ∷ xs′) h = (
+  record {
+    alike = record { name = h .0 .name; parameters = h .0 .parameters; exports = h .0 .exports; imports = h .0 .imports };
+    asked-same = h .0 .asked-same;
+    both-missing = h .0 .both-missing;
+    both-late = h .0 .both-late;
+  },
+  all-alike asked ms ms′ xs xs′ (h .1),
+)
+
+pub nothing-left-out : (asked : Name) (text text′ : List ℕ) (ms ms′ : List Module) → ComparableBut nothing asked text text′ ms ms′
+    → Comparable InTheCall asked text text′ ms ms′
+unfolding pick place
+nothing-left-out asked text text′ ms ms′ c = record {
+  read-as = c .read-as;
+  read-as′ = c .read-as′;
+  stands = c .stands;
+  stands′ = c .stands′;
+  same-order = all-alike asked ms ms′ (reached asked ms) (reached asked ms′) (c .same-order);
+  accepted = c .accepted;
+  accepted′ = c .accepted′;
+}
+
+-- ---- two texts that show that a premise matters
+
+-- an answer's number, its culprit, and the visible part of its listing
+unfoldable pub told : List ℕ → List ℕ
+told text =
+    let r = answer memory-size program-output asked text in
+    decimal (r .number) ++ (bytes " " ++ (r .culprit ++ (bytes "\n" ++ visible-part (listing r))))
+
+pub record Matters (p : Premise) (text text′ : List ℕ) (result result′ : List ℕ) : Type 0 where
+  pub others : ComparableBut p asked text text′ (modules-in (read text)) (modules-in (read text′))
+  pub first-told : told text ≡ result
+  pub second-told : told text′ ≡ result′
+  pub apart : same result result′ ≡ false
+
+-- opens what all of them compute by
+unfoldable pub matters-opened : Unit {0}
+unfolding all-opened visible-part-opened modules-in state-in place asked told
+matters-opened = tt
+
+-- nor is M0 asked
+not-m0 : {X : Type 0} → bytes "M0" ≡ bytes "M2" → X
+not-m0 e = let z : _≡_ {A = ℕ} 48 50 = cc in absurd (omega arith)
+
+-- a parameter of an imported module
+pub parameters-matter : Matters same-parameters
+    (bytes "module M1 begin parameters P begin sorts X end P end M1 module M2 begin imports M1 end M2")
+    (bytes "module M1 begin parameters P begin sorts Y end P end M1 module M2 begin imports M1 end M2")
+    (bytes "0 \nmodule=M2\nparameter=P\nparameter-sort=X\norigin=[M1,parameter P,sort,X]\n")
+    (bytes "0 \nmodule=M2\nparameter=P\nparameter-sort=Y\norigin=[M1,parameter P,sort,Y]\n")
+unfolding matters-opened
+parameters-matter = record {
+  others = record {
+    read-as = record { last = _; reads = refl };
+    read-as′ = record { last = _; reads = refl };
+    stands = refl;
+    stands′ = refl;
+    same-order = (
+      record { name = refl; parameters = tt; exports = refl; imports = refl; asked-same = not-m1; both-missing = tt; both-late = tt },
+      (
+        record { name = refl; parameters = tt; exports = refl; imports = refl; asked-same = λ e. refl; both-missing = (refl, tt); both-late = (refl, tt) },
+        tt,
+      ),
+    );
+    accepted = tt;
+    accepted′ = tt;
+  };
+  first-told = refl;
+  second-told = refl;
+  apart = refl;
+}
+
+-- an export of an imported module
+pub exports-matter : Matters same-exports
+    (bytes "module M1 begin exports begin sorts A end end M1 module M2 begin imports M1 end M2")
+    (bytes "module M1 begin exports begin sorts B end end M1 module M2 begin imports M1 end M2")
+    (bytes "0 \nmodule=M2\nsort=A\norigin=[M1,export,sort,A]\n")
+    (bytes "0 \nmodule=M2\nsort=B\norigin=[M1,export,sort,B]\n")
+unfolding matters-opened
+exports-matter = record {
+  others = record {
+    read-as = record { last = _; reads = refl };
+    read-as′ = record { last = _; reads = refl };
+    stands = refl;
+    stands′ = refl;
+    same-order = (
+      record { name = refl; parameters = refl; exports = tt; imports = refl; asked-same = not-m1; both-missing = tt; both-late = tt },
+      (
+        record { name = refl; parameters = refl; exports = tt; imports = refl; asked-same = λ e. refl; both-missing = (refl, tt); both-late = (refl, tt) },
+        tt,
+      ),
+    );
+    accepted = tt;
+    accepted′ = tt;
+  };
+  first-told = refl;
+  second-told = refl;
+  apart = refl;
+}
+
+-- an import of an imported module: the same module under another name
+pub imports-matter : Matters same-imports
+    (bytes "module M0 begin exports begin sorts A end end M0 module M1 begin imports M0 end M1 module M2 begin imports M1 end M2")
+    (bytes "module M0 begin exports begin sorts A end end M0 module M1 begin imports M0 { renamed by [ A -> B ] } end M1 module M2 begin imports M1 end M2")
+    (bytes "0 \nmodule=M2\nsort=A\norigin=[M0,export,sort,A]\n")
+    (bytes "0 \nmodule=M2\nsort=B\norigin=[M0,export,sort,A]\n")
+unfolding matters-opened
+imports-matter = record {
+  others = record {
+    read-as = record { last = _; reads = refl };
+    read-as′ = record { last = _; reads = refl };
+    stands = refl;
+    stands′ = refl;
+    same-order = (
+      record { name = refl; parameters = refl; exports = refl; imports = tt; asked-same = not-m0; both-missing = tt; both-late = tt },
+      (
+        record { name = refl; parameters = refl; exports = refl; imports = tt; asked-same = not-m1; both-missing = (refl, tt); both-late = (refl, tt) },
+        (
+          record { name = refl; parameters = refl; exports = refl; imports = tt; asked-same = λ e. refl; both-missing = (refl, tt); both-late = (refl, tt) },
+          tt,
+        ),
+      ),
+    );
+    accepted = tt;
+    accepted′ = tt;
+  };
+  first-told = refl;
+  second-told = refl;
+  apart = refl;
+}
+
+-- a hidden function of the asked module itself: its own hidden names clash with visible ones
+pub asked-matters : Matters asked-unchanged
+    (bytes "module M1 begin exports begin sorts A functions f : A -> A end end M1 module M2 begin imports M1 functions g : A -> A end M2")
+    (bytes "module M1 begin exports begin sorts A functions f : A -> A end end M1 module M2 begin imports M1 functions f : A -> A end M2")
+    (bytes "0 \nmodule=M2\nsort=A\norigin=[M1,export,sort,A]\nfunction=f:A->A\norigin=[M1,export,function,f:A->A]\n")
+    (bytes "10 f\n")
+unfolding matters-opened
+asked-matters = record {
+  others = record {
+    read-as = record { last = _; reads = refl };
+    read-as′ = record { last = _; reads = refl };
+    stands = refl;
+    stands′ = refl;
+    same-order = (
+      record { name = refl; parameters = refl; exports = refl; imports = refl; asked-same = tt; both-missing = tt; both-late = tt },
+      (
+        record { name = refl; parameters = refl; exports = refl; imports = refl; asked-same = tt; both-missing = (refl, tt); both-late = (refl, tt) },
+        tt,
+      ),
+    );
+    accepted = tt;
+    accepted′ = refl;
+  };
+  first-told = refl;
+  second-told = refl;
+  apart = refl;
+}
+
+-- a name that is missing in the one and late in the other
+pub names-matter : Matters names-found
+    (bytes "module M2 begin imports M1 end M2")
+    (bytes "module M2 begin imports M1 end M2 module M1 begin end M1")
+    (bytes "7 M1\n")
+    (bytes "8 M1\n")
+unfolding matters-opened
+names-matter = record {
+  others = record {
+    read-as = record { last = _; reads = refl };
+    read-as′ = record { last = _; reads = refl };
+    stands = refl;
+    stands′ = refl;
+    same-order = (
+      record { name = refl; parameters = refl; exports = refl; imports = refl; asked-same = λ e. refl; both-missing = tt; both-late = tt },
+      tt,
+    );
+    accepted = refl;
+    accepted′ = refl;
+  };
+  first-told = refl;
+  second-told = refl;
+  apart = refl;
+}
+
+-- the order of the modules: in the second text M1 stands after M2, and is not reached
+pub order-matters : Matters same-modules
+    (bytes "module M1 begin end M1 module M2 begin imports M1 end M2")
+    (bytes "module M2 begin imports M1 end M2 module M1 begin end M1")
+    (bytes "0 \nmodule=M2\n")
+    (bytes "8 M1\n")
+unfolding matters-opened
+order-matters = record {
+  others = record {
+    read-as = record { last = _; reads = refl };
+    read-as′ = record { last = _; reads = refl };
+    stands = refl;
+    stands′ = refl;
+    same-order = tt;
+    accepted = tt;
+    accepted′ = refl;
+  };
+  first-told = refl;
+  second-told = refl;
+  apart = refl;
+}
+
+-- an imported module that is not accepted: its own hidden sort clashes with its exported one
+pub acceptance-matters : Matters others-accepted
+    (bytes "module M1 begin exports begin sorts A end sorts B end M1 module M2 begin imports M1 end M2")
+    (bytes "module M1 begin exports begin sorts A end sorts A end M1 module M2 begin imports M1 end M2")
+    (bytes "0 \nmodule=M2\nsort=A\norigin=[M1,export,sort,A]\n")
+    (bytes "10 A\n")
+unfolding matters-opened
+acceptance-matters = record {
+  others = record {
+    read-as = record { last = _; reads = refl };
+    read-as′ = record { last = _; reads = refl };
+    stands = refl;
+    stands′ = refl;
+    same-order = (
+      record { name = refl; parameters = refl; exports = refl; imports = refl; asked-same = not-m1; both-missing = tt; both-late = tt },
+      (
+        record { name = refl; parameters = refl; exports = refl; imports = refl; asked-same = λ e. refl; both-missing = (refl, tt); both-late = (refl, tt) },
+        tt,
+      ),
+    );
+    accepted = tt;
+    accepted′ = tt;
+  };
+  first-told = refl;
+  second-told = refl;
+  apart = refl;
+}

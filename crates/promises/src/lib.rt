@@ -1,0 +1,1 @@
+// Promises over the meaning, proved of the definitions alone: this crate has no code.
