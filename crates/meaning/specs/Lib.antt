@@ -21,4 +21,6 @@ pub mod Laws
 pub mod GrammarLaws
 pub mod Contract
 pub mod Distinct
+pub mod Mirror
+pub mod Visibly
 pub mod Samples

@@ -12,7 +12,7 @@ use Rattle.meaning.specs.Normal.{Normal}
 use Rattle.meaning.specs.Checks.{_>>=_, _>>_, Outcome, Check, Size, fits, room, total-room, fine, stop}
 use Rattle.meaning.specs.Evaluate.{Evaluated, clause-names, import-names, named-by, missing, too-late, names-right, normal-of, clause, clauses, expressions, imported, joined-own, evaluate}
 use Rattle.meaning.specs.Distinct.{names-in, no-cycle}
-use Rattle.promises.specs.Mirror.{never, then-fine, bind-fine}
+use Rattle.meaning.specs.Mirror.{never, then-fine, bind-fine}
 use Rattle.promises.specs.Members.{clear, same-eq, member-here, member-right, member-left}
 
 -- ---- two environments that agree on the names of the first

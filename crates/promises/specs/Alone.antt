@@ -17,7 +17,7 @@ use Rattle.meaning.specs.Evaluate.{Evaluated, named-by, normal-of}
 use Rattle.meaning.specs.Reached.{wanted, Placed, reached-among, reached, Ended, end-or, total-of, in-turn, module-names, normalise, normalised, refused-at}
 use Rattle.meaning.specs.Answer.{Answer, refusal, of-ended}
 use Rattle.meaning.specs.Distinct.{names-in, Fresh, read-fresh}
-use Rattle.promises.specs.Mirror.{never}
+use Rattle.meaning.specs.Mirror.{never}
 use Rattle.promises.specs.Members.{clear, passed, same-eq, member-left, Inside, inside-more, inside-later, outside}
 use Rattle.promises.specs.Wanting.{wanted-here, wanted-asked, reached-here, reached-later, ReachedIn, wanted-within, Closed, closed-more, closed-skip}
 use Rattle.promises.specs.Again.{Agree, Either, evaluate-either}

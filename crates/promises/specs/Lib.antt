@@ -15,8 +15,6 @@ pub mod Spelling
 pub mod Reading
 pub mod Tied
 -- demand 3
-pub mod Mirror
-pub mod Visibly
 pub mod Public
 pub mod Lines
 pub mod Proof

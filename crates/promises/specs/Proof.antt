@@ -17,8 +17,8 @@ use Rattle.meaning.specs.Evaluate.{Evaluated, import-names, named-by, missing, 
 use Rattle.meaning.specs.Reached.{Placed, reached, Ended, end-or, total-of, in-turn, module-names, normalise, normalised, refused-at}
 use Rattle.meaning.specs.Listing.{line, lines-text, visible-lines, shown}
 use Rattle.meaning.specs.Answer.{Answer, listing, refusal, of-ended, of-read, within, answer}
-use Rattle.promises.specs.Mirror.{Mirrors, fine-same, Together, one-mirror}
-use Rattle.promises.specs.Visibly.{Seen, seen-of, imported-visibly, evaluate-visibly, visible-half, evaluate-mirrors}
+use Rattle.meaning.specs.Mirror.{Mirrors, fine-same, Together, one-mirror}
+use Rattle.meaning.specs.Visibly.{Seen, seen-of, imported-visibly, evaluate-visibly, visible-half, evaluate-mirrors}
 use Rattle.promises.specs.Public.{public-part, Shows, accepted-shows}
 use Rattle.promises.specs.Lines.{listing-shown}
 use Rattle.promises.specs.VisiblePart.{visible-part}

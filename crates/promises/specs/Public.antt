@@ -15,8 +15,8 @@ use Rattle.meaning.specs.Written.{visible-in-order}
 use Rattle.meaning.specs.Checks.{Check, fine}
 use Rattle.meaning.specs.Own.{resolved, function-type, own-sort, own-function, own-section, own-visible, lacking, parameter-functions, available-sorts}
 use Rattle.meaning.specs.Evaluate.{seen-sorts, joined-visible, own-checks}
-use Rattle.promises.specs.Mirror.{fine-same, then-fine, bind-fine, unless-fine}
-use Rattle.promises.specs.Visibly.{Seen, imported-visibly, joined-visibly, evaluate-visibly}
+use Rattle.meaning.specs.Mirror.{fine-same, then-fine, bind-fine, unless-fine}
+use Rattle.meaning.specs.Visibly.{Seen, imported-visibly, joined-visibly, evaluate-visibly}
 
 -- ---- a module's own visible items, with every sort visible
 

@@ -4,19 +4,19 @@ use Prim.Native.Nat.{ℕ, _+_}
 use mathlib.Core.Bool.{Bool, true, false}
 use mathlib.Core.Option.{Option, none, some}
 use mathlib.Core.List.{List, [], _∷_, _++_, map}
 use Rattle.meaning.specs.Lists.{pick}
 use Rattle.meaning.specs.Names.{Name, same, member}
 use Rattle.meaning.specs.Numbers.{bad-renaming, bad-parameter, bad-binding, in-cycle}
 use Rattle.meaning.specs.Syntax.{Pair, Clause, Import, Equation, Module, conditions-of, renamed-by, bound-by}
 use Rattle.meaning.specs.Origins.{ResolvedSides, Item}
 use Rattle.meaning.specs.Normal.{Visible, Normal, nothing-visible, empty, names-in, unite-visible, unite, move-visible, move}
 use Rattle.meaning.specs.Written.{visible-in-order, in-order}
 use Rattle.meaning.specs.Checks.{_>>=_, _>>_, Outcome, Check, unless, consistent, Size, room, total-room, checked, fine, stop}
 use Rattle.meaning.specs.Clauses.{renaming, wrong-renaming, rename, formals, new-sort, new-function, wrong-pair, unpaired, without-visible, without, bound-to, bind}
 use Rattle.meaning.specs.Typing.{made-equation, typed-sides, typed-conditions, typed-equations}
 use Rattle.meaning.specs.Evaluate.{Evaluated, named-by, names-right, reached-from, acyclic, declared-once, normal-of, clause, clauses, expressions, united, imported, seen-sorts, joined-visible, own-checks, own-equations, joined-own, evaluate}
 use Rattle.meaning.specs.Reached.{wanted}
-use Rattle.promises.specs.Mirror.{Mirrors, mirror-then, mirror-room, mirror-pick, mirror-bind, mirror-told, told, told-bind}
+use Rattle.meaning.specs.Mirror.{Mirrors, mirror-then, mirror-room, mirror-pick, mirror-bind, mirror-told, told, told-bind}
 
 -- ---- the evaluation over visible parts
 
