@@ -21,6 +21,7 @@ pub mod Laws
 pub mod GrammarLaws
 pub mod Contract
 pub mod Distinct
+pub mod OrderLaws
 pub mod Mirror
 pub mod Visibly
 pub mod Samples

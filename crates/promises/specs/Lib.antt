@@ -28,3 +28,13 @@ pub mod Stored
 -- two texts that meet the premises, and two for each premise that fail by it alone
 pub mod Instance
 pub mod Premises
+-- one listing for each accepted normal form
+pub mod ListingLaws
+pub mod SameListing
+pub mod Told
+pub mod Sound
+pub mod SoundEvaluation
+pub mod PlainText
+pub mod OneListing
+-- the count of modules
+pub mod Counts

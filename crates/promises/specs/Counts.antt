@@ -1,0 +1,325 @@
+-- The count: `modules` in every answer is the number of reached modules in text order up to and with the refused one, all of them where
+-- none is refused, and 0 for 1 to 6 and where the working memory is too short.
+use mathlib.Core.Path.{_≡_, refl, sym, ap, subst, _∙_}
+use mathlib.Core.Logic.{_⊎_, inl, inr}
+use Prim.Native.Nat.{ℕ, suc, _+_, _≤_}
+use native.Mathlib.Omega.{arith}
+use mathlib.Core.Bool.{Bool, true, false, true≢false}
+use mathlib.Core.Option.{Option, none, some}
+use mathlib.Core.List.{List, [], _∷_, _++_}
+use lib.Dec.{ltb, leb·zero, lit≤}
+use lib.ListN.{length}
+use Rattle.meaning.specs.Laws.{by-cases}
+use Rattle.meaning.specs.Lists.{pick, before, each}
+use Rattle.meaning.specs.Names.{Name, same, member}
+use Rattle.meaning.specs.Numbers.{memory-size, accepted, asked-absent, lent-short}
+use Rattle.meaning.specs.Syntax.{Signature, Parameter, Pair, Clause, renamed-by, bound-by, Import, Equation, Module}
+use Rattle.meaning.specs.Grammar.{State, Result, done, refused, read}
+use Rattle.meaning.specs.Normal.{Visible, Normal, empty}
+use Rattle.meaning.specs.Origins.{ResolvedSides, Item}
+use Rattle.meaning.specs.Checks.{Outcome, fine, stop, _>>=_, _>>_, unless, consistent, fits, room, total-room, Size, checked}
+use Rattle.meaning.specs.Clauses.{rename, bound-to, bind}
+use Rattle.meaning.specs.Own.{available-sorts}
+use Rattle.meaning.specs.Typing.{made-equation, typed-equations}
+use Rattle.meaning.specs.Evaluate.{Evaluated, named-by, names-right, acyclic, once-in, once-in-parameters, declared-once, normal-of, clause, clauses, expressions, united, imported, own-checks, own-equations, joined-own, evaluate}
+use Rattle.meaning.specs.Reached.{Placed, reached-among, reached, Ended, normalised, refused-at, end-or, total-of, in-turn, module-names, short-or-blank, normalise}
+use Rattle.meaning.specs.Listing.{lines-text}
+use Rattle.meaning.specs.Distinct.{Fresh, read-fresh}
+use Rattle.promises.specs.ListingLaws.{every-so}
+use Rattle.meaning.specs.OrderLaws.{Every, every-middle, Pairwise, same-self}
+use Rattle.meaning.specs.Answer.{Answer, refusal, of-ended, of-read, within, answer}
+
+-- ---- one module after the other
+
+-- the module called `told` is the first refused among xs, with this number and culprit, when those before it have been evaluated;
+-- `count` of xs are evaluated, it included
+pub record RefusedIn (declared : List Name) (xs : List Placed) (number count : ℕ) (told culprit : Name) : Type 0 where
+  pub accepted-before : List Placed
+  pub refused : Placed
+  pub not-evaluated : List Placed
+  pub split : xs ≡ accepted-before ++ (refused ∷ not-evaluated)
+  pub counted : count ≡ length accepted-before + 1
+  pub named : told ≡ refused .self .name
+  -- the modules evaluated before, and the refusal
+  pub env : List Evaluated
+  pub outcome : evaluate declared (refused .earlier) (refused .number) (total-of env) env (refused .self) ≡ stop number culprit
+
+abbrev pub CountedIn : List Name → ℕ → List Placed → Ended → Type 0
+CountedIn declared base xs (normalised count n) = count ≡ base + length xs
+CountedIn declared base xs (refused-at number count told culprit) =
+    (c : ℕ) × RefusedIn declared xs number c told culprit × (count ≡ base + c)
+
+module _ (declared : List Name) where
+  one-more : (base : ℕ) (x : Placed) (xs : List Placed) (e : Ended) → CountedIn declared (suc base) xs e → CountedIn declared base (x ∷ xs) e
+  one-more base x xs (normalised count n) h = omega arith
+  one-more base x xs (refused-at number count told culprit) h =
+      let r = h .1 in (
+        h .0 + 1,
+        record {
+          accepted-before = x ∷ r .accepted-before;
+          refused = r .refused;
+          not-evaluated = r .not-evaluated;
+          split = ap (x ∷_) (r .split);
+          counted = omega (arith, r .counted);
+          named = r .named;
+          env = r .env;
+          outcome = r .outcome;
+        },
+        omega (arith, h .2),
+      )
+
+  in-turn-counted : (env : List Evaluated) (last : Normal) (xs : List Placed) → CountedIn declared (length env) xs (in-turn declared env last xs)
+  unfolding in-turn end-or
+  in-turn-counted env last [] = omega arith
+  in-turn-counted env last (x ∷ xs) =
+      go (evaluate declared (x .earlier) (x .number) (total-of env) env (x .self)) refl
+      (λ n. in-turn-counted (record { name = x .self .name; names = named-by (x .self); normal = n } ∷ env) n xs)
+    where
+      after : Normal → Ended
+      after n = in-turn declared (record { name = x .self .name; names = named-by (x .self); normal = n } ∷ env) n xs
+
+      go : (o : Outcome Normal) → evaluate declared (x .earlier) (x .number) (total-of env) env (x .self) ≡ o
+          → ((n : Normal) → CountedIn declared (suc (length env)) xs (after n))
+          → CountedIn declared (length env) (x ∷ xs) (end-or (length env + 1) (x .self .name) after o)
+      go (fine n) e h = one-more (length env) x xs (after n) (h n)
+      go (stop k w) e h = (
+        1,
+        record {
+          accepted-before = [];
+          refused = x;
+          not-evaluated = xs;
+          split = refl;
+          counted = refl;
+          named = refl;
+          env = env;
+          outcome = e;
+        },
+        refl,
+      )
+
+-- ---- every answer
+
+-- which way a call went, and its count
+pub data Counted (memory-lent : ℕ) (asked : Name) (text : List ℕ) (r : Answer) : Type 0 where
+  memory-short : ltb memory-lent memory-size ≡ true → r .number ≡ lent-short → r .modules ≡ 0 → Counted memory-lent asked text r
+  not-read : (number at : ℕ) → read text ≡ refused number at → r .number ≡ number → r .modules ≡ 0 → Counted memory-lent asked text r
+  not-there : (ms : List Module) (s : State) → read text ≡ done ms s → member asked (module-names ms) ≡ false
+      → r .number ≡ asked-absent → r .modules ≡ 0 → Counted memory-lent asked text r
+  all-evaluated : (ms : List Module) (s : State) → read text ≡ done ms s → (r .number ≡ accepted) ⊎ (r .number ≡ lent-short)
+      → r .modules ≡ length (reached asked ms) → Counted memory-lent asked text r
+  up-to-refused : (ms : List Module) (s : State) → read text ≡ done ms s
+      → RefusedIn (module-names ms) (reached asked ms) (r .number) (r .modules) (r .evaluating) (r .culprit) → Counted memory-lent asked text r
+
+module _ (memory-lent output-lent : ℕ) (asked : Name) (text : List ℕ) where
+  -- a refusal has no listing, so what is lent does not change it
+  refusal-within : (k c : ℕ) (m w : Name) (at : ℕ) → within output-lent asked (refusal k c m w at) ≡ refusal k c m w at
+  unfolding within refusal lines-text each pick
+  refusal-within k c m w at = rw (leb·zero output-lent)
+
+  ended-counted : (ms : List Module) (s : State) → read text ≡ done ms s → (e : Ended) → CountedIn (module-names ms) 0 (reached asked ms) e
+      → Counted memory-lent asked text (within output-lent asked (of-ended asked e))
+  unfolding of-ended within refusal
+  ended-counted ms s q (normalised count n) h =
+      by-cases (Counted memory-lent asked text) _ _ _ (λ e. all-evaluated ms s q (inl refl) (omega arith))
+      (λ e. all-evaluated ms s q (inr refl) (omega arith))
+  ended-counted ms s q (refused-at number count told culprit) h =
+      subst (Counted memory-lent asked text) (sym (refusal-within number count told culprit 0))
+      (up-to-refused ms s q (subst (λ (c : ℕ). RefusedIn (module-names ms) (reached asked ms) number c told culprit) (omega (arith, h .2)) (h .1)))
+
+  read-counted : (r : Result (List Module)) → read text ≡ r → Counted memory-lent asked text (within output-lent asked (of-read asked r))
+  unfolding of-read normalise of-ended refusal
+  read-counted (done ms s) q =
+      by-cases (λ (e : Ended). Counted memory-lent asked text (within output-lent asked (of-ended asked e))) _ _ _
+      (λ e. ended-counted ms s q (in-turn (module-names ms) [] empty (reached asked ms)) (in-turn-counted (module-names ms) [] empty (reached asked ms)))
+      (λ e. subst (Counted memory-lent asked text) (sym (refusal-within asked-absent 0 asked (short-or-blank asked) 0)) (not-there ms s q e refl refl))
+  read-counted (refused number at) q = subst (Counted memory-lent asked text) (sym (refusal-within number 0 [] [] at)) (not-read number at q refl refl)
+
+  pub counted : Counted memory-lent asked text (answer memory-lent output-lent asked text)
+  unfolding answer refusal
+  counted =
+      by-cases (Counted memory-lent asked text) _ _ _ (λ e. memory-short e refl refl) (λ e. read-counted (read text) refl)
+
+-- ---- 1 to 6: evaluating refuses with 7 and more
+
+abbrev FromSeven : {A : Type 0} → Outcome A → Type 0
+FromSeven (fine a) = Unit {0}
+FromSeven (stop k w) = 7 ≤ k
+
+bound-from : {A B : Type 0} (o : Outcome A) (f : A → Outcome B) → FromSeven o → ((a : A) → FromSeven (f a)) → FromSeven (o >>= f)
+unfolding _>>=_
+bound-from (fine a) f h g = g a
+bound-from (stop k w) f h g = h
+
+then-from : {A B : Type 0} (o : Outcome A) (m : Outcome B) → FromSeven o → FromSeven m → FromSeven (o >> m)
+unfolding _>>_
+then-from (fine a) m h g = g
+then-from (stop k w) m h g = h
+
+unless-from : (k : ℕ) (o : Option Name) → 7 ≤ k → FromSeven (unless k o)
+unfolding unless
+unless-from k none h = tt
+unless-from k (some w) h = h
+
+fits-from : (b : Bool) → FromSeven (fits b)
+unfolding fits pick
+fits-from true = tt
+fits-from false = lit≤ tt
+
+consistent-from : (v : Visible) (own : List Item) → FromSeven (consistent v own)
+unfolding consistent
+consistent-from v own =
+    then-from _ _ (unless-from 15 _ (lit≤ tt))
+    (then-from _ _ (unless-from 10 _ (lit≤ tt)) (then-from _ _ (unless-from 10 _ (lit≤ tt)) (unless-from 11 _ (lit≤ tt))))
+
+checked-from : (n : Normal) → FromSeven (checked n)
+unfolding checked room
+checked-from n = then-from _ _ (consistent-from (n .visible) []) (then-from _ _ (fits-from _) tt)
+
+rename-from : (rs : List Pair) (n : Normal) → FromSeven (rename rs n)
+unfolding rename
+rename-from rs n = then-from _ _ (unless-from 14 _ (lit≤ tt)) (checked-from _)
+
+bind-from : (p : Name) (rs : List Pair) (n actual : Normal) → FromSeven (bind p rs n actual)
+unfolding bind bound-to
+bind-from p rs n actual =
+    by-cases FromSeven _ _ _
+    (λ e. then-from _ _ (unless-from 16 _ (lit≤ tt)) (then-from _ _ (unless-from 16 _ (lit≤ tt)) (checked-from _))) (λ e. lit≤ tt)
+
+clause-from : (env : List Evaluated) (c : Clause) (n : Normal) → FromSeven (clause env c n)
+unfolding clause
+clause-from env (renamed-by rs) n = rename-from rs n
+clause-from env (bound-by p rs m) n = bind-from p rs n (normal-of env m)
+
+clauses-from : (env : List Evaluated) (cs : List Clause) (n : Normal) → FromSeven (clauses env cs n)
+unfolding clauses
+clauses-from env [] n = tt
+clauses-from env (c ∷ cs) n = bound-from _ _ (clause-from env c n) (λ k. clauses-from env cs k)
+
+expressions-from : (env : List Evaluated) (is : List Import) → FromSeven (expressions env is)
+unfolding expressions
+expressions-from env [] = tt
+expressions-from env (i ∷ is) = bound-from _ _ (clauses-from env (i .clauses) _) (λ n. bound-from _ _ (expressions-from env is) (λ ns. tt))
+
+united-from : (n : Normal) (ks : List Normal) → FromSeven (united n ks)
+unfolding united
+united-from n [] = tt
+united-from n (k ∷ ks) = bound-from _ _ (checked-from _) (λ u. united-from u ks)
+
+names-right-from : (declared earlier ws : List Name) → FromSeven (names-right declared earlier ws)
+unfolding names-right
+names-right-from declared earlier [] = tt
+names-right-from declared earlier (w ∷ ws) =
+    by-cases FromSeven _ _ _ (λ e. lit≤ tt) (λ e. by-cases FromSeven _ _ _ (λ f. lit≤ tt) (λ f. names-right-from declared earlier ws))
+
+once-in-from : (s : Signature) → FromSeven (once-in s)
+unfolding once-in
+once-in-from s = then-from _ _ (unless-from 9 _ (lit≤ tt)) (unless-from 9 _ (lit≤ tt))
+
+once-in-parameters-from : (seen : List Name) (ps : List Parameter) → FromSeven (once-in-parameters seen ps)
+unfolding once-in-parameters
+once-in-parameters-from seen [] = tt
+once-in-parameters-from seen (p ∷ ps) =
+    by-cases FromSeven _ _ _ (λ e. lit≤ tt)
+    (λ e. then-from _ _ (once-in-from (p .signature)) (once-in-parameters-from (p .name ∷ seen) ps))
+
+own-checks-from : (m : Module) (seen : List Name) (v : Visible) → FromSeven (own-checks m seen v)
+unfolding own-checks available-sorts
+own-checks-from m seen v = then-from _ _ (consistent-from v _) (then-from _ _ available (unless-from 12 _ (lit≤ tt)))
+  where
+    available : FromSeven (available-sorts m seen)
+    available =
+        then-from _ _ (unless-from 13 _ (lit≤ tt))
+        (then-from _ _ (unless-from 13 _ (lit≤ tt)) (then-from _ _ (unless-from 13 _ (lit≤ tt)) (unless-from 13 _ (lit≤ tt))))
+
+made-from : (home at : ℕ) (tag : Name) (c : Option ResolvedSides) (ks : Option (List ResolvedSides)) → FromSeven (made-equation home at tag c ks)
+unfolding made-equation
+made-from home at tag none ks = lit≤ tt
+made-from home at tag (some c) none = lit≤ tt
+made-from home at tag (some c) (some ks) = tt
+
+typed-from : (known : List Item) (home at : ℕ) (es : List Equation) → FromSeven (typed-equations known home at es)
+unfolding typed-equations
+typed-from known home at [] = tt
+typed-from known home at (r ∷ rs) =
+    bound-from _ _ (made-from home at (r .tag) _ _) (λ x. bound-from _ _ (typed-from known home (at + 1) rs) (λ xs. tt))
+
+joined-own-from : (home : ℕ) (total : Size) (m : Module) (n : Normal) → FromSeven (joined-own home total m n)
+unfolding joined-own own-equations room total-room
+joined-own-from home total m n =
+    then-from _ _ (own-checks-from m _ _)
+    (bound-from _ _ (typed-from _ home 0 (m .equations)) (λ es. then-from _ _ (fits-from _) (then-from _ _ (fits-from _) tt)))
+
+evaluate-from : (declared earlier : List Name) (home : ℕ) (total : Size) (env : List Evaluated) (m : Module)
+    → FromSeven (evaluate declared earlier home total env m)
+unfolding evaluate acyclic declared-once imported
+evaluate-from declared earlier home total env m =
+    then-from _ _ (names-right-from declared earlier (named-by m))
+    (then-from _ _ (by-cases FromSeven _ _ _ (λ e. lit≤ tt) (λ e. tt))
+    (then-from _ _ (then-from _ _ (once-in-parameters-from [] (m .parameters)) (then-from _ _ (once-in-from (m .exports)) (once-in-from (m .hidden))))
+    (bound-from _ _ (bound-from _ _ (expressions-from env (m .imports)) (united-from empty)) (joined-own-from home total m))))
+
+-- a call that gives 1 to 6 has evaluated nothing
+pub none-evaluated : (memory-lent output-lent : ℕ) (asked : Name) (text : List ℕ) → let r = answer memory-lent output-lent asked text in
+    1 ≤ r .number → r .number ≤ 6 → r .modules ≡ 0
+none-evaluated memory-lent output-lent asked text low high =
+    go (answer memory-lent output-lent asked text) (counted memory-lent output-lent asked text) low high
+  where
+    go : (r : Answer) → Counted memory-lent asked text r → 1 ≤ r .number → r .number ≤ 6 → r .modules ≡ 0
+    go r (memory-short d e h) low high = h
+    go r (not-read number at q e h) low high = h
+    go r (not-there ms s q d e h) low high = h
+    go r (all-evaluated ms s q (inl e) h) low high = absurd (omega arith)
+    go r (all-evaluated ms s q (inr e) h) low high = absurd (omega arith)
+    go r (up-to-refused ms s q h) low high =
+        let from : 7 ≤ r .number = subst FromSeven (h .outcome) (evaluate-from _ _ _ _ _ (h .refused .self)) in absurd (omega arith)
+
+-- ---- the count by the name that is told: reached modules have distinct names, so one more than stand before the first of that name
+
+abbrev Apart : Placed → Placed → Type 0
+Apart x y = same (y .self .name) (x .self .name) ≡ false
+
+not-member : (v w : Name) (ws : List Name) → member v (w ∷ ws) ≡ false → (same v w ≡ false) × (member v ws ≡ false)
+unfolding member pick
+not-member v w ws e = go (same v w) refl e
+  where
+    go : (b : Bool) → same v w ≡ b → pick b true (member v ws) ≡ false → (same v w ≡ false) × (member v ws ≡ false)
+    go true q e = absurd (true≢false e)
+    go false q e = (q, e)
+
+-- none is called by a name taken, and no two by one name
+record Distinctly (taken : List Name) (xs : List Placed) : Type 0 where
+  untaken : Every (λ x. member (x .self .name) taken ≡ false) xs
+  apart : Pairwise Apart xs
+
+reached-distinctly : (asked : Name) (k : ℕ) (earlier taken : List Name) (ms : List Module) → Fresh taken ms
+    → Distinctly taken (reached-among asked k earlier ms)
+unfolding reached-among
+reached-distinctly asked k earlier taken [] h = record { untaken = tt; apart = tt }
+reached-distinctly asked k earlier taken (m ∷ ms) h =
+    go (reached-distinctly asked (k + 1) (m .name ∷ earlier) (m .name ∷ taken) ms (h .1))
+  where
+    go : Distinctly (m .name ∷ taken) (reached-among asked (k + 1) (m .name ∷ earlier) ms)
+        → Distinctly taken (reached-among asked k earlier (m ∷ ms))
+    go d =
+        let rest = reached-among asked (k + 1) (m .name ∷ earlier) ms in
+        let free : Placed → Type 0 = λ x. member (x .self .name) (m .name ∷ taken) ≡ false in
+        let later = every-so free (λ x. member (x .self .name) taken ≡ false) rest (λ x q. (not-member _ _ taken q) .1) (d .untaken) in
+        let other = every-so free (λ x. same (x .self .name) (m .name) ≡ false) rest (λ x q. (not-member _ _ taken q) .0) (d .untaken) in
+        by-cases (Distinctly taken) _ _ _ (λ e. record { untaken = (h .0, later); apart = (other, d .apart) })
+        (λ e. record { untaken = later; apart = d .apart })
+
+before-it : (x : Placed) (us vs : List Placed) → Pairwise Apart (us ++ (x ∷ vs))
+    → before (λ (y : Placed). same (x .self .name) (y .self .name)) (us ++ (x ∷ vs)) ≡ length us
+unfolding before pick
+before-it x [] vs h = rw (same-self (x .self .name))
+before-it x (u ∷ us) vs h = rw (every-middle (Apart u) us vs x (h .0)) (ap suc (before-it x us vs (h .1)))
+
+-- where a module is refused, the count is one more than the number of reached modules before the module that is told
+pub refused-count : (asked : Name) (text : List ℕ) (ms : List Module) (s : State) (number count : ℕ) (told culprit : Name)
+    → read text ≡ done ms s → RefusedIn (module-names ms) (reached asked ms) number count told culprit
+    → count ≡ before (λ (x : Placed). same told (x .self .name)) (reached asked ms) + 1
+unfolding reached
+refused-count asked text ms s number count told culprit q h =
+    let d = reached-distinctly asked 0 [] [] ms (read-fresh text ms s q) in
+    let e = before-it (h .refused) (h .accepted-before) (h .not-evaluated) (subst (Pairwise Apart) (h .split) (d .apart)) in
+    h .counted ∙ (rw (h .split, h .named, e))

@@ -1,0 +1,700 @@
+-- What is written tells what it is of: the lines of a listing from its bytes, and of these the items and the equations' lines.
+use mathlib.Core.Path.{_≡_, refl, sym, ap, ap₂, subst, _∙_}
+use mathlib.Core.Logic.{⊎-elim}
+use Prim.Native.String.{String}
+use Prim.Native.Nat.{ℕ, zero, suc, _+_, _/_, _%_, _^_, _≤_, _<_}
+use native.Mathlib.Omega.{arith}
+use mathlib.Core.Bool.{Bool, true, false, not, _&&_, _||_, true≢false, false≢true}
+use mathlib.Core.List.{List, [], _∷_, _++_, map, List·Memᴰ, List·Memᴰ·cases-cons, append-assoc, append-cancel-left, append-cancel-right}
+use lib.Dec.{eqb, ltb}
+use borrow.Author.Tests.{eqb-true, ltb-true, ltb-false, eqb-false, le-leb, lt-leb}
+use lib.ListN.{length, length-append}
+use Rattle.meaning.specs.Laws.{by-cases}
+use Rattle.meaning.specs.Lists.{pick, before, each, agree}
+use Rattle.meaning.specs.Names.{bytes, byte, Name, same}
+use Rattle.meaning.specs.Tokens.{is-in, is-word}
+use Rattle.meaning.specs.Written.{digits, decimal, numbered, sort-text, function-type-text, shape-text, shape-rank, argument-text, head-text, variable-text, term-text, term-texts, sides-text, conditions-text, equation-text, between-marks, type-text, section-text, declared-text, origin-text}
+use Rattle.meaning.specs.Origins.{Section, export-section, hidden-section, parameter-section, Declared, declared-sort, declared-function, declared-variable, Origin, same-section, same-declared, same-origin, Sort, visible-sort, hidden-sort, same-sort, same-type, Shape, sort-shape, function-shape, variable-shape, same-shape, Item, Head, visible-head, hidden-head, ResolvedTerm, var, app, ResolvedTerms, none-left, _and-then_, ResolvedSides, ResolvedEquation}
+use Rattle.meaning.specs.Listing.{Line, line-text, lines-text}
+use Rattle.meaning.specs.OrderLaws.{Every, same-self, same-equal}
+
+-- ---- a run and what follows it
+
+pub first-of : {A : Type 0} {x y : A} {xs ys : List A} → x ∷ xs ≡ y ∷ ys → x ≡ y
+first-of e = cc
+
+pub rest-of : {A : Type 0} {x y : A} {xs ys : List A} → x ∷ xs ≡ y ∷ ys → xs ≡ ys
+rest-of e = cc
+
+pub not-empty : {A X : Type 0} {x : A} {xs : List A} → [] ≡ x ∷ xs → X
+not-empty e = let z : _≡_ {A = ℕ} 0 1 = cc in absurd (omega arith)
+
+-- all of a run pass the test, and what follows does not begin with one that does
+abbrev pub Within : {A : Type 0} → (A → Bool) → List A → Type 0
+Within p xs = Every (λ x. p x ≡ true) xs
+
+abbrev pub StartsOutside : {A : Type 0} → (A → Bool) → List A → Type 0
+StartsOutside p [] = Unit {0}
+StartsOutside p (x ∷ xs) = p x ≡ false
+
+pub starts : {A X : Type 0} (p : A → Bool) (us : List A) (x : A) (xs : List A) → StartsOutside p us → us ≡ x ∷ xs → p x ≡ true → X
+starts p [] x xs o e q = not-empty e
+starts p (u ∷ us) x xs o e q = absurd (true≢false (sym q ∙ ap p (sym (first-of e)) ∙ o))
+
+-- the run can be told from what follows
+pub told-run : {A : Type 0} (p : A → Bool) (xs ys us vs : List A) → Within p xs → Within p ys → StartsOutside p us → StartsOutside p vs
+    → xs ++ us ≡ ys ++ vs → (xs ≡ ys) × (us ≡ vs)
+told-run p [] [] us vs h k o q e = (refl, e)
+told-run p [] (y ∷ ys) us vs h k o q e = starts p us y (ys ++ vs) o e (k .0)
+told-run p (x ∷ xs) [] us vs h k o q e = starts p vs x (xs ++ us) q (sym e) (h .0)
+told-run p (x ∷ xs) (y ∷ ys) us vs h k o q e =
+    let r = told-run p xs ys us vs (h .1) (k .1) o q (rest-of e) in (ap₂ _∷_ (first-of e) (r .0), r .1)
+
+-- ---- lines from bytes
+
+abbrev pub not-byte : ℕ → ℕ → Bool
+not-byte c b = not (eqb b c)
+
+-- a key has no `=`, a value no LF
+pub record Separable (l : Line) : Type 0 where
+  pub key : Within (not-byte (byte "=")) (l .key)
+  pub value : Within (not-byte (byte "\n")) (l .value)
+
+line-then : (l : Line) (s : List ℕ) → line-text l ++ s ≡ l .key ++ (byte "=" ∷ (l .value ++ (byte "\n" ∷ s)))
+unfolding line-text
+line-then l s = simp append-assoc
+
+no-line : {X : Type 0} (l : Line) (s : List ℕ) → [] ≡ line-text l ++ s → X
+no-line {X} l s e = go (l .key) (e ∙ line-then l s)
+  where
+    go : (u : List ℕ) → [] ≡ u ++ (byte "=" ∷ (l .value ++ (byte "\n" ∷ s))) → X
+    go [] e = not-empty e
+    go (b ∷ u) e = not-empty e
+
+-- the bytes tell the lines
+pub told-lines : (ls ls′ : List Line) → Every Separable ls → Every Separable ls′ → lines-text ls ≡ lines-text ls′ → ls ≡ ls′
+unfolding lines-text each
+told-lines [] [] h k e = refl
+told-lines [] (l ∷ ls) h k e = no-line l (lines-text ls) e
+told-lines (l ∷ ls) [] h k e = no-line l (lines-text ls) (sym e)
+told-lines (l ∷ ls) (l′ ∷ ls′) h k e =
+    let s = lines-text ls in
+    let s′ = lines-text ls′ in
+    let a =
+    told-run (not-byte (byte "=")) (l .key) (l′ .key) (byte "=" ∷ (l .value ++ (byte "\n" ∷ s))) (byte "=" ∷ (l′ .value ++ (byte "\n" ∷ s′)))
+    (h .0 .key) (k .0 .key) refl refl (sym (line-then l s) ∙ e ∙ line-then l′ s′) in
+    let b =
+    told-run (not-byte (byte "\n")) (l .value) (l′ .value) (byte "\n" ∷ s) (byte "\n" ∷ s′) (h .0 .value) (k .0 .value) refl refl
+    (rest-of (a .1)) in
+    let here : l ≡ l′ = λ i. record { key = a .0 i; value = b .0 i } in
+    ap₂ _∷_ here (told-lines ls ls′ (h .1) (k .1) (rest-of (b .1)))
+
+-- ---- names and types
+
+-- what stands in an identifier
+unfoldable pub in-name : ℕ → Bool
+in-name b = is-word b || eqb b (byte "-")
+
+-- and in a written sort, which is a name or `{k}`
+unfoldable pub in-sort : ℕ → Bool
+in-sort b = in-name b || is-in (bytes "{}") b
+
+abbrev pub NonEmpty : {A : Type 0} → List A → Type 0
+NonEmpty [] = ⊥
+NonEmpty (x ∷ xs) = Unit {0}
+
+-- a name as identifiers are
+pub record Plain (w : Name) : Type 0 where
+  pub letters : Within in-name w
+  pub some-letter : NonEmpty w
+
+pub record WrittenSort (w : List ℕ) : Type 0 where
+  pub letters : Within in-sort w
+  pub some-letter : NonEmpty w
+
+plain-letter : (b : ℕ) → in-name b ≡ true → in-sort b ≡ true
+unfolding in-sort
+plain-letter b e = rw e
+
+pub every-so : {A : Type 0} (P Q : A → Type 0) (xs : List A) → ((x : A) → P x → Q x) → Every P xs → Every Q xs
+every-so P Q [] f h = tt
+every-so P Q (x ∷ xs) f h = (f x (h .0), every-so P Q xs f (h .1))
+
+pub plain-sort : (w : Name) → Plain w → WrittenSort w
+plain-sort w h = record { letters = every-so _ _ w plain-letter (h .letters); some-letter = h .some-letter }
+
+pub every-append : {A : Type 0} (P : A → Type 0) (xs ys : List A) → Every P xs → Every P ys → Every P (xs ++ ys)
+every-append P [] ys h k = k
+every-append P (x ∷ xs) ys h k = (h .0, every-append P xs ys (h .1) k)
+
+-- inputs with `#` between them and `->` after: the first run of letters, and what follows it
+abbrev first-run : List (List ℕ) → List ℕ
+first-run [] = bytes "-"
+first-run (x ∷ []) = x ++ bytes "-"
+first-run (x ∷ y ∷ ys) = x
+
+abbrev after-run : List (List ℕ) → List ℕ → List ℕ
+after-run [] z = byte ">" ∷ z
+after-run (x ∷ []) z = byte ">" ∷ z
+after-run (x ∷ y ∷ ys) z = byte "#" ∷ (between-marks (bytes "#") (y ∷ ys) ++ (bytes "->" ++ z))
+
+split-run : (i : List (List ℕ)) (z : List ℕ) → between-marks (bytes "#") i ++ (bytes "->" ++ z) ≡ first-run i ++ after-run i z
+unfolding between-marks
+split-run [] z = refl
+split-run (x ∷ []) z = sym (append-assoc x (bytes "-") (byte ">" ∷ z))
+split-run (x ∷ y ∷ ys) z = append-assoc x (byte "#" ∷ between-marks (bytes "#") (y ∷ ys)) (bytes "->" ++ z)
+
+run-letters : (i : List (List ℕ)) → Every WrittenSort i → Within in-sort (first-run i)
+unfolding in-sort in-name is-word pick is-in
+run-letters [] h = (refl, tt)
+run-letters (x ∷ []) h = every-append _ x (bytes "-") (h .0 .letters) (refl, tt)
+run-letters (x ∷ y ∷ ys) h = h .0 .letters
+
+after-letters : (i : List (List ℕ)) (z : List ℕ) → StartsOutside in-sort (after-run i z)
+unfolding in-sort in-name is-word pick is-in
+after-letters [] z = refl
+after-letters (x ∷ []) z = refl
+after-letters (x ∷ y ∷ ys) z = refl
+
+other-mark : {X : Type 0} {z z′ : List ℕ} → byte ">" ∷ z ≡ byte "#" ∷ z′ → X
+other-mark e = absurd (eqb-false (byte ">") (byte "#") refl (first-of e))
+
+no-input : {X : Type 0} (x : List ℕ) → WrittenSort x → bytes "-" ≡ x ++ bytes "-" → X
+no-input x h e = absurd (subst NonEmpty (sym (append-cancel-right [] x (bytes "-") e)) (h .some-letter))
+
+told-runs : (i j : List (List ℕ)) (z z′ : List ℕ) → Every WrittenSort i → Every WrittenSort j
+    → between-marks (bytes "#") i ++ (bytes "->" ++ z) ≡ between-marks (bytes "#") j ++ (bytes "->" ++ z′)
+    → (first-run i ≡ first-run j) × (after-run i z ≡ after-run j z′)
+told-runs i j z z′ h k e =
+    told-run in-sort (first-run i) (first-run j) (after-run i z) (after-run j z′) (run-letters i h) (run-letters j k) (after-letters i z)
+    (after-letters j z′) (sym (split-run i z) ∙ e ∙ split-run j z′)
+
+pub told-inputs : (i j : List (List ℕ)) (z z′ : List ℕ) → Every WrittenSort i → Every WrittenSort j
+    → between-marks (bytes "#") i ++ (bytes "->" ++ z) ≡ between-marks (bytes "#") j ++ (bytes "->" ++ z′) → (i ≡ j) × (z ≡ z′)
+told-inputs [] [] z z′ h k e = (refl, rest-of (told-runs [] [] z z′ h k e .1))
+told-inputs [] (y ∷ []) z z′ h k e = no-input y (k .0) (told-runs [] (y ∷ []) z z′ h k e .0)
+told-inputs [] (y ∷ y′ ∷ ys) z z′ h k e = other-mark (told-runs [] (y ∷ y′ ∷ ys) z z′ h k e .1)
+told-inputs (x ∷ []) [] z z′ h k e = no-input x (h .0) (sym (told-runs (x ∷ []) [] z z′ h k e .0))
+told-inputs (x ∷ []) (y ∷ []) z z′ h k e =
+    let r = told-runs (x ∷ []) (y ∷ []) z z′ h k e in (ap (_∷ []) (append-cancel-right x y (bytes "-") (r .0)), rest-of (r .1))
+told-inputs (x ∷ []) (y ∷ y′ ∷ ys) z z′ h k e = other-mark (told-runs (x ∷ []) (y ∷ y′ ∷ ys) z z′ h k e .1)
+told-inputs (x ∷ x′ ∷ xs) [] z z′ h k e = other-mark (sym (told-runs (x ∷ x′ ∷ xs) [] z z′ h k e .1))
+told-inputs (x ∷ x′ ∷ xs) (y ∷ []) z z′ h k e = other-mark (sym (told-runs (x ∷ x′ ∷ xs) (y ∷ []) z z′ h k e .1))
+told-inputs (x ∷ x′ ∷ xs) (y ∷ y′ ∷ ys) z z′ h k e =
+    let r = told-runs (x ∷ x′ ∷ xs) (y ∷ y′ ∷ ys) z z′ h k e in
+    let more = told-inputs (x′ ∷ xs) (y′ ∷ ys) z z′ (h .1) (k .1) (rest-of (r .1)) in
+    (ap₂ _∷_ (r .0) (more .0), more .1)
+
+-- ---- types, with what follows them
+
+module _ (rest rest′ : List ℕ) (outside : StartsOutside in-sort rest) (outside′ : StartsOutside in-sort rest′) where
+  pub told-type : (i j : List (List ℕ)) (o o′ : List ℕ) → Every WrittenSort i → Every WrittenSort j → WrittenSort o → WrittenSort o′
+      → type-text i o ++ rest ≡ type-text j o′ ++ rest′ → (i ≡ j) × (o ≡ o′) × (rest ≡ rest′)
+  unfolding type-text
+  told-type i j o o′ h k l l′ e =
+      let a = told-inputs i j (o ++ rest) (o′ ++ rest′) h k (sym (regrouped i o rest) ∙ rest-of e ∙ regrouped j o′ rest′) in
+      let b = told-run in-sort o o′ rest rest′ (l .letters) (l′ .letters) outside outside′ (a .1) in
+      (a .0, b .0, b .1)
+    where
+      regrouped : (i : List (List ℕ)) (o rest : List ℕ)
+          → (between-marks (bytes "#") i ++ (bytes "->" ++ o)) ++ rest ≡ between-marks (bytes "#") i ++ (bytes "->" ++ (o ++ rest))
+      regrouped i o rest = append-assoc (between-marks (bytes "#") i) (bytes "->" ++ o) rest
+
+-- ---- origins
+
+abbrev pub PlainSection : Section → Type 0
+PlainSection export-section = Unit {0}
+PlainSection hidden-section = Unit {0}
+PlainSection (parameter-section p) = Plain p
+
+abbrev pub PlainDeclared : Declared → Type 0
+PlainDeclared (declared-sort a) = Plain a
+PlainDeclared (declared-function f i o) = Plain f × Every Plain i × Plain o
+PlainDeclared (declared-variable v s) = Plain v × Plain s
+
+-- all names of an origin are plain
+pub record PlainOrigin (o : Origin) : Type 0 where
+  pub home : Plain (o .home)
+  pub section : PlainSection (o .section)
+  pub declared : PlainDeclared (o .declared)
+
+-- texts that begin differently
+apart : {X : Type 0} {b c : ℕ} {s t : List ℕ} → eqb b c ≡ false → b ∷ s ≡ c ∷ t → X
+apart {b} {c} d e = absurd (eqb-false b c d (first-of e))
+
+told-section : (s t : Section) → section-text s ≡ section-text t → s ≡ t
+unfolding section-text
+told-section export-section export-section e = refl
+told-section export-section hidden-section e = apart refl e
+told-section export-section (parameter-section q) e = apart refl e
+told-section hidden-section export-section e = apart refl e
+told-section hidden-section hidden-section e = refl
+told-section hidden-section (parameter-section q) e = apart refl e
+told-section (parameter-section p) export-section e = apart refl e
+told-section (parameter-section p) hidden-section e = apart refl e
+told-section (parameter-section p) (parameter-section q) e = ap parameter-section (append-cancel-left (bytes "parameter ") p q e)
+
+plain-sorts : (ws : List Name) → Every Plain ws → Every WrittenSort ws
+plain-sorts ws h = every-so Plain WrittenSort ws plain-sort h
+
+-- a name and its declared type
+told-function : (f g : Name) (i j : List Name) (o p : Name) → Plain f → Plain g → Every Plain i → Every Plain j → Plain o → Plain p
+    → f ++ type-text i o ≡ g ++ type-text j p → (f ≡ g) × (i ≡ j) × (o ≡ p)
+unfolding type-text in-name is-word pick
+told-function f g i j o p hf hg hi hj ho hp e =
+    let a = told-run in-name f g (type-text i o) (type-text j p) (hf .letters) (hg .letters) refl refl e in
+    let b = told-type [] [] tt tt i j o p (plain-sorts i hi) (plain-sorts j hj) (plain-sort o ho) (plain-sort p hp) (ap (_++ []) (a .1)) in
+    (a .0, b .0, b .1)
+
+told-declared : (d d′ : Declared) → PlainDeclared d → PlainDeclared d′ → declared-text d ≡ declared-text d′ → d ≡ d′
+unfolding declared-text
+told-declared (declared-sort a) (declared-sort b) h k e = ap declared-sort (append-cancel-left (bytes "sort,") a b e)
+told-declared (declared-sort a) (declared-function g j p) h k e = apart refl e
+told-declared (declared-sort a) (declared-variable w t) h k e = apart refl e
+told-declared (declared-function f i o) (declared-sort b) h k e = apart refl e
+told-declared (declared-function f i o) (declared-function g j p) h k e =
+    let r = told-function f g i j o p (h .0) (k .0) (h .1) (k .1) (h .2) (k .2) (append-cancel-left (bytes "function,") _ _ e) in
+    λ x. declared-function (r .0 x) (r .1 x) (r .2 x)
+told-declared (declared-function f i o) (declared-variable w t) h k e = apart refl e
+told-declared (declared-variable v s) (declared-sort b) h k e = apart refl e
+told-declared (declared-variable v s) (declared-function g j p) h k e = apart refl e
+told-declared (declared-variable v s) (declared-variable w t) h k e =
+    let r = told-function v w [] [] s t (h .0) (k .0) tt tt (h .1) (k .1) (append-cancel-left (bytes "variable,") _ _ e) in
+    λ x. declared-variable (r .0 x) (r .2 x)
+
+in-section : ℕ → Bool
+in-section b = in-name b || eqb b (byte " ")
+
+abbrev pub all-pass : (ℕ → Bool) → List ℕ → Bool
+all-pass p [] = true
+all-pass p (b ∷ s) = p b && all-pass p s
+
+pub within-by : (p : ℕ → Bool) (s : List ℕ) → all-pass p s ≡ true → Within p s
+within-by p [] e = tt
+within-by p (b ∷ s) e = go (p b) refl e (within-by p s)
+  where
+    go : (q : Bool) → p b ≡ q → (q && all-pass p s) ≡ true → (all-pass p s ≡ true → Within p s) → Within p (b ∷ s)
+    go true h e i = (h, i e)
+    go false h e i = absurd (false≢true e)
+
+section-letters : (s : Section) → PlainSection s → Within in-section (section-text s)
+unfolding section-text in-section in-name is-word pick
+section-letters export-section h = within-by in-section (bytes "export") refl
+section-letters hidden-section h = within-by in-section (bytes "hidden") refl
+section-letters (parameter-section p) h =
+    every-append _ (bytes "parameter ") p (within-by in-section (bytes "parameter ") refl)
+    (every-so _ (λ b. in-section b ≡ true) p (λ b q. rw q) (h .letters))
+
+-- an origin can be told from how it is written
+pub told-origin : (o p : Origin) → PlainOrigin o → PlainOrigin p → origin-text o ≡ origin-text p → o ≡ p
+unfolding origin-text in-name is-word in-section pick
+told-origin o p h k e =
+    let a = told-run in-name (o .home) (p .home) _ _ (h .home .letters) (k .home .letters) refl refl (rest-of e) in
+    let b =
+    told-run in-section (section-text (o .section)) (section-text (p .section)) _ _ (section-letters (o .section) (h .section))
+    (section-letters (p .section) (k .section)) refl refl (rest-of (a .1)) in
+    let c = append-cancel-right (declared-text (o .declared)) (declared-text (p .declared)) (bytes "]") (rest-of (b .1)) in
+    let sections = told-section (o .section) (p .section) (b .0) in
+    let declareds = told-declared (o .declared) (p .declared) (h .declared) (k .declared) c in
+    λ x. record { home = a .0 x; section = sections x; declared = declareds x }
+
+-- ---- numbers
+
+told-last : (xs ys : List ℕ) (a b : ℕ) → xs ++ (a ∷ []) ≡ ys ++ (b ∷ []) → (xs ≡ ys) × (a ≡ b)
+told-last [] [] a b e = (refl, first-of e)
+told-last [] (y ∷ ys) a b e = absurd (omega (arith, simp length-append at (ap length e)))
+told-last (x ∷ xs) [] a b e = absurd (omega (arith, simp length-append at (ap length e)))
+told-last (x ∷ xs) (y ∷ ys) a b e = let r = told-last xs ys a b (rest-of e) in (ap₂ _∷_ (first-of e) (r .0), r .1)
+
+some-digit : (n k : ℕ) → 1 ≤ length (digits (suc n) k)
+unfolding digits
+some-digit n k =
+    by-cases (λ (s : List ℕ). 1 ≤ length s) _ _ _ (λ e. omega arith)
+    (λ e. simp length-append (omega arith))
+
+-- one digit against more
+more-digits : {X : Type 0} (n k l c : ℕ) → ltb l 10 ≡ false → l < 10 ^ suc n → c ∷ [] ≡ digits n (l / 10) ++ (k ∷ []) → X
+more-digits zero k l c h b e = absurd (omega (arith, ltb-false l 10 h))
+more-digits (suc n) k l c h b e =
+    absurd (omega (arith, some-digit n (l / 10), simp length-append at (ap length e)))
+
+told-digits : (n k l : ℕ) → k < 10 ^ n → l < 10 ^ n → digits n k ≡ digits n l → k ≡ l
+unfolding digits pick
+told-digits zero k l b c e = omega arith
+told-digits (suc n) k l b c e = go (ltb k 10) (ltb l 10) refl refl e (told-digits n (k / 10) (l / 10) (omega arith) (omega arith))
+  where
+    go : (p q : Bool) → ltb k 10 ≡ p → ltb l 10 ≡ q
+        → pick p ((48 + k) ∷ []) (digits n (k / 10) ++ ((48 + k % 10) ∷ [])) ≡ pick q ((48 + l) ∷ []) (digits n (l / 10) ++ ((48 + l % 10) ∷ []))
+        → (digits n (k / 10) ≡ digits n (l / 10) → k / 10 ≡ l / 10) → k ≡ l
+    go true true p q e i = omega (arith, first-of e)
+    go true false p q e i = more-digits n (48 + l % 10) l (48 + k) q c e
+    go false true p q e i = more-digits n (48 + k % 10) k (48 + l) p b (sym e)
+    go false false p q e i =
+        let r = told-last (digits n (k / 10)) (digits n (l / 10)) (48 + k % 10) (48 + l % 10) e in omega (arith, i (r .0), r .1)
+
+pub told-number : (k l : ℕ) → k < 10 ^ 10 → l < 10 ^ 10 → numbered k ≡ numbered l → k ≡ l
+unfolding numbered decimal
+told-number k l b c e = told-digits 10 k l b c (append-cancel-right (digits 10 k) (digits 10 l) (bytes "}") (rest-of e))
+
+digit-letter : (d : ℕ) → d < 10 → in-sort (48 + d) ≡ true
+unfolding in-sort in-name is-word pick
+digit-letter d h = rw (lt-leb 97 (48 + d) (omega arith), lt-leb 65 (48 + d) (omega arith), le-leb 48 (48 + d) (omega arith), le-leb (48 + d) 57 (omega arith))
+
+digits-letters : (n k : ℕ) → Within in-sort (digits n k)
+unfolding digits
+digits-letters zero k = tt
+digits-letters (suc n) k =
+    by-cases (Within in-sort) _ _ _ (λ e. (digit-letter k (ltb-true k 10 e), tt))
+    (λ e. every-append _ (digits n (k / 10)) _ (digits-letters n (k / 10)) (digit-letter (k % 10) (omega arith), tt))
+
+pub number-written : (k : ℕ) → WrittenSort (numbered k)
+unfolding numbered decimal in-sort in-name is-word pick is-in
+number-written k = record { letters = (refl, every-append _ (digits 10 k) (bytes "}") (digits-letters 10 k) (refl, tt)); some-letter = tt }
+
+-- ---- the tests for "one" decide equality
+
+pub both-true : (p q : Bool) → (p && q) ≡ true → (p ≡ true) × (q ≡ true)
+both-true true q e = (refl, e)
+both-true false q e = absurd (false≢true e)
+
+agree-same : (ws vs : List Name) → agree same ws vs ≡ true → ws ≡ vs
+unfolding agree pick
+agree-same [] [] e = refl
+agree-same [] (v ∷ vs) e = absurd (false≢true e)
+agree-same (w ∷ ws) [] e = absurd (false≢true e)
+agree-same (w ∷ ws) (v ∷ vs) e = go (same w v) refl e (agree-same ws vs)
+  where
+    go : (p : Bool) → same w v ≡ p → pick p (agree same ws vs) false ≡ true → (agree same ws vs ≡ true → ws ≡ vs) → w ∷ ws ≡ v ∷ vs
+    go true q e i = ap₂ _∷_ (same-equal w v q) (i e)
+    go false q e i = absurd (false≢true e)
+
+agree-self : {A : Type 0} (one : A → A → Bool) → ((a : A) → one a a ≡ true) → (xs : List A) → agree one xs xs ≡ true
+unfolding agree pick
+agree-self one h [] = refl
+agree-self one h (x ∷ xs) = rw (h x) (agree-self one h xs)
+
+section-equal : (s t : Section) → same-section s t ≡ true → s ≡ t
+unfolding same-section
+section-equal export-section export-section e = refl
+section-equal export-section hidden-section e = absurd (false≢true e)
+section-equal export-section (parameter-section q) e = absurd (false≢true e)
+section-equal hidden-section export-section e = absurd (false≢true e)
+section-equal hidden-section hidden-section e = refl
+section-equal hidden-section (parameter-section q) e = absurd (false≢true e)
+section-equal (parameter-section p) export-section e = absurd (false≢true e)
+section-equal (parameter-section p) hidden-section e = absurd (false≢true e)
+section-equal (parameter-section p) (parameter-section q) e = ap parameter-section (same-equal p q e)
+
+section-self : (s : Section) → same-section s s ≡ true
+unfolding same-section
+section-self export-section = refl
+section-self hidden-section = refl
+section-self (parameter-section p) = same-self p
+
+declared-equal : (d d′ : Declared) → same-declared d d′ ≡ true → d ≡ d′
+unfolding same-declared
+declared-equal (declared-sort a) (declared-sort b) e = ap declared-sort (same-equal a b e)
+declared-equal (declared-sort a) (declared-function g j p) e = absurd (false≢true e)
+declared-equal (declared-sort a) (declared-variable w t) e = absurd (false≢true e)
+declared-equal (declared-function f i o) (declared-sort b) e = absurd (false≢true e)
+declared-equal (declared-function f i o) (declared-function g j p) e =
+    let r = both-true _ _ e in
+    let t = both-true _ _ (r .0) in
+    λ x. declared-function (same-equal f g (t .0) x) (agree-same i j (t .1) x) (same-equal o p (r .1) x)
+declared-equal (declared-function f i o) (declared-variable w t) e = absurd (false≢true e)
+declared-equal (declared-variable v s) (declared-sort b) e = absurd (false≢true e)
+declared-equal (declared-variable v s) (declared-function g j p) e = absurd (false≢true e)
+declared-equal (declared-variable v s) (declared-variable w t) e =
+    let r = both-true _ _ e in λ x. declared-variable (same-equal v w (r .0) x) (same-equal s t (r .1) x)
+
+declared-self : (d : Declared) → same-declared d d ≡ true
+unfolding same-declared
+declared-self (declared-sort a) = same-self a
+declared-self (declared-function f i o) = rw (same-self f, agree-self same same-self i, same-self o)
+declared-self (declared-variable v s) = rw (same-self v, same-self s)
+
+pub origin-equal : (o p : Origin) → same-origin o p ≡ true → o ≡ p
+unfolding same-origin
+origin-equal o p e =
+    let r = both-true _ _ e in
+    let s = both-true _ _ (r .0) in
+    let homes = same-equal (o .home) (p .home) (s .0) in
+    let sections = section-equal (o .section) (p .section) (s .1) in
+    let declareds = declared-equal (o .declared) (p .declared) (r .1) in
+    λ x. record { home = homes x; section = sections x; declared = declareds x }
+
+pub origin-self : (o : Origin) → same-origin o o ≡ true
+unfolding same-origin
+origin-self o = rw (same-self (o .home), section-self (o .section), declared-self (o .declared))
+
+sort-self : (s : Sort) → same-sort s s ≡ true
+unfolding same-sort
+sort-self (visible-sort a) = same-self a
+sort-self (hidden-sort o) = origin-self o
+
+pub shape-self : (s : Shape) → same-shape s s ≡ true
+unfolding same-shape same-type
+shape-self sort-shape = refl
+shape-self (function-shape t) = rw (agree-self same-sort sort-self (t .inputs), sort-self (t .output))
+shape-self (variable-shape s) = sort-self s
+
+-- ---- sorts and types of items, where `hidden` are the hidden items in order
+
+abbrev pub origins-of : List Item → List Origin
+origins-of is = map (λ (i : Item). i .origin) is
+
+-- a visible sort's name is plain, a hidden sort is among the hidden items
+abbrev pub SortIn : List Item → Sort → Type 0
+SortIn hidden (visible-sort a) = Plain a
+SortIn hidden (hidden-sort o) = List·Memᴰ o (origins-of hidden)
+
+abbrev pub ShapeIn : List Item → Shape → Type 0
+ShapeIn hidden sort-shape = Unit {0}
+ShapeIn hidden (function-shape t) = Every (SortIn hidden) (t .inputs) × SortIn hidden (t .output)
+ShapeIn hidden (variable-shape s) = SortIn hidden s
+
+-- the place of an origin among those of the items tells the origin
+told-before : (is : List Item) (o p : Origin) → List·Memᴰ o (origins-of is) → List·Memᴰ p (origins-of is)
+    → before (λ (i : Item). same-origin o (i .origin)) is ≡ before (λ (i : Item). same-origin p (i .origin)) is → o ≡ p
+unfolding before pick
+told-before [] o p m k e = elim m [ ]
+told-before (i ∷ is) o p m k e = go (same-origin o (i .origin)) (same-origin p (i .origin)) refl refl e (told-before is o p)
+  where
+    later : (q : Origin) → same-origin q (i .origin) ≡ false → List·Memᴰ q (origins-of (i ∷ is)) → List·Memᴰ q (origins-of is)
+    later q f m =
+        ⊎-elim (λ (h : q ≡ i .origin). absurd (false≢true (sym f ∙ ap (λ (x : Origin). same-origin x (i .origin)) h ∙ origin-self (i .origin))))
+        (λ r. r) (List·Memᴰ·cases-cons m)
+
+    go : (a b : Bool) → same-origin o (i .origin) ≡ a → same-origin p (i .origin) ≡ b
+        → pick a 0 (suc (before (λ (j : Item). same-origin o (j .origin)) is)) ≡ pick b 0 (suc (before (λ (j : Item). same-origin p (j .origin)) is))
+        → (List·Memᴰ o (origins-of is) → List·Memᴰ p (origins-of is)
+        → before (λ (j : Item). same-origin o (j .origin)) is ≡ before (λ (j : Item). same-origin p (j .origin)) is → o ≡ p)
+        → o ≡ p
+    go true true a b e i′ = origin-equal o (i .origin) a ∙ sym (origin-equal p (i .origin) b)
+    go true false a b e i′ = absurd (omega arith)
+    go false true a b e i′ = absurd (omega arith)
+    go false false a b e i′ = i′ (later o a m) (later p b k) (omega arith)
+
+before-most : {A : Type 0} (p : A → Bool) (xs : List A) → before p xs ≤ length xs
+unfolding before
+before-most p [] = omega arith
+before-most p (x ∷ xs) = let r = before-most p xs in by-cases (λ (k : ℕ). k ≤ suc (length xs)) _ _ _ (λ e. omega arith) (λ e. omega arith)
+
+module _ (hidden : List Item) (few : length hidden + 1 < 10 ^ 10) where
+  sort-written : (s : Sort) → SortIn hidden s → WrittenSort (sort-text hidden s)
+  unfolding sort-text
+  sort-written (visible-sort a) h = plain-sort a h
+  sort-written (hidden-sort o) h = number-written _
+
+  -- a name does not begin with a brace
+  no-name : {X : Type 0} (a : Name) (k : ℕ) → Plain a → a ≡ numbered k → X
+  unfolding numbered in-name is-word pick
+  no-name a k h e = absurd (false≢true (subst (Within in-name) e (h .letters) .0))
+
+  told-sort : (s t : Sort) → SortIn hidden s → SortIn hidden t → sort-text hidden s ≡ sort-text hidden t → s ≡ t
+  unfolding sort-text
+  told-sort (visible-sort a) (visible-sort b) h k e = ap visible-sort e
+  told-sort (visible-sort a) (hidden-sort p) h k e = no-name a _ h e
+  told-sort (hidden-sort o) (visible-sort b) h k e = no-name b _ k (sym e)
+  told-sort (hidden-sort o) (hidden-sort p) h k e =
+      let a = before-most (λ (i : Item). same-origin o (i .origin)) hidden in
+      let b = before-most (λ (i : Item). same-origin p (i .origin)) hidden in
+      ap hidden-sort (told-before hidden o p h k (omega (arith, told-number _ _ (omega arith) (omega arith) e)))
+
+  sorts-written : (ss : List Sort) → Every (SortIn hidden) ss → Every WrittenSort (map (sort-text hidden) ss)
+  sorts-written [] h = tt
+  sorts-written (s ∷ ss) h = (sort-written s (h .0), sorts-written ss (h .1))
+
+  told-sorts : (ss ts : List Sort) → Every (SortIn hidden) ss → Every (SortIn hidden) ts
+      → map (sort-text hidden) ss ≡ map (sort-text hidden) ts → ss ≡ ts
+  told-sorts [] [] h k e = refl
+  told-sorts [] (t ∷ ts) h k e = not-empty e
+  told-sorts (s ∷ ss) [] h k e = not-empty (sym e)
+  told-sorts (s ∷ ss) (t ∷ ts) h k e = ap₂ _∷_ (told-sort s t (h .0) (k .0) (first-of e)) (told-sorts ss ts (h .1) (k .1) (rest-of e))
+
+  -- what follows an item's name tells its type
+  pub told-shape : (s t : Shape) → ShapeIn hidden s → ShapeIn hidden t → shape-rank s ≡ shape-rank t
+      → shape-text hidden s ≡ shape-text hidden t → s ≡ t
+  unfolding shape-rank shape-text function-type-text
+  told-shape sort-shape sort-shape h k r e = refl
+  told-shape sort-shape (function-shape u) h k r e = absurd (omega arith)
+  told-shape sort-shape (variable-shape v) h k r e = absurd (omega arith)
+  told-shape (function-shape t) sort-shape h k r e = absurd (omega arith)
+  told-shape (function-shape t) (function-shape u) h k r e =
+      let a =
+      told-type [] [] tt tt (map (sort-text hidden) (t .inputs)) (map (sort-text hidden) (u .inputs)) (sort-text hidden (t .output))
+      (sort-text hidden (u .output)) (sorts-written (t .inputs) (h .0)) (sorts-written (u .inputs) (k .0))
+      (sort-written (t .output) (h .1)) (sort-written (u .output) (k .1)) (ap (_++ []) e) in
+      let inputs = told-sorts (t .inputs) (u .inputs) (h .0) (k .0) (a .0) in
+      let output = told-sort (t .output) (u .output) (h .1) (k .1) (a .1) in
+      λ x. function-shape (record { inputs = inputs x; output = output x })
+  told-shape (function-shape t) (variable-shape v) h k r e = absurd (omega arith)
+  told-shape (variable-shape s) sort-shape h k r e = absurd (omega arith)
+  told-shape (variable-shape s) (function-shape u) h k r e = absurd (omega arith)
+  told-shape (variable-shape s) (variable-shape v) h k r e = ap variable-shape (told-sort s v h k (rest-of e))
+
+-- ---- written forms hold no line feed
+
+pub record OneLine (s : List ℕ) : Type 0 where
+  pub within : Within (not-byte (byte "\n")) s
+
+letter-in-line : (b : ℕ) → in-sort b ≡ true → not-byte (byte "\n") b ≡ true
+unfolding in-sort in-name is-word pick is-in
+letter-in-line b h = go (eqb b (byte "\n")) refl
+  where
+    go : (q : Bool) → eqb b (byte "\n") ≡ q → not-byte (byte "\n") b ≡ true
+    go true e = absurd (false≢true (rw (eqb-true b (byte "\n") e) at h))
+    go false e = rw e
+
+sort-in-line : (w : List ℕ) → WrittenSort w → OneLine w
+sort-in-line w h = record { within = every-so _ (λ b. not-byte (byte "\n") b ≡ true) w letter-in-line (h .letters) }
+
+pub plain-in-line : (w : Name) → Plain w → OneLine w
+plain-in-line w h = sort-in-line w (plain-sort w h)
+
+pub in-line-then : (s : List ℕ) {t : List ℕ} → OneLine s → OneLine t → OneLine (s ++ t)
+in-line-then s {t} h k = record { within = every-append _ s t (h .within) (k .within) }
+
+-- a quoted text, then another
+quoted : (q : String) {t : List ℕ} → all-pass (not-byte (byte "\n")) (bytes q) ≡ true → OneLine t → OneLine (bytes q ++ t)
+quoted q e k = in-line-then (bytes q) (record { within = within-by _ (bytes q) e }) k
+
+nothing : OneLine []
+nothing = record { within = tt }
+
+marks-in-line : (m : List ℕ) (xs : List (List ℕ)) → OneLine m → Every OneLine xs → OneLine (between-marks m xs)
+unfolding between-marks
+marks-in-line m [] h k = nothing
+marks-in-line m (x ∷ []) h k = k .0
+marks-in-line m (x ∷ y ∷ ys) h k = in-line-then x (k .0) (in-line-then m h (marks-in-line m (y ∷ ys) h (k .1)))
+
+mark-in-line : (b : ℕ) → not-byte (byte "\n") b ≡ true → OneLine (b ∷ [])
+mark-in-line b e = record { within = (e, tt) }
+
+type-in-line : (i : List (List ℕ)) (o : List ℕ) → Every OneLine i → OneLine o → OneLine (type-text i o)
+unfolding type-text
+type-in-line i o h k =
+    quoted ":" refl (in-line-then (between-marks (bytes "#") i) (marks-in-line (bytes "#") i (mark-in-line (byte "#") refl) h) (quoted "->" refl k))
+
+names-in-line : (ws : List Name) → Every Plain ws → Every OneLine ws
+names-in-line ws h = every-so Plain OneLine ws plain-in-line h
+
+section-in-line : (s : Section) → PlainSection s → OneLine (section-text s)
+unfolding section-text
+section-in-line export-section h = quoted "export" refl nothing
+section-in-line hidden-section h = quoted "hidden" refl nothing
+section-in-line (parameter-section p) h = quoted "parameter " refl (plain-in-line p h)
+
+declared-in-line : (d : Declared) → PlainDeclared d → OneLine (declared-text d)
+unfolding declared-text
+declared-in-line (declared-sort a) h = quoted "sort," refl (plain-in-line a h)
+declared-in-line (declared-function f i o) h =
+    quoted "function," refl
+    (in-line-then f (plain-in-line f (h .0)) (type-in-line i o (names-in-line i (h .1)) (plain-in-line o (h .2))))
+declared-in-line (declared-variable v s) h =
+    quoted "variable," refl (in-line-then v (plain-in-line v (h .0)) (type-in-line [] s tt (plain-in-line s (h .1))))
+
+pub origin-in-line : (o : Origin) → PlainOrigin o → OneLine (origin-text o)
+unfolding origin-text
+origin-in-line o h =
+    quoted "[" refl
+    (in-line-then (o .home) (plain-in-line (o .home) (h .home))
+    (quoted "," refl (in-line-then (section-text (o .section)) (section-in-line (o .section) (h .section))
+    (quoted "," refl (in-line-then (declared-text (o .declared)) (declared-in-line (o .declared) (h .declared)) (quoted "]" refl nothing))))))
+
+pub number-in-line : (k : ℕ) → OneLine (numbered k)
+number-in-line k = sort-in-line (numbered k) (number-written k)
+
+-- a sort is written in one line whether or not it is among the hidden items
+abbrev pub PlainSort : Sort → Type 0
+PlainSort (visible-sort a) = Plain a
+PlainSort (hidden-sort o) = Unit {0}
+
+sort-text-in-line : (hidden : List Item) (s : Sort) → PlainSort s → OneLine (sort-text hidden s)
+unfolding sort-text
+sort-text-in-line hidden (visible-sort a) h = plain-in-line a h
+sort-text-in-line hidden (hidden-sort o) h = number-in-line _
+
+in-plain : (hidden : List Item) (s : Sort) → SortIn hidden s → PlainSort s
+in-plain hidden (visible-sort a) h = h
+in-plain hidden (hidden-sort o) h = tt
+
+sort-texts-in-line : (hidden : List Item) (ss : List Sort) → Every (SortIn hidden) ss → Every OneLine (map (sort-text hidden) ss)
+sort-texts-in-line hidden [] h = tt
+sort-texts-in-line hidden (s ∷ ss) h = (sort-text-in-line hidden s (in-plain hidden s (h .0)), sort-texts-in-line hidden ss (h .1))
+
+pub shape-in-line : (hidden : List Item) (s : Shape) → ShapeIn hidden s → OneLine (shape-text hidden s)
+unfolding shape-text function-type-text
+shape-in-line hidden sort-shape h = nothing
+shape-in-line hidden (function-shape t) h =
+    type-in-line _ _ (sort-texts-in-line hidden (t .inputs) (h .0)) (sort-text-in-line hidden (t .output) (in-plain hidden (t .output) (h .1)))
+shape-in-line hidden (variable-shape s) h = quoted ":" refl (sort-text-in-line hidden s (in-plain hidden s h))
+
+-- an equation's tag, and the names of visible functions in it, are plain
+abbrev pub PlainHead : Head → Type 0
+PlainHead (visible-head f t) = Plain f
+PlainHead (hidden-head o t) = Unit {0}
+
+abbrev mutual
+  pub PlainTerm : ResolvedTerm → Type 0
+  PlainTerm (var o s) = Unit {0}
+  PlainTerm (app f xs) = PlainHead f × PlainTerms xs
+
+  pub PlainTerms : ResolvedTerms → Type 0
+  PlainTerms none-left = Unit {0}
+  PlainTerms (x and-then xs) = PlainTerm x × PlainTerms xs
+
+abbrev pub PlainSides : ResolvedSides → Type 0
+PlainSides e = PlainTerm (e .left) × PlainTerm (e .right)
+
+pub record PlainEquation (e : ResolvedEquation) : Type 0 where
+  pub tag : Plain (e .tag)
+  pub conclusion : PlainSides (e .conclusion)
+  pub conditions : Every PlainSides (e .conditions)
+
+module _ (hidden : List Item) where
+  head-in-line : (f : Head) → PlainHead f → OneLine (head-text hidden f)
+  unfolding head-text
+  head-in-line (visible-head f t) h = plain-in-line f h
+  head-in-line (hidden-head o t) h = number-in-line _
+
+  arguments-in-line : (xs : List (List ℕ)) → Every OneLine xs → OneLine (argument-text xs)
+  unfolding argument-text
+  arguments-in-line [] h = nothing
+  arguments-in-line (x ∷ xs) h =
+      quoted "(" refl
+      (in-line-then (between-marks (bytes ",") (x ∷ xs)) (marks-in-line (bytes ",") (x ∷ xs) (mark-in-line (byte ",") refl) h) (quoted ")" refl nothing))
+
+  mutual
+    unfolding term-text variable-text
+
+    term-in-line : (t : ResolvedTerm) → PlainTerm t → OneLine (term-text hidden t)
+    term-in-line (var o s) h = number-in-line _
+    term-in-line (app f xs) h = in-line-then (head-text hidden f) (head-in-line f (h .0)) (arguments-in-line (term-texts hidden xs) (terms-in-line xs (h .1)))
+
+    terms-in-line : (ts : ResolvedTerms) → PlainTerms ts → Every OneLine (term-texts hidden ts)
+    terms-in-line none-left h = tt
+    terms-in-line (x and-then xs) h = (term-in-line x (h .0), terms-in-line xs (h .1))
+
+  sides-in-line : (e : ResolvedSides) → PlainSides e → OneLine (sides-text hidden e)
+  unfolding sides-text
+  sides-in-line e h = in-line-then (term-text hidden (e .left)) (term-in-line (e .left) (h .0)) (quoted "=" refl (term-in-line (e .right) (h .1)))
+
+  all-sides-in-line : (es : List ResolvedSides) → Every PlainSides es → Every OneLine (map (sides-text hidden) es)
+  all-sides-in-line [] h = tt
+  all-sides-in-line (e ∷ es) h = (sides-in-line e (h .0), all-sides-in-line es (h .1))
+
+  conditions-in-line : (es : List ResolvedSides) → Every PlainSides es → OneLine (conditions-text hidden es)
+  unfolding conditions-text
+  conditions-in-line [] h = nothing
+  conditions-in-line (e ∷ es) h =
+      quoted " when " refl
+      (marks-in-line (bytes ",") (map (sides-text hidden) (e ∷ es)) (mark-in-line (byte ",") refl) (all-sides-in-line (e ∷ es) h))
+
+  pub equation-in-line : (e : ResolvedEquation) → PlainEquation e → OneLine (equation-text hidden e)
+  unfolding equation-text
+  equation-in-line e h =
+      quoted "[" refl
+      (in-line-then (e .tag) (plain-in-line (e .tag) (h .tag))
+      (quoted "] " refl
+      (in-line-then (sides-text hidden (e .conclusion)) (sides-in-line (e .conclusion) (h .conclusion)) (conditions-in-line (e .conditions) (h .conditions)))))

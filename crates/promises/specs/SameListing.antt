@@ -1,0 +1,282 @@
+-- A normal form's listing does not depend on the order in which its items and equations were found: `one-listing`.
+use mathlib.Core.Path.{_≡_, refl, sym, ap, _∙_}
+use mathlib.Core.Logic.{_⊎_, ⊎-elim}
+use Prim.Native.Nat.{ℕ, _-_}
+use mathlib.Core.Bool.{Bool, true, false, not, false≢true}
+use mathlib.Core.List.{List, [], _∷_, map, List·Memᴰ, List·Memᴰ·head, List·Memᴰ·tail, List·Memᴰ·cases-cons, List·Permᴰ·nil, List·Permᴰ·cons, List·Permᴰ·swap, List·Permᴰ·trans, Permᴰ·refl, Permᴰ·map}
+use lib.Dec.{eqb, leb}
+use borrow.Author.Tests.{eqb-true}
+use Rattle.meaning.specs.Lists.{pick, keep, any, place-in, sorted-onto, sorted}
+use Rattle.meaning.specs.Names.{Name, same, not-after, by-name, by-two}
+use Rattle.meaning.specs.Origins.{Shape, sort-shape, function-shape, variable-shape, is-sort, Item, ResolvedEquation}
+use Rattle.meaning.specs.Syntax.{_then_}
+use Rattle.meaning.specs.Normal.{Normal, sorts-among}
+use Rattle.meaning.specs.Written.{origin-text, shape-text, equation-text, equation-order, shape-rank, standing-text, visible-order, visible-in-order, hidden-order, hidden-in-order, in-order}
+use Rattle.meaning.specs.Listing.{line, lines-text, equation-line, hidden-lines, listing-lines}
+use Rattle.meaning.specs.Grammar.{name, equation, is}
+use Rattle.meaning.specs.Answer.{listing}
+use Rattle.meaning.specs.OrderLaws.{IsOrder, Levelled, Rearranged, NoTie, order-of, levelled-of, then-total, then-transitive, then-both, numbers-levelled, names-levelled, names-ordered, same-equal, not-after-antisymmetric, by-two-ordered, by-two-both, sorted-one}
+
+-- ---- the same items and equations, in whatever order
+
+pub record SameNormal (n n′ : Normal) : Type 0 where
+  pub parameters : Rearranged (n .visible .parameters) (n′ .visible .parameters)
+  pub items : Rearranged (n .visible .items) (n′ .visible .items)
+  pub hidden-items : Rearranged (n .hidden .items) (n′ .hidden .items)
+  pub equations : Rearranged (n .hidden .equations) (n′ .hidden .equations)
+
+-- ---- what is told of an item tells the item
+
+-- visible items that stand in one place, of one kind, name and written type, are one
+abbrev pub VisibleTold : List Item → Type 0
+VisibleTold is =
+    (a b : Item) → List·Memᴰ a is → List·Memᴰ b is → standing-text (a .standing) ≡ standing-text (b .standing)
+    → shape-rank (a .shape) ≡ shape-rank (b .shape) → a .name ≡ b .name → shape-text [] (a .shape) ≡ shape-text [] (b .shape) → a ≡ b
+
+-- hidden items of one kind, written origin and written type are one
+abbrev pub HiddenTold : List Item → List Item → Type 0
+HiddenTold sorts is =
+    (a b : Item) → List·Memᴰ a is → List·Memᴰ b is → shape-rank (a .shape) ≡ shape-rank (b .shape)
+    → origin-text (a .origin) ≡ origin-text (b .origin) → shape-text sorts (a .shape) ≡ shape-text sorts (b .shape) → a ≡ b
+
+-- equations of one module, position and written line are one
+abbrev pub EquationsTold : List Item → List ResolvedEquation → Type 0
+EquationsTold hidden es =
+    (a b : ResolvedEquation) → List·Memᴰ a es → List·Memᴰ b es → a .home ≡ b .home → a .position ≡ b .position
+    → equation-text hidden a ≡ equation-text hidden b → a ≡ b
+
+abbrev pub sorts-in-order : List Item → List Item
+sorts-in-order is = by-name (λ (i : Item). origin-text (i .origin)) (sorts-among is)
+
+-- parameters are their names; and of equations nothing is asked, since those that tie are written alike
+pub record ItemsTold (n : Normal) : Type 0 where
+  pub visible : VisibleTold (n .visible .items)
+  pub hidden : HiddenTold (sorts-in-order (n .hidden .items)) (n .hidden .items)
+
+-- ---- the visible part
+
+by-standing :
+    Levelled (λ (a b : Item). same (standing-text (a .standing)) (standing-text (b .standing)))
+    (λ (a b : Item). not-after (standing-text (a .standing)) (standing-text (b .standing)))
+by-standing = levelled-of names-levelled (λ (i : Item). standing-text (i .standing))
+
+by-rank :
+    Levelled (λ (a b : Item). eqb (shape-rank (a .shape)) (shape-rank (b .shape)))
+    (λ (a b : Item). leb (shape-rank (a .shape)) (shape-rank (b .shape)))
+by-rank = levelled-of numbers-levelled (λ (i : Item). shape-rank (i .shape))
+
+by-name-and-type : IsOrder (by-two (λ (i : Item). i .name) (λ (i : Item). shape-text [] (i .shape)))
+by-name-and-type = by-two-ordered (λ (i : Item). i .name) (λ (i : Item). shape-text [] (i .shape))
+
+visible-ordered : IsOrder visible-order
+unfolding visible-order
+visible-ordered = record {
+  total = λ a b e. then-total by-standing a b _ _ (λ f. then-total by-rank a b _ _ (by-name-and-type .total a b) f) e;
+  transitive = λ a b c e f.
+      then-transitive by-standing a b c _ _ _ (λ g h. then-transitive by-rank a b c _ _ _ (by-name-and-type .transitive a b c) g h) e f;
+}
+
+visible-no-tie : (is : List Item) → VisibleTold is → NoTie visible-order is
+unfolding visible-order
+visible-no-tie is told a b m k e f =
+    let r = then-both by-standing a b _ _ e f in
+    let s = then-both by-rank a b _ _ (r .1) (r .2) in
+    let t = by-two-both (λ (i : Item). i .name) (λ (i : Item). shape-text [] (i .shape)) a b (s .1) (s .2) in
+    told a b m k (same-equal _ _ (r .0)) (eqb-true _ _ (s .0)) (t .0) (t .1)
+
+pub visible-one : (n n′ : Normal) → SameNormal n n′ → ItemsTold n → visible-in-order (n .visible) ≡ visible-in-order (n′ .visible)
+unfolding visible-in-order
+visible-one n n′ s t =
+    rw (
+      sorted-one names-ordered (s .parameters) (λ v w m k e f. not-after-antisymmetric v w e f),
+      sorted-one visible-ordered (s .items) (visible-no-tie (n .visible .items) (t .visible)),
+    )
+
+-- ---- the hidden items
+
+module _ {A : Type 0} (p : A → Bool) where
+  keep-rearranged : {xs ys : List A} → Rearranged xs ys → Rearranged (keep p xs) (keep p ys)
+  unfolding keep pick
+  keep-rearranged List·Permᴰ·nil = List·Permᴰ·nil
+  keep-rearranged (List·Permᴰ·cons {a = a} {l₁ = xs} {l₂ = ys} e d) = rw (← e) (go (p a) (keep-rearranged d))
+    where
+      go : (b : Bool) → Rearranged (keep p xs) (keep p ys) → Rearranged (pick b (a ∷ keep p xs) (keep p xs)) (pick b (a ∷ keep p ys) (keep p ys))
+      go true i = List·Permᴰ·cons refl i
+      go false i = i
+  keep-rearranged (List·Permᴰ·swap {a = a} {b = b} {l = l} e f) = rw (← e, ← f) (go (p a) (p b))
+    where
+      go : (s t : Bool) → Rearranged (pick s (a ∷ pick t (b ∷ keep p l) (keep p l)) (pick t (b ∷ keep p l) (keep p l)))
+          (pick t (b ∷ pick s (a ∷ keep p l) (keep p l)) (pick s (a ∷ keep p l) (keep p l)))
+      go true true = List·Permᴰ·swap refl refl
+      go true false = Permᴰ·refl (a ∷ keep p l)
+      go false true = Permᴰ·refl (b ∷ keep p l)
+      go false false = Permᴰ·refl (keep p l)
+  keep-rearranged (List·Permᴰ·trans d d′) = List·Permᴰ·trans (keep-rearranged d) (keep-rearranged d′)
+
+  pub kept-member : {a : A} (xs : List A) → List·Memᴰ a (keep p xs) → List·Memᴰ a xs × (p a ≡ true)
+  unfolding keep pick
+  kept-member [] m = elim m [ ]
+  kept-member {a} (x ∷ xs) m = go (p x) refl m (kept-member xs)
+    where
+      go : (b : Bool) → p x ≡ b → List·Memᴰ a (pick b (x ∷ keep p xs) (keep p xs)) → (List·Memᴰ a (keep p xs) → List·Memᴰ a xs × (p a ≡ true))
+          → List·Memᴰ a (x ∷ xs) × (p a ≡ true)
+      go true e m i =
+          ⊎-elim (λ q. (List·Memᴰ·head q, ap p q ∙ e)) (λ k. let r = i k in (List·Memᴰ·tail (r .0), r .1)) (List·Memᴰ·cases-cons m)
+      go false e m i = let r = i m in (List·Memᴰ·tail (r .0), r .1)
+
+sort-only : (s : Shape) → is-sort s ≡ true → s ≡ sort-shape
+unfolding is-sort
+sort-only sort-shape e = refl
+sort-only (function-shape t) e = absurd (false≢true e)
+sort-only (variable-shape r) e = absurd (false≢true e)
+
+module _ (is is′ : List Item) (d : Rearranged is is′) (told : HiddenTold (sorts-in-order is) is) where
+  hidden-sorts-one : sorts-in-order is ≡ sorts-in-order is′
+  unfolding sorts-among
+  hidden-sorts-one =
+      sorted-one (order-of names-ordered (λ (i : Item). origin-text (i .origin))) (keep-rearranged (λ (i : Item). is-sort (i .shape)) d)
+      (λ a b m k e f.
+      let p = kept-member (λ (i : Item). is-sort (i .shape)) is m in
+      let q = kept-member (λ (i : Item). is-sort (i .shape)) is k in
+      let shapes = sort-only (a .shape) (p .1) ∙ sym (sort-only (b .shape) (q .1)) in
+      told a b (p .0) (q .0) (ap shape-rank shapes) (not-after-antisymmetric _ _ e f) (ap (shape-text (sorts-in-order is)) shapes))
+
+hidden-ordered : (sorts : List Item) → IsOrder (hidden-order sorts)
+unfolding hidden-order
+hidden-ordered sorts = record {
+  total = λ a b e. then-total by-rank a b _ _ (by-origin-and-type .total a b) e;
+  transitive = λ a b c e f. then-transitive by-rank a b c _ _ _ (by-origin-and-type .transitive a b c) e f;
+}
+  where
+    by-origin-and-type : IsOrder (by-two (λ (i : Item). origin-text (i .origin)) (λ (i : Item). shape-text sorts (i .shape)))
+    by-origin-and-type = by-two-ordered (λ (i : Item). origin-text (i .origin)) (λ (i : Item). shape-text sorts (i .shape))
+
+hidden-no-tie : (sorts is : List Item) → HiddenTold sorts is → NoTie (hidden-order sorts) is
+unfolding hidden-order
+hidden-no-tie sorts is told a b m k e f =
+    let r = then-both by-rank a b _ _ e f in
+    let t = by-two-both (λ (i : Item). origin-text (i .origin)) (λ (i : Item). shape-text sorts (i .shape)) a b (r .1) (r .2) in
+    told a b m k (eqb-true _ _ (r .0)) (t .0) (t .1)
+
+abbrev pub items-in-order : List Item → List Item
+items-in-order is = sorted (hidden-order (sorts-in-order is)) is
+
+hidden-items-one : (is is′ : List Item) → Rearranged is is′ → HiddenTold (sorts-in-order is) is → items-in-order is ≡ items-in-order is′
+hidden-items-one is is′ d told =
+    sorted-one (hidden-ordered (sorts-in-order is)) d (hidden-no-tie (sorts-in-order is) is told)
+    ∙ ap (λ sorts. sorted (hidden-order sorts) is′) (hidden-sorts-one is is′ d told)
+
+-- ---- equations are sorted by module, position and written line
+
+record Place : Type 0 where
+  home : ℕ
+  position : ℕ
+  text : List ℕ
+
+place-order : Place → Place → Bool
+place-order a b =
+    let by-position = pick (eqb (a .position) (b .position)) (not-after (a .text) (b .text)) (leb (a .position) (b .position)) in
+    pick (eqb (a .home) (b .home)) by-position (leb (a .home) (b .home))
+
+by-home : Levelled (λ (a b : Place). eqb (a .home) (b .home)) (λ (a b : Place). leb (a .home) (b .home))
+by-home = levelled-of numbers-levelled (λ (a : Place). a .home)
+
+by-position : Levelled (λ (a b : Place). eqb (a .position) (b .position)) (λ (a b : Place). leb (a .position) (b .position))
+by-position = levelled-of numbers-levelled (λ (a : Place). a .position)
+
+place-ordered : IsOrder place-order
+unfolding place-order
+place-ordered = record {
+  total = λ a b e. then-total by-home a b _ _ (λ f. then-total by-position a b _ _ (by-text .total a b) f) e;
+  transitive = λ a b c e f.
+      then-transitive by-home a b c _ _ _ (λ g h. then-transitive by-position a b c _ _ _ (by-text .transitive a b c) g h) e f;
+}
+  where
+    by-text : IsOrder (λ (a b : Place). not-after (a .text) (b .text))
+    by-text = order-of names-ordered (λ (a : Place). a .text)
+
+-- places in order both ways round are equal
+place-told : (a b : Place) → place-order a b ≡ true → place-order b a ≡ true → a ≡ b
+unfolding place-order
+place-told a b e f =
+    let r = then-both by-home a b _ _ e f in
+    let s = then-both by-position a b _ _ (r .1) (r .2) in
+    let homes = eqb-true (a .home) (b .home) (r .0) in
+    let positions = eqb-true (a .position) (b .position) (s .0) in
+    let texts = not-after-antisymmetric (a .text) (b .text) (s .1) (s .2) in
+    λ i. record { home = homes i; position = positions i; text = texts i }
+
+-- where an order looks at what is made of the items, sorting them sorts what is made of them
+module _ {A B : Type 0} (key : A → B) (le : A → A → Bool) (le′ : B → B → Bool) (agree : (a b : A) → le a b ≡ le′ (key a) (key b)) where
+  placed-map : (a : A) (xs : List A) → map key (place-in le a xs) ≡ place-in le′ (key a) (map key xs)
+  unfolding place-in pick
+  placed-map a [] = refl
+  placed-map a (x ∷ xs) = rw (← agree x a) (go (le x a) (placed-map a xs))
+    where
+      go : (b : Bool) → map key (place-in le a xs) ≡ place-in le′ (key a) (map key xs)
+          → map key (pick b (x ∷ place-in le a xs) (a ∷ x ∷ xs))
+          ≡ pick b (key x ∷ place-in le′ (key a) (map key xs)) (key a ∷ key x ∷ map key xs)
+      go true i = ap (key x ∷_) i
+      go false i = refl
+
+  sorted-map : (acc xs : List A) → map key (sorted-onto le acc xs) ≡ sorted-onto le′ (map key acc) (map key xs)
+  unfolding sorted-onto
+  sorted-map acc [] = refl
+  sorted-map acc (x ∷ xs) = sorted-map (place-in le x acc) xs ∙ ap (λ ys. sorted-onto le′ ys (map key xs)) (placed-map x acc)
+
+module _ (hidden : List Item) where
+  place-of : ResolvedEquation → Place
+  place-of e = record { home = e .home; position = e .position; text = equation-text hidden e }
+
+  abbrev ordered-equations : List ResolvedEquation → List ResolvedEquation
+  ordered-equations es = sorted (equation-order hidden) es
+
+  lines-of-places : (es : List ResolvedEquation)
+      → map (equation-line hidden) es ≡ map (λ (p : Place). line "equation" (p .text)) (map place-of es)
+  unfolding place-of equation-line
+  lines-of-places [] = refl
+  lines-of-places (e ∷ es) = ap (equation-line hidden e ∷_) (lines-of-places es)
+
+  ordered-places : (es : List ResolvedEquation) → map place-of (ordered-equations es) ≡ sorted place-order (map place-of es)
+  unfolding equation-order place-order place-of
+  ordered-places es = sorted-map place-of (equation-order hidden) place-order (λ a b. refl) [] es
+
+  equation-lines-one : {es es′ : List ResolvedEquation} → Rearranged es es′
+      → map (equation-line hidden) (ordered-equations es) ≡ map (equation-line hidden) (ordered-equations es′)
+  equation-lines-one {es} {es′} d =
+      lines-of-places (ordered-equations es)
+      ∙ ap (map (λ (p : Place). line "equation" (p .text)))
+      (ordered-places es ∙ sorted-one place-ordered (Permᴰ·map place-of d) (λ a b m k e f. place-told a b e f) ∙ sym (ordered-places es′))
+      ∙ sym (lines-of-places (ordered-equations es′))
+
+  equations-one : {es es′ : List ResolvedEquation} → Rearranged es es′ → EquationsTold hidden es
+      → ordered-equations es ≡ ordered-equations es′
+  unfolding equation-order place-order place-of
+  equations-one d told =
+      sorted-one (order-of place-ordered place-of) d (λ a b m k e f.
+      let p = place-told (place-of a) (place-of b) e f in
+      told a b m k (ap (λ (x : Place). x .home) p) (ap (λ (x : Place). x .position) p) (ap (λ (x : Place). x .text) p))
+
+-- ---- one listing
+
+module _ (n n′ : Normal) (s : SameNormal n n′) (t : ItemsTold n) where
+  -- two normal forms with the same items and equations, in any order, have the same listing
+  pub one-listing : (asked : Name) → lines-text (listing-lines asked (in-order n)) ≡ lines-text (listing-lines asked (in-order n′))
+  unfolding listing-lines in-order hidden-lines hidden-in-order
+  one-listing asked =
+      rw (
+        visible-one n n′ s t,
+        equation-lines-one (items-in-order (n .hidden .items)) (s .equations),
+        hidden-items-one (n .hidden .items) (n′ .hidden .items) (s .hidden-items) (t .hidden),
+      )
+
+  -- and are one normal form in order, if no two different equations of one module and position are written alike: a written equation does
+  -- not show the types of its functions
+  pub one-order : EquationsTold (items-in-order (n .hidden .items)) (n .hidden .equations) → in-order n ≡ in-order n′
+  unfolding in-order hidden-in-order
+  one-order told =
+      rw (
+        visible-one n n′ s t,
+        equations-one (items-in-order (n .hidden .items)) (s .equations) told,
+        hidden-items-one (n .hidden .items) (n′ .hidden .items) (s .hidden-items) (t .hidden),
+      )

@@ -1,0 +1,404 @@
+-- What the checks leave: no two different items of an accepted normal form tie in its order. First what that is, then that unions and
+-- translations keep it.
+use mathlib.Core.Path.{_≡_, refl, sym, ap, subst, _∙_}
+use mathlib.Core.Logic.{_⊎_, inl, inr, ⊎-elim}
+use mathlib.Core.Option.{Option, none, some}
+use Prim.Native.Nat.{ℕ, suc, _+_, _-_, _^_, _≤_, _<_}
+use native.Mathlib.Omega.{arith}
+use mathlib.Core.Bool.{Bool, true, false, _&&_, false≢true}
+use mathlib.Core.List.{List, [], _∷_, _++_, map, List·Memᴰ, List·Memᴰ·head, List·Memᴰ·tail, List·Memᴰ·cases-cons, Memᴰ·append-left, Memᴰ·append-right}
+use lib.Dec.{lit<}
+use lib.ListN.{length}
+use borrow.Author.Tests.{not-false}
+use Rattle.meaning.specs.Laws.{by-cases}
+use Rattle.meaning.specs.Lists.{pick, keep, any, union}
+use Rattle.meaning.specs.Names.{Name, same, not-after, by-name}
+use Rattle.meaning.specs.Origins.{Section, export-section, parameter-section, hidden-section, Origin, same-origin, Sort, visible-sort, hidden-sort, Shape, sort-shape, function-shape, variable-shape, is-sort, is-function, FunctionType, same-section, same-shape, one-item, one-equation, Head, visible-head, hidden-head, ResolvedTerm, var, app, ResolvedTerms, none-left, _and-then_, ResolvedSides, Item, ResolvedEquation}
+use Rattle.meaning.specs.Checks.{Outcome, fine, stop, _>>=_, _>>_, Check, unless, least-at-odds, other-origin, sorts-clash, functions-clash, consistent}
+use Rattle.meaning.specs.Syntax.{_then_}
+use Rattle.meaning.specs.Normal.{move-sort, move-type, move-shape, move-name, move-item, move-hidden-item, move-head, move-term, move-terms, move-sides, move-equation, move-visible, move-hidden, move, unite, unite-visible, unite-hidden, Visible, Normal, sorts-among}
+use Rattle.meaning.specs.Written.{origin-text, shape-rank}
+use Rattle.promises.specs.ListingLaws.{Plain, told-origin, origins-of, SortIn, ShapeIn, told-shape, both-true, origin-equal, shape-self, every-so, every-append, PlainHead, PlainTerm, PlainTerms, PlainSides, PlainEquation}
+use Rattle.meaning.specs.Grammar.{after, name, is}
+use Rattle.meaning.specs.Answer.{listing}
+use Rattle.meaning.specs.OrderLaws.{Pairwise, sorted-rearranged, sorted-length, rearranged-member, none-at-odds, Every, same-self}
+use Rattle.promises.specs.SameListing.{HiddenTold, ItemsTold, VisibleTold, kept-member, sorts-in-order}
+use Rattle.promises.specs.Told.{Few, Sound, SoundHidden, SoundVisible, StandsIn, declared-name, item-of-origin, origin-of-item, shape-wider}
+
+-- ---- what is accepted is told: no two of its different items tie
+
+pub every-member : {A : Type 0} (P : A → Type 0) (xs : List A) → Every P xs → (x : A) → List·Memᴰ x xs → P x
+every-member P [] h x m = elim m [ ]
+every-member P (y ∷ ys) h x m = ⊎-elim (λ e. subst P (sym e) (h .0)) (λ k. every-member P ys (h .1) x k) (List·Memᴰ·cases-cons m)
+
+pairwise-members : {A : Type 0} (R : A → A → Type 0) (xs : List A) (a b : A) → Pairwise R xs → List·Memᴰ a xs → List·Memᴰ b xs
+    → (a ≡ b) ⊎ (R a b ⊎ R b a)
+pairwise-members R [] a b h m k = elim m [ ]
+pairwise-members {A} R (x ∷ xs) a b h m k =
+    ⊎-elim (λ (e : a ≡ x). ⊎-elim (λ (f : b ≡ x). inl (e ∙ sym f)) (λ q. inr (inl (rw e (every-member (R x) xs (h .0) b q)))) (List·Memᴰ·cases-cons k))
+    (λ p. ⊎-elim (λ (f : b ≡ x). inr (inr (rw f (every-member (R x) xs (h .0) a p)))) (λ q. pairwise-members R xs a b (h .1) p q) (List·Memᴰ·cases-cons k))
+    (List·Memᴰ·cases-cons m)
+
+pub unless-fine : (k : ℕ) (o : Option Name) → unless k o ≡ fine tt → o ≡ none
+unfolding unless
+unless-fine k none e = refl
+unless-fine k (some w) e = let z : _≡_ {A = ℕ} 0 1 = cc in absurd (omega arith)
+
+pub then-fine : (o p : Check) → (o >> p) ≡ fine tt → (o ≡ fine tt) × (p ≡ fine tt)
+unfolding _>>_
+then-fine (fine tt) p e = (refl, e)
+then-fine (stop k w) p e = let z : _≡_ {A = ℕ} 0 1 = cc in absurd (omega arith)
+
+-- no two items are at odds, in the one order or the other
+compatible : (wrong : Item → Item → Bool) (is : List Item) → least-at-odds (λ (i : Item). i .name) wrong is ≡ none → (a b : Item)
+    → List·Memᴰ a is → List·Memᴰ b is → (a ≡ b) ⊎ ((wrong a b ≡ false) ⊎ (wrong b a ≡ false))
+unfolding least-at-odds
+compatible wrong is e a b m k =
+    let d = sorted-rearranged (λ (x y : Item). not-after (x .name) (y .name)) is in
+    pairwise-members (λ x y. wrong x y ≡ false) (by-name (λ (i : Item). i .name) is) a b
+    (none-at-odds (λ (i : Item). i .name) wrong (by-name (λ (i : Item). i .name) is) e) (rearranged-member d m) (rearranged-member d k)
+
+sorts-agree : (a b : Item) → a .shape ≡ sort-shape → b .shape ≡ sort-shape → a .name ≡ b .name → sorts-clash a b ≡ false → a .origin ≡ b .origin
+unfolding sorts-clash other-origin is-sort
+sorts-agree a b p q n e = origin-equal (a .origin) (b .origin) (not-false _ (rw (p, q, n, same-self (b .name)) at e))
+
+functions-agree : (a b : Item) (t : FunctionType) → a .shape ≡ function-shape t → b .shape ≡ function-shape t → a .name ≡ b .name
+    → functions-clash a b ≡ false → a .origin ≡ b .origin
+unfolding functions-clash other-origin is-function
+functions-agree a b t p q n e = origin-equal (a .origin) (b .origin) (not-false _ (rw (p, q, n, same-self (b .name), shape-self (function-shape t)) at e))
+
+no-variable : (s : Shape) (r : Sort) → shape-rank s ≤ 1 → s ≡ variable-shape r → ⊥
+unfolding shape-rank
+no-variable s r h e = omega (arith, rw e at h)
+
+-- after 10, visible items of one kind, name and written type are one
+visible-told : (v : Visible) (own : List Item) → consistent v own ≡ fine tt → Every SoundVisible (v .items) → VisibleTold (v .items)
+unfolding consistent
+visible-told v own c sound a b m k standing rank name text =
+    let after-15 = then-fine _ _ c .1 in
+    let sorts = unless-fine _ _ (then-fine _ _ after-15 .0) in
+    let functions = unless-fine _ _ (then-fine _ _ (then-fine _ _ after-15 .1) .0) in
+    let h = every-member SoundVisible (v .items) sound a m in
+    let g = every-member SoundVisible (v .items) sound b k in
+    let shapes = told-shape [] (lit< tt) (a .shape) (b .shape) (h .shape) (g .shape) rank text in
+    go (a .shape) refl h g shapes (compatible sorts-clash (v .items ++ own) sorts a b (Memᴰ·append-left own m) (Memᴰ·append-left own k))
+    (compatible functions-clash (v .items ++ own) functions a b (Memᴰ·append-left own m) (Memᴰ·append-left own k))
+  where
+    one : a .shape ≡ b .shape → SoundVisible a → SoundVisible b → a .origin ≡ b .origin → a ≡ b
+    one shapes h g origins =
+        let standings = h .standing ∙ ap (λ (p : Origin). p .section) origins ∙ sym (g .standing) in
+        λ x. record { standing = standings x; name = name x; shape = shapes x; origin = origins x }
+
+    go : (s : Shape) → a .shape ≡ s → SoundVisible a → SoundVisible b → a .shape ≡ b .shape
+        → (a ≡ b) ⊎ ((sorts-clash a b ≡ false) ⊎ (sorts-clash b a ≡ false))
+        → (a ≡ b) ⊎ ((functions-clash a b ≡ false) ⊎ (functions-clash b a ≡ false)) → a ≡ b
+    go sort-shape e h g shapes p q =
+        let f = sym shapes ∙ e in
+        ⊎-elim (λ r. r) (⊎-elim (λ r. one shapes h g (sorts-agree a b e f name r)) (λ r. one shapes h g (sym (sorts-agree b a f e (sym name) r)))) p
+    go (function-shape t) e h g shapes p q =
+        let f = sym shapes ∙ e in
+        ⊎-elim (λ r. r)
+        (⊎-elim (λ r. one shapes h g (functions-agree a b t e f name r)) (λ r. one shapes h g (sym (functions-agree b a t f e (sym name) r)))) q
+    go (variable-shape s) e h g shapes p q = absurd (no-variable (a .shape) s (h .kind) e)
+
+keep-fewer : {A : Type 0} (p : A → Bool) (xs : List A) → length (keep p xs) ≤ length xs
+unfolding keep
+keep-fewer p [] = omega arith
+keep-fewer {A} p (x ∷ xs) =
+    let r = keep-fewer p xs in by-cases (λ (ys : List A). length ys ≤ suc (length xs)) _ _ _ (λ e. omega arith) (λ e. omega arith)
+
+hidden-told : (is : List Item) → length is + 1 < 10 ^ 10 → Every (SoundHidden is) is → HiddenTold (sorts-in-order is) is
+unfolding sorts-among
+hidden-told is few sound a b m k rank origin text =
+    let h = every-member (SoundHidden is) is sound a m in
+    let g = every-member (SoundHidden is) is sound b k in
+    let origins = told-origin (a .origin) (b .origin) (h .origin) (g .origin) origin in
+    let shapes =
+    told-shape (sorts-in-order is) fewer (a .shape) (b .shape) (shape-wider (sorts-among is) (sorts-in-order is) placed (a .shape) (h .shape))
+    (shape-wider (sorts-among is) (sorts-in-order is) placed (b .shape) (g .shape)) rank text in
+    let names = h .name ∙ ap (λ (o : Origin). declared-name (o .declared)) origins ∙ sym (g .name) in
+    let standings = h .standing ∙ sym (g .standing) in
+    λ x. record { standing = standings x; name = names x; shape = shapes x; origin = origins x }
+  where
+    by-origin : Item → Item → Bool
+    by-origin i j = not-after (origin-text (i .origin)) (origin-text (j .origin))
+
+    placed : (o : Origin) → List·Memᴰ o (origins-of (sorts-among is)) → List·Memᴰ o (origins-of (sorts-in-order is))
+    placed o q =
+        let r = item-of-origin (sorts-among is) q in origin-of-item (rearranged-member (sorted-rearranged by-origin (sorts-among is)) (r .1)) o (r .2)
+
+    fewer : length (sorts-in-order is) + 1 < 10 ^ 10
+    fewer = omega (arith, sorted-length by-origin (sorts-among is), keep-fewer (λ (i : Item). is-sort (i .shape)) is)
+
+-- a sound normal form that passes 15, 10 and 11 has one listing
+pub sound-told : (n : Normal) (own : List Item) → consistent (n .visible) own ≡ fine tt → Sound n → Few n → ItemsTold n
+sound-told n own c s few = record {
+  visible = visible-told (n .visible) own c (s .visible);
+  hidden = hidden-told (n .hidden .items) few (s .hidden);
+}
+
+-- ---- what is evaluated is sound, where the names of the text are identifiers
+
+-- an outcome, if it is one, is such
+abbrev pub Gives : {A : Type 0} → (A → Type 0) → Outcome A → Type 0
+Gives P (fine a) = P a
+Gives P (stop k w) = Unit {0}
+
+pub gives-bound : {A B : Type 0} (P : A → Type 0) (Q : B → Type 0) (o : Outcome A) (f : A → Outcome B) → Gives P o → ((a : A) → P a → Gives Q (f a))
+    → Gives Q (o >>= f)
+unfolding _>>=_
+gives-bound P Q (fine a) f h g = g a h
+gives-bound P Q (stop k w) f h g = tt
+
+pub gives-then : {B : Type 0} (Q : B → Type 0) (o : Check) (m : Outcome B) → (o ≡ fine tt → Gives Q m) → Gives Q (o >> m)
+unfolding _>>_
+gives-then Q (fine tt) m g = g refl
+gives-then Q (stop k w) m g = tt
+
+-- ---- unions
+
+pub every-union : {A : Type 0} (P : A → Type 0) (one : A → A → Bool) (xs ys : List A) → Every P xs → Every P ys → Every P (union one xs ys)
+unfolding union
+every-union P one xs [] h k = h
+every-union P one xs (y ∷ ys) h k =
+    by-cases (Every P) _ _ _ (λ e. every-union P one xs ys h (k .1))
+    (λ e. every-union P one (xs ++ (y ∷ [])) ys (every-append P xs (y ∷ []) h (k .0, tt)) (k .1))
+
+pub every-map : {A B : Type 0} (P : A → Type 0) (Q : B → Type 0) (f : A → B) → ((a : A) → P a → Q (f a)) → (xs : List A) → Every P xs → Every Q (map f xs)
+every-map P Q f g [] h = tt
+every-map P Q f g (x ∷ xs) h = (g x (h .0), every-map P Q f g xs (h .1))
+
+-- a sort item of this origin
+abbrev pub HasSort : Origin → List Item → Type 0
+HasSort o is = (i : Item) × List·Memᴰ i is × (is-sort (i .shape) ≡ true) × (o ≡ i .origin)
+
+union-left : (xs ys : List Item) (i : Item) → List·Memᴰ i xs → List·Memᴰ i (union one-item xs ys)
+unfolding union
+union-left xs [] i m = m
+union-left xs (y ∷ ys) i m =
+    by-cases (λ (us : List Item). List·Memᴰ i us) _ _ _ (λ e. union-left xs ys i m) (λ e. union-left (xs ++ (y ∷ [])) ys i (Memᴰ·append-left (y ∷ []) m))
+
+any-found : {A : Type 0} (p : A → Bool) (xs : List A) → any p xs ≡ true → (x : A) × List·Memᴰ x xs × (p x ≡ true)
+unfolding any pick
+any-found p [] e = absurd (false≢true e)
+any-found {A} p (x ∷ xs) e = go (p x) refl e (any-found p xs)
+  where
+    go : (b : Bool) → p x ≡ b → pick b true (any p xs) ≡ true → (any p xs ≡ true → (y : A) × List·Memᴰ y xs × (p y ≡ true))
+        → (y : A) × List·Memᴰ y (x ∷ xs) × (p y ≡ true)
+    go true q e i = (x, List·Memᴰ·head refl, q)
+    go false q e i = let r = i e in (r .0, List·Memᴰ·tail (r .1), r .2)
+
+sort-too : (s t : Shape) → is-sort s ≡ true → same-shape s t ≡ true → is-sort t ≡ true
+unfolding is-sort same-shape
+sort-too sort-shape sort-shape e h = refl
+sort-too sort-shape (function-shape u) e h = h
+sort-too sort-shape (variable-shape r) e h = h
+sort-too (function-shape t) u e h = absurd (false≢true e)
+sort-too (variable-shape r) u e h = absurd (false≢true e)
+
+one-sort : (i j : Item) (o : Origin) → one-item i j ≡ true → is-sort (i .shape) ≡ true → o ≡ i .origin → (is-sort (j .shape) ≡ true) × (o ≡ j .origin)
+unfolding one-item
+one-sort i j o e s q =
+    let names = same-section (i .standing) (j .standing) && same (i .name) (j .name) in
+    let a = both-true (names && same-shape (i .shape) (j .shape)) (same-origin (i .origin) (j .origin)) e in
+    let b = both-true names (same-shape (i .shape) (j .shape)) (a .0) in
+    (sort-too (i .shape) (j .shape) s (b .1), q ∙ origin-equal (i .origin) (j .origin) (a .1))
+
+sorts-right-of : (xs ys : List Item) (o : Origin) → HasSort o ys → HasSort o (union one-item xs ys)
+unfolding union
+sorts-right-of xs [] o h = elim (h .1) [ ]
+sorts-right-of xs (y ∷ ys) o h =
+    ⊎-elim
+    (λ (e : h .0 ≡ y).
+    let s : is-sort (y .shape) ≡ true = rw (← e) (h .2) in
+    let q : o ≡ y .origin = h .3 ∙ ap (λ (i : Item). i .origin) e in
+    by-cases (HasSort o) _ _ _
+    (λ f. let r = any-found (one-item y) xs f in let t = one-sort y (r .0) o (r .2) s q in (r .0, union-left xs ys (r .0) (r .1), t .0, t .1))
+    (λ f. (y, union-left (xs ++ (y ∷ [])) ys y (Memᴰ·append-right xs (List·Memᴰ·head refl)), s, q)))
+    (λ (m : List·Memᴰ (h .0) ys).
+    by-cases (HasSort o) _ _ _ (λ f. sorts-right-of xs ys o (h .0, m, h .2, h .3))
+    (λ f. sorts-right-of (xs ++ (y ∷ [])) ys o (h .0, m, h .2, h .3)))
+    (List·Memᴰ·cases-cons (h .1))
+
+pub member-keep : {A : Type 0} (p : A → Bool) (xs : List A) (x : A) → List·Memᴰ x xs → p x ≡ true → List·Memᴰ x (keep p xs)
+unfolding keep
+member-keep p [] x m e = elim m [ ]
+member-keep {A} p (y ∷ ys) x m e =
+    ⊎-elim (λ (q : x ≡ y). by-cases (λ (us : List A). List·Memᴰ x us) _ _ _ (λ f. List·Memᴰ·head q) (λ f. absurd (false≢true (sym f ∙ ap p (sym q) ∙ e))))
+    (λ k. by-cases (λ (us : List A). List·Memᴰ x us) _ _ _ (λ f. List·Memᴰ·tail (member-keep p ys x k e)) (λ f. member-keep p ys x k e))
+    (List·Memᴰ·cases-cons m)
+
+-- every hidden sort of the one is one of the other
+abbrev Covers : List Item → List Item → Type 0
+Covers is js = (o : Origin) → HasSort o is → HasSort o js
+
+has-sort : (is : List Item) (o : Origin) → List·Memᴰ o (origins-of (sorts-among is)) → HasSort o is
+unfolding sorts-among
+has-sort is o m =
+    let r = item-of-origin (sorts-among is) m in
+    let k = kept-member (λ (i : Item). is-sort (i .shape)) is (r .1) in
+    (r .0, k .0, k .1, r .2)
+
+pub sort-had : (is : List Item) (o : Origin) → HasSort o is → List·Memᴰ o (origins-of (sorts-among is))
+unfolding sorts-among
+sort-had is o h = origin-of-item (member-keep (λ (i : Item). is-sort (i .shape)) is (h .0) (h .1) (h .2)) o (h .3)
+
+hidden-wider : (is js : List Item) → Covers is js → (i : Item) → SoundHidden is i → SoundHidden js i
+hidden-wider is js c i h = record {
+  standing = h .standing;
+  name = h .name;
+  shape = shape-wider (sorts-among is) (sorts-among js) (λ o m. sort-had js o (c o (has-sort is o m))) (i .shape) (h .shape);
+  origin = h .origin;
+}
+
+pub all-wider : (is js ks : List Item) → Covers is js → Every (SoundHidden is) ks → Every (SoundHidden js) ks
+all-wider is js ks c h = every-so (SoundHidden is) (SoundHidden js) ks (hidden-wider is js c) h
+
+-- more parameters, more places to stand
+stands-wider : (ps qs : List Name) → ((p : Name) → List·Memᴰ p ps → List·Memᴰ p qs) → (s : Section) → StandsIn ps s → StandsIn qs s
+stands-wider ps qs w export-section h = tt
+stands-wider ps qs w hidden-section h = h
+stands-wider ps qs w (parameter-section p) h = w p h
+
+pub all-stand : (ps qs : List Name) (is : List Item) → ((p : Name) → List·Memᴰ p ps → List·Memᴰ p qs) → Every (λ i. StandsIn ps (i .standing)) is
+    → Every (λ i. StandsIn qs (i .standing)) is
+all-stand ps qs is w h =
+    every-so (λ i. StandsIn ps (i .standing)) (λ i. StandsIn qs (i .standing)) is (λ i k. stands-wider ps qs w (i .standing) k) h
+
+pub unite-sound : (a b : Normal) → Sound a → Sound b → Sound (unite a b)
+unfolding unite unite-visible unite-hidden
+unite-sound a b s t =
+    let is = a .hidden .items in
+    let js = b .hidden .items in
+    let ks = union one-item is js in
+    record {
+      parameters = every-append Plain (a .visible .parameters) (b .visible .parameters) (s .parameters) (t .parameters);
+      standing =
+          every-union (λ i. StandsIn (a .visible .parameters ++ b .visible .parameters) (i .standing)) one-item (a .visible .items) (b .visible .items)
+          (all-stand _ _ (a .visible .items) (λ p m. Memᴰ·append-left (b .visible .parameters) m) (s .standing))
+          (all-stand _ _ (b .visible .items) (λ p m. Memᴰ·append-right (a .visible .parameters) m) (t .standing));
+      visible = every-union SoundVisible one-item (a .visible .items) (b .visible .items) (s .visible) (t .visible);
+      hidden =
+          every-union (SoundHidden ks) one-item is js
+          (all-wider is ks is (λ o h. (h .0, union-left is js (h .0) (h .1), h .2, h .3)) (s .hidden))
+          (all-wider js ks js (sorts-right-of is js) (t .hidden));
+      equations = every-union PlainEquation one-equation (a .hidden .equations) (b .hidden .equations) (s .equations) (t .equations);
+    }
+
+-- ---- translation by new names that are plain
+
+pub member-map-to : {A B : Type 0} (f : A → B) {a : A} {xs : List A} → List·Memᴰ a xs → List·Memᴰ (f a) (map f xs)
+member-map-to f (List·Memᴰ·head e) = List·Memᴰ·head (ap f e)
+member-map-to f (List·Memᴰ·tail m) = List·Memᴰ·tail (member-map-to f m)
+
+module _ (σ : Name → Name) (φ : Name → FunctionType → Name) (plain-σ : (w : Name) → Plain w → Plain (σ w))
+    (plain-φ : (f : Name) (t : FunctionType) → Plain f → Plain (φ f t)) where
+  move-sort-in : (is : List Item) (s : Sort) → SortIn is s → SortIn is (move-sort σ φ s)
+  unfolding move-sort
+  move-sort-in is (visible-sort a) h = plain-σ a h
+  move-sort-in is (hidden-sort o) h = h
+
+  move-shape-in : (is : List Item) (s : Shape) → ShapeIn is s → ShapeIn is (move-shape σ φ s)
+  unfolding move-shape move-type
+  move-shape-in is sort-shape h = tt
+  move-shape-in is (function-shape t) h =
+      (every-map (SortIn is) (SortIn is) (move-sort σ φ) (move-sort-in is) (t .inputs) (h .0), move-sort-in is (t .output) (h .1))
+  move-shape-in is (variable-shape s) h = move-sort-in is s h
+
+  move-kind : (s : Shape) → shape-rank (move-shape σ φ s) ≡ shape-rank s
+  unfolding move-shape shape-rank
+  move-kind sort-shape = refl
+  move-kind (function-shape t) = refl
+  move-kind (variable-shape s) = refl
+
+  move-is-sort : (s : Shape) → is-sort (move-shape σ φ s) ≡ is-sort s
+  unfolding move-shape is-sort
+  move-is-sort sort-shape = refl
+  move-is-sort (function-shape t) = refl
+  move-is-sort (variable-shape s) = refl
+
+  move-name-plain : (w : Name) (s : Shape) → Plain w → Plain (move-name σ φ w s)
+  unfolding move-name
+  move-name-plain w sort-shape h = plain-σ w h
+  move-name-plain w (function-shape t) h = plain-φ w t h
+  move-name-plain w (variable-shape s) h = h
+
+  move-item-sound : (i : Item) → SoundVisible i → SoundVisible (move-item σ φ i)
+  unfolding move-item
+  move-item-sound i h = record {
+    standing = h .standing;
+    kind = rw (move-kind (i .shape)) (h .kind);
+    name = move-name-plain (i .name) (i .shape) (h .name);
+    shape = move-shape-in [] (i .shape) (h .shape);
+    origin = h .origin;
+  }
+
+  move-hidden-sound : (is : List Item) (i : Item) → SoundHidden is i → SoundHidden is (move-hidden-item σ φ i)
+  unfolding move-hidden-item
+  move-hidden-sound is i h = record {
+    standing = h .standing;
+    name = h .name;
+    shape = move-shape-in (sorts-among is) (i .shape) (h .shape);
+    origin = h .origin;
+  }
+
+  move-covers : (is : List Item) → Covers is (map (move-hidden-item σ φ) is)
+  unfolding move-hidden-item
+  move-covers is o h =
+      (move-hidden-item σ φ (h .0), member-map-to (move-hidden-item σ φ) (h .1), move-is-sort (h .0 .shape) ∙ h .2, h .3)
+
+  move-head-plain : (f : Head) → PlainHead f → PlainHead (move-head σ φ f)
+  unfolding move-head
+  move-head-plain (visible-head f t) h = plain-φ f t h
+  move-head-plain (hidden-head o t) h = h
+
+  mutual
+    unfolding move-term
+
+    move-term-plain : (t : ResolvedTerm) → PlainTerm t → PlainTerm (move-term σ φ t)
+    move-term-plain (var o s) h = tt
+    move-term-plain (app f xs) h = (move-head-plain f (h .0), move-terms-plain xs (h .1))
+
+    move-terms-plain : (ts : ResolvedTerms) → PlainTerms ts → PlainTerms (move-terms σ φ ts)
+    move-terms-plain none-left h = tt
+    move-terms-plain (x and-then xs) h = (move-term-plain x (h .0), move-terms-plain xs (h .1))
+
+  move-sides-plain : (e : ResolvedSides) → PlainSides e → PlainSides (move-sides σ φ e)
+  unfolding move-sides
+  move-sides-plain e h = (move-term-plain (e .left) (h .0), move-term-plain (e .right) (h .1))
+
+  move-equation-plain : (e : ResolvedEquation) → PlainEquation e → PlainEquation (move-equation σ φ e)
+  unfolding move-equation
+  move-equation-plain e h = record {
+    tag = h .tag;
+    conclusion = move-sides-plain (e .conclusion) (h .conclusion);
+    conditions = every-map PlainSides PlainSides (move-sides σ φ) move-sides-plain (e .conditions) (h .conditions);
+  }
+
+  moved-stand : (ps : List Name) (is : List Item) → Every (λ i. StandsIn ps (i .standing)) is
+      → Every (λ i. StandsIn ps (i .standing)) (map (move-item σ φ) is)
+  unfolding move-item
+  moved-stand ps is h = every-map (λ i. StandsIn ps (i .standing)) (λ i. StandsIn ps (i .standing)) (move-item σ φ) (λ i k. k) is h
+
+  pub move-sound : (n : Normal) → Sound n → Sound (move σ φ n)
+  unfolding move move-visible move-hidden
+  move-sound n s =
+      let is = n .hidden .items in
+      let js = map (move-hidden-item σ φ) is in
+      let ks = union one-item [] js in
+      record {
+        parameters = s .parameters;
+        standing =
+            every-union (λ i. StandsIn (n .visible .parameters) (i .standing)) one-item [] (map (move-item σ φ) (n .visible .items)) tt
+            (moved-stand (n .visible .parameters) (n .visible .items) (s .standing));
+        visible =
+            every-union SoundVisible one-item [] (map (move-item σ φ) (n .visible .items)) tt
+            (every-map SoundVisible SoundVisible (move-item σ φ) move-item-sound (n .visible .items) (s .visible));
+        hidden =
+            every-union (SoundHidden ks) one-item [] js tt
+            (all-wider is ks js (λ o h. sorts-right-of [] js o (move-covers is o h))
+            (every-map (SoundHidden is) (SoundHidden is) (move-hidden-item σ φ) (move-hidden-sound is) is (s .hidden)));
+        equations =
+            every-union PlainEquation one-equation [] (map (move-equation σ φ) (n .hidden .equations)) tt
+            (every-map PlainEquation PlainEquation (move-equation σ φ) move-equation-plain (n .hidden .equations) (s .equations));
+      }

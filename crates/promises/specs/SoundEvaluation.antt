@@ -1,0 +1,683 @@
+-- Clauses, own declarations, typing and a whole call keep what is needed to tell the items of an accepted normal form.
+use mathlib.Core.Path.{_≡_, refl, subst}
+use mathlib.Core.Option.{Option, none, some}
+use Prim.Native.Nat.{ℕ, _+_, _-_, _≤_, _<_}
+use native.Mathlib.Omega.{arith}
+use mathlib.Core.Bool.{Bool, true, false, not, _&&_, false≢true}
+use mathlib.Core.List.{List, [], _∷_, _++_, map, List·Memᴰ, List·Memᴰ·head, List·Memᴰ·tail, Memᴰ·append-left}
+use lib.Dec.{leb, lit<, lit≤}
+use lib.ListN.{length}
+use borrow.Author.Tests.{leb-true, not-false}
+use Rattle.meaning.specs.Laws.{by-cases}
+use Rattle.meaning.specs.Lists.{pick, keep, any, first, union, or-else, first-some, each, sorted-onto}
+use Rattle.meaning.specs.Names.{Name, same, member, not-after, by-name}
+use Rattle.meaning.specs.Origins.{Section, export-section, parameter-section, hidden-section, Declared, declared-sort, declared-function, declared-variable, Origin, Shape, sort-shape, function-shape, variable-shape, is-sort, FunctionType, one-item, ResolvedSides, Item, ResolvedEquation}
+use Rattle.meaning.specs.Checks.{Outcome, fine, stop, Size, size, fits, room, checked, in-parameter}
+use Rattle.meaning.specs.Own.{resolved, function-type, own-sort, own-function, own-section, own-visible, own-variable, own-hidden-items, lacking, parameter-functions, available-sorts}
+use Rattle.meaning.specs.Typing.{Typed, TypedList, head-of, of-shape, found-with, no-arguments, joined-typed, equated, joined-sides, made-equation, applied, alone, with-arguments, typed, typed-list, typed-sides, typed-conditions, typed-equations}
+use Rattle.meaning.specs.Syntax.{Term, node, Terms, no-terms, _then_, Sides, Equation, conditions-of, Function, Signature, Parameter, Variable, variables-of, Pair, Clause, renamed-by, bound-by, Import, Module}
+use Rattle.meaning.specs.Evaluate.{Evaluated, normal-of, clause, clauses, expressions, united, imported, seen-sorts, joined-visible, own-checks, own-equations, joined-hidden, joined-own, named-by, evaluate}
+use Rattle.meaning.specs.Clauses.{paired, otherwise, renaming, without-visible, without, rename, new-sort, new-function, bound-to, bind, formals}
+use Rattle.meaning.specs.Normal.{nothing-visible, nothing-hidden, empty, unite, unite-visible, Normal, sorts-among}
+use Rattle.meaning.specs.Written.{equation-order, shape-rank, visible-order, visible-in-order, hidden-order, hidden-in-order, in-order}
+use Rattle.meaning.specs.Listing.{lines-text, listing-lines}
+use Rattle.promises.specs.ListingLaws.{Plain, PlainSection, PlainDeclared, SortIn, both-true, every-so, every-append, PlainHead, PlainTerm, PlainTerms, PlainSides, PlainEquation}
+use Rattle.meaning.specs.Numbers.{asked-absent}
+use Rattle.meaning.specs.Grammar.{after, name, function, signature, parameter, exports, imports, variables, term, modules, is}
+use Rattle.meaning.specs.Reached.{Placed, reached-among, reached, Ended, normalised, refused-at, end-or, total-of, in-turn, module-names, short-or-blank, normalise}
+use Rattle.meaning.specs.Answer.{listing}
+use Rattle.meaning.specs.OrderLaws.{rearranged-every, sorted-rearranged, sorted-length, rearranged-member, any-none, Every, same-equal}
+use Rattle.promises.specs.SameListing.{ItemsTold, items-in-order, sorts-in-order}
+use Rattle.promises.specs.Told.{Few, SameListed, Sound, SoundHidden, SoundVisible, StandsIn, declared-name, every-keep, told-by-bytes}
+use Rattle.promises.specs.Sound.{Gives, HasSort, all-stand, all-wider, every-map, every-member, every-union, gives-bound, gives-then, member-keep, member-map-to, move-sound, sort-had, sound-told, then-fine, unite-sound, unless-fine}
+
+-- ---- clauses
+
+-- the new names of a renaming or a binding are plain
+abbrev pub PlainPairs : List Pair → Type 0
+PlainPairs rs = Every (λ r. Plain (r .new)) rs
+
+renaming-plain : (rs : List Pair) → PlainPairs rs → (w : Name) → Plain w → Plain (renaming rs w)
+unfolding renaming paired otherwise
+renaming-plain [] h w p = p
+renaming-plain (r ∷ rs) h w p =
+    by-cases (λ (o : Option Name). Plain (otherwise w o)) _ _ _ (λ e. h .0) (λ e. renaming-plain rs (h .1) w p)
+
+every-kept : {A : Type 0} (P : A → Type 0) (p : A → Bool) (xs : List A) → Every P xs → Every (λ x. P x × (p x ≡ true)) (keep p xs)
+unfolding keep
+every-kept P p [] h = tt
+every-kept P p (x ∷ xs) h =
+    let r = every-kept P p xs (h .1) in by-cases (Every (λ x. P x × (p x ≡ true))) _ _ _ (λ e. ((h .0, e), r)) (λ e. r)
+
+-- what stands outside the parameter p stands where it did without it
+still-stands : (p : Name) (ps : List Name) (s : Section) → StandsIn ps s → not (in-parameter p s) ≡ true
+    → StandsIn (keep (λ (q : Name). not (same p q)) ps) s
+unfolding in-parameter
+still-stands p ps export-section h e = tt
+still-stands p ps hidden-section h e = h
+still-stands p ps (parameter-section q) h e = member-keep (λ (r : Name). not (same p r)) ps q h e
+
+without-sound : (p : Name) (n : Normal) → Sound n → Sound (without p n)
+unfolding without without-visible
+without-sound p n s = record {
+  parameters = every-keep Plain (λ (q : Name). not (same p q)) (n .visible .parameters) (s .parameters);
+  standing =
+      every-so (λ (i : Item). StandsIn (n .visible .parameters) (i .standing) × (not (in-parameter p (i .standing)) ≡ true))
+      (λ i. StandsIn (keep (λ (q : Name). not (same p q)) (n .visible .parameters)) (i .standing))
+      (keep (λ (i : Item). not (in-parameter p (i .standing))) (n .visible .items))
+      (λ i h. still-stands p (n .visible .parameters) (i .standing) (h .0) (h .1))
+      (every-kept (λ i. StandsIn (n .visible .parameters) (i .standing)) (λ (i : Item). not (in-parameter p (i .standing))) (n .visible .items)
+      (s .standing));
+  visible = every-keep SoundVisible (λ (i : Item). not (in-parameter p (i .standing))) (n .visible .items) (s .visible);
+  hidden = s .hidden;
+  equations = s .equations;
+}
+
+checked-gives : (P : Normal → Type 0) (n : Normal) → P n → Gives P (checked n)
+unfolding checked
+checked-gives P n h = gives-then P _ _ (λ e. gives-then P _ _ (λ f. h))
+
+rename-sound : (rs : List Pair) (n : Normal) → PlainPairs rs → Sound n → Gives Sound (rename rs n)
+unfolding rename
+rename-sound rs n h s =
+    gives-then Sound _ _ (λ e.
+    checked-gives Sound _ (move-sound (renaming rs) (λ f t. renaming rs f) (renaming-plain rs h) (λ f t p. renaming-plain rs h f p) n s))
+
+bind-sound : (p : Name) (rs : List Pair) (n actual : Normal) → PlainPairs rs → Sound n → Sound actual → Gives Sound (bind p rs n actual)
+unfolding bind bound-to new-sort new-function
+bind-sound p rs n actual h s t =
+    by-cases (Gives Sound) _ _ _
+    (λ e. gives-then Sound _ _ (λ f. gives-then Sound _ _ (λ g.
+    checked-gives Sound _ (unite-sound _ actual (move-sound _ _ new-sort-plain new-function-plain (without p n) (without-sound p n s)) t))))
+    (λ e. tt)
+  where
+    new-sort-plain : (w : Name) → Plain w → Plain (new-sort (formals p (n .visible)) rs (n .visible) (actual .visible) w)
+    new-sort-plain w q = by-cases Plain _ _ _ (λ e. renaming-plain rs h w q) (λ e. q)
+
+    new-function-plain : (f : Name) (u : FunctionType) → Plain f → Plain (new-function (formals p (n .visible)) rs (n .visible) (actual .visible) f u)
+    new-function-plain f u q = by-cases Plain _ _ _ (λ e. renaming-plain rs h f q) (λ e. q)
+
+abbrev pub PlainClause : Clause → Type 0
+PlainClause (renamed-by rs) = PlainPairs rs
+PlainClause (bound-by p rs m) = PlainPairs rs
+
+empty-sound : Sound empty
+unfolding empty nothing-visible nothing-hidden
+empty-sound = record { parameters = tt; standing = tt; visible = tt; hidden = tt; equations = tt }
+
+-- the modules evaluated have sound normal forms
+abbrev pub SoundEnv : List Evaluated → Type 0
+SoundEnv env = Every (λ e. Sound (e .normal)) env
+
+normal-of-sound : (env : List Evaluated) (w : Name) → SoundEnv env → Sound (normal-of env w)
+unfolding normal-of
+normal-of-sound [] w h = empty-sound
+normal-of-sound (e ∷ es) w h = by-cases Sound _ _ _ (λ f. h .0) (λ f. normal-of-sound es w (h .1))
+
+module _ (env : List Evaluated) (sound : SoundEnv env) where
+  clause-sound : (c : Clause) (n : Normal) → PlainClause c → Sound n → Gives Sound (clause env c n)
+  unfolding clause
+  clause-sound (renamed-by rs) n h s = rename-sound rs n h s
+  clause-sound (bound-by p rs m) n h s = bind-sound p rs n (normal-of env m) h s (normal-of-sound env m sound)
+
+  clauses-sound : (cs : List Clause) (n : Normal) → Every PlainClause cs → Sound n → Gives Sound (clauses env cs n)
+  unfolding clauses
+  clauses-sound [] n h s = s
+  clauses-sound (c ∷ cs) n h s = gives-bound Sound Sound _ _ (clause-sound c n (h .0) s) (λ k t. clauses-sound cs k (h .1) t)
+
+  expressions-sound : (is : List Import) → Every (λ i. Every PlainClause (i .clauses)) is → Gives (Every Sound) (expressions env is)
+  unfolding expressions
+  expressions-sound [] h = tt
+  expressions-sound (i ∷ is) h =
+      gives-bound Sound (Every Sound) _ _ (clauses-sound (i .clauses) (normal-of env (i .name)) (h .0) (normal-of-sound env (i .name) sound))
+      (λ n s. gives-bound (Every Sound) (Every Sound) _ _ (expressions-sound is (h .1)) (λ ns t. (s, t)))
+
+  united-sound : (n : Normal) (ks : List Normal) → Sound n → Every Sound ks → Gives Sound (united n ks)
+  unfolding united
+  united-sound n [] s h = s
+  united-sound n (k ∷ ks) s h =
+      gives-bound Sound Sound _ _ (checked-gives Sound _ (unite-sound n k s (h .0))) (λ u t. united-sound u ks t (h .1))
+
+  imported-sound : (is : List Import) → Every (λ i. Every PlainClause (i .clauses)) is → Gives Sound (imported env is)
+  unfolding imported
+  imported-sound is h = gives-bound (Every Sound) Sound _ _ (expressions-sound is h) (λ ns s. united-sound empty ns empty-sound s)
+
+-- ---- M's own declarations
+
+-- the names of a text, as far as they come into a normal form
+pub record PlainFunction (f : Function) : Type 0 where
+  pub name : Plain (f .name)
+  pub inputs : Every Plain (f .inputs)
+  pub output : Plain (f .output)
+
+pub record PlainSignature (s : Signature) : Type 0 where
+  pub sorts : Every Plain (s .sorts)
+  pub functions : Every PlainFunction (s .functions)
+
+pub record PlainParameter (p : Parameter) : Type 0 where
+  pub name : Plain (p .name)
+  pub signature : PlainSignature (p .signature)
+
+pub record PlainVariable (v : Variable) : Type 0 where
+  pub name : Plain (v .name)
+  pub sort : Plain (v .sort)
+
+pub record PlainModule (m : Module) : Type 0 where
+  pub name : Plain (m .name)
+  pub parameters : Every PlainParameter (m .parameters)
+  pub exports : PlainSignature (m .exports)
+  pub imports : Every (λ i. Every PlainClause (i .clauses)) (m .imports)
+  pub hidden : PlainSignature (m .hidden)
+  pub variables : Every PlainVariable (variables-of m)
+  pub tags : Every (λ e. Plain (e .tag)) (m .equations)
+
+-- 13 has seen the sorts of a function
+abbrev Available : List Name → Function → Type 0
+Available seen f = Every (λ s. member s seen ≡ true) (f .output ∷ f .inputs)
+
+none-lacking : {A : Type 0} (f : A → Option Name) (xs : List A) → first-some f xs ≡ none → Every (λ x. f x ≡ none) xs
+unfolding first-some or-else
+none-lacking f [] e = tt
+none-lacking {A} f (x ∷ xs) e = go (f x) refl e (none-lacking f xs)
+  where
+    go : (o : Option Name) → f x ≡ o → or-else o (first-some f xs) ≡ none → (first-some f xs ≡ none → Every (λ y. f y ≡ none) xs)
+        → Every (λ y. f y ≡ none) (x ∷ xs)
+    go none q e i = (q, i e)
+    go (some w) q e i = let z : _≡_ {A = ℕ} 0 1 = cc in absurd (omega arith)
+
+not-lacking : (seen : List Name) (f : Function) → lacking seen f ≡ none → Available seen f
+unfolding lacking pick
+not-lacking seen f e = go (any (λ (s : Name). not (member s seen)) (f .output ∷ f .inputs)) refl e
+  where
+    go : (b : Bool) → any (λ (s : Name). not (member s seen)) (f .output ∷ f .inputs) ≡ b → pick b (some (f .name)) none ≡ none → Available seen f
+    go true q e = let z : _≡_ {A = ℕ} 0 1 = cc in absurd (omega arith)
+    go false q e =
+        every-so (λ s. not (member s seen) ≡ false) (λ s. member s seen ≡ true) (f .output ∷ f .inputs) (λ s h. not-false (member s seen) h)
+        (any-none (λ (s : Name). not (member s seen)) (f .output ∷ f .inputs) q)
+
+every-split : {A : Type 0} (P : A → Type 0) (xs ys : List A) → Every P (xs ++ ys) → Every P xs × Every P ys
+every-split P [] ys h = (tt, h)
+every-split P (x ∷ xs) ys h = let r = every-split P xs ys (h .1) in ((h .0, r .0), r .1)
+
+each-every : {A B : Type 0} (P : B → Type 0) (f : A → List B) (xs : List A) → Every P (each f xs) → Every (λ x. Every P (f x)) xs
+unfolding each
+each-every P f [] h = tt
+each-every P f (x ∷ xs) h = let r = every-split P (f x) (each f xs) h in (r .0, each-every P f xs (r .1))
+
+-- what 13 lets through, in exports and in parameters
+available-exports : (m : Module) (seen : List Name) → available-sorts m seen ≡ fine tt → Every (Available seen) (m .exports .functions)
+unfolding available-sorts
+available-exports m seen e =
+    let r = unless-fine _ _ (then-fine _ _ (then-fine _ _ e .1) .0) in
+    every-so _ (Available seen) (m .exports .functions) (not-lacking seen) (none-lacking (lacking seen) (m .exports .functions) r)
+
+available-parameters : (m : Module) (seen : List Name) → available-sorts m seen ≡ fine tt
+    → Every (λ p. Every (Available seen) (p .signature .functions)) (m .parameters)
+unfolding available-sorts parameter-functions
+available-parameters m seen e =
+    let r = unless-fine _ _ (then-fine _ _ e .0) in
+    each-every (Available seen) (λ (p : Parameter). p .signature .functions) (m .parameters)
+    (every-so _ (Available seen) (parameter-functions (m .parameters)) (not-lacking seen)
+    (none-lacking (lacking seen) (parameter-functions (m .parameters)) r))
+
+member-found : (w : Name) (ws : List Name) → member w ws ≡ true → List·Memᴰ w ws
+unfolding member pick
+member-found w [] e = absurd (false≢true e)
+member-found w (v ∷ ws) e = go (same w v) refl e (member-found w ws)
+  where
+    go : (b : Bool) → same w v ≡ b → pick b true (member w ws) ≡ true → (member w ws ≡ true → List·Memᴰ w ws) → List·Memᴰ w (v ∷ ws)
+    go true q e i = List·Memᴰ·head (same-equal w v q)
+    go false q e i = List·Memᴰ·tail (i e)
+
+all-made : {A B : Type 0} (Q : B → Type 0) (f : A → B) → ((a : A) → Q (f a)) → (xs : List A) → Every Q (map f xs)
+all-made Q f h [] = tt
+all-made Q f h (x ∷ xs) = (h x, all-made Q f h xs)
+
+module _ (m : Module) (plain : PlainModule m) (seen : List Name) where
+  own-sort-sound : (s : Section) → PlainSection s → (a : Name) → Plain a → SoundVisible (own-sort m seen s a)
+  unfolding own-sort shape-rank
+  own-sort-sound s h a p = record {
+    standing = refl;
+    kind = lit≤ tt;
+    name = p;
+    shape = tt;
+    origin = record { home = plain .name; section = h; declared = p };
+  }
+
+  resolved-visible : (is : List Item) (s : Name) → Plain s → member s seen ≡ true → SortIn is (resolved m seen s)
+  unfolding resolved pick
+  resolved-visible is s p e = rw e p
+
+  resolved-sorts : (is : List Item) (ss : List Name) → Every Plain ss → Every (λ s. member s seen ≡ true) ss
+      → Every (SortIn is) (map (resolved m seen) ss)
+  resolved-sorts is [] p h = tt
+  resolved-sorts is (s ∷ ss) p h = (resolved-visible is s (p .0) (h .0), resolved-sorts is ss (p .1) (h .1))
+
+  declared-plain : (f : Function) → PlainFunction f → PlainDeclared (declared-function (f .name) (f .inputs) (f .output))
+  declared-plain f p = (p .name, p .inputs, p .output)
+
+  own-function-sound : (s : Section) → PlainSection s → (f : Function) → PlainFunction f → Available seen f → SoundVisible (own-function m seen s f)
+  unfolding own-function function-type shape-rank
+  own-function-sound s h f p a = record {
+    standing = refl;
+    kind = lit≤ tt;
+    name = p .name;
+    shape = (resolved-sorts [] (f .inputs) (p .inputs) (a .1), resolved-visible [] (f .output) (p .output) (a .0));
+    origin = record { home = plain .name; section = h; declared = declared-plain f p };
+  }
+
+  own-functions-sound : (s : Section) → PlainSection s → (fs : List Function) → Every PlainFunction fs → Every (Available seen) fs
+      → Every SoundVisible (map (own-function m seen s) fs)
+  own-functions-sound s h [] p a = tt
+  own-functions-sound s h (f ∷ fs) p a = (own-function-sound s h f (p .0) (a .0), own-functions-sound s h fs (p .1) (a .1))
+
+  own-section-sound : (s : Section) → PlainSection s → (g : Signature) → PlainSignature g → Every (Available seen) (g .functions)
+      → Every SoundVisible (own-section m seen s g)
+  unfolding own-section
+  own-section-sound s h g p a =
+      every-append SoundVisible (map (own-sort m seen s) (g .sorts)) _
+      (every-map Plain SoundVisible (own-sort m seen s) (own-sort-sound s h) (g .sorts) (p .sorts))
+      (own-functions-sound s h (g .functions) (p .functions) a)
+
+  own-parameters-sound : (ps : List Parameter) → Every PlainParameter ps → Every (λ p. Every (Available seen) (p .signature .functions)) ps
+      → Every SoundVisible (each (λ (p : Parameter). own-section m seen (parameter-section (p .name)) (p .signature)) ps)
+  unfolding each
+  own-parameters-sound [] h a = tt
+  own-parameters-sound (p ∷ ps) h a =
+      every-append SoundVisible (own-section m seen (parameter-section (p .name)) (p .signature)) _
+      (own-section-sound (parameter-section (p .name)) (h .0 .name) (p .signature) (h .0 .signature) (a .0))
+      (own-parameters-sound ps (h .1) (a .1))
+
+  own-visible-sound : available-sorts m seen ≡ fine tt → Every SoundVisible (own-visible m seen .items)
+  unfolding own-visible
+  own-visible-sound e =
+      every-append SoundVisible (each (λ (p : Parameter). own-section m seen (parameter-section (p .name)) (p .signature)) (m .parameters))
+      (own-section m seen export-section (m .exports))
+      (own-parameters-sound (m .parameters) (plain .parameters) (available-parameters m seen e))
+      (own-section-sound export-section tt (m .exports) (plain .exports) (available-exports m seen e))
+
+  own-section-stands : (ps : List Name) (s : Section) → StandsIn ps s → (g : Signature) → Every (λ i. StandsIn ps (i .standing)) (own-section m seen s g)
+  unfolding own-section own-sort own-function
+  own-section-stands ps s h g =
+      every-append (λ i. StandsIn ps (i .standing)) (map (own-sort m seen s) (g .sorts)) (map (own-function m seen s) (g .functions))
+      (all-made (λ i. StandsIn ps (i .standing)) (own-sort m seen s) (λ a. h) (g .sorts))
+      (all-made (λ i. StandsIn ps (i .standing)) (own-function m seen s) (λ f. h) (g .functions))
+
+  own-parameters-stand : (ps : List Name) (qs : List Parameter) → ((q : Parameter) → List·Memᴰ q qs → List·Memᴰ (q .name) ps)
+      → Every (λ i. StandsIn ps (i .standing)) (each (λ (p : Parameter). own-section m seen (parameter-section (p .name)) (p .signature)) qs)
+  unfolding each
+  own-parameters-stand ps [] h = tt
+  own-parameters-stand ps (q ∷ qs) h =
+      every-append (λ i. StandsIn ps (i .standing)) (own-section m seen (parameter-section (q .name)) (q .signature)) _
+      (own-section-stands ps (parameter-section (q .name)) (h q (List·Memᴰ·head refl)) (q .signature))
+      (own-parameters-stand ps qs (λ r k. h r (List·Memᴰ·tail k)))
+
+  own-visible-stands : Every (λ i. StandsIn (map (λ (p : Parameter). p .name) (m .parameters)) (i .standing)) (own-visible m seen .items)
+  unfolding own-visible
+  own-visible-stands =
+      let ps = map (λ (p : Parameter). p .name) (m .parameters) in
+      every-append (λ i. StandsIn ps (i .standing))
+      (each (λ (p : Parameter). own-section m seen (parameter-section (p .name)) (p .signature)) (m .parameters))
+      (own-section m seen export-section (m .exports))
+      (own-parameters-stand ps (m .parameters) (λ q k. member-map-to (λ (p : Parameter). p .name) k))
+      (own-section-stands ps export-section tt (m .exports))
+
+  -- a name of M's own hidden sorts is one of its hidden items
+  own-sort-there : (s : Name) → member s (m .hidden .sorts) ≡ true
+      → HasSort (record { home = m .name; section = hidden-section; declared = declared-sort s }) (own-hidden-items m seen)
+  unfolding own-hidden-items own-section own-sort is-sort
+  own-sort-there s e = (
+    own-sort m seen hidden-section s,
+    Memᴰ·append-left _ (Memᴰ·append-left _ (member-map-to (own-sort m seen hidden-section) (member-found s (m .hidden .sorts) e))),
+    refl,
+    refl,
+  )
+
+  resolved-hidden : (s : Name) → Plain s → SortIn (sorts-among (own-hidden-items m seen)) (resolved m seen s)
+  unfolding resolved
+  resolved-hidden s p =
+      by-cases (SortIn (sorts-among (own-hidden-items m seen))) _ _ _ (λ e. p)
+      (λ e. by-cases (SortIn (sorts-among (own-hidden-items m seen))) _ _ _ (λ f. sort-had (own-hidden-items m seen) _ (own-sort-there s f)) (λ f. p))
+
+  own-hidden-sort : (a : Name) → Plain a → SoundHidden (own-hidden-items m seen) (own-sort m seen hidden-section a)
+  unfolding own-sort declared-name
+  own-hidden-sort a p = record {
+    standing = refl;
+    name = refl;
+    shape = tt;
+    origin = record { home = plain .name; section = tt; declared = p };
+  }
+
+  own-hidden-function : (f : Function) → PlainFunction f → SoundHidden (own-hidden-items m seen) (own-function m seen hidden-section f)
+  unfolding own-function function-type declared-name
+  own-hidden-function f p = record {
+    standing = refl;
+    name = refl;
+    shape = (
+      every-map Plain (SortIn (sorts-among (own-hidden-items m seen))) (resolved m seen) resolved-hidden (f .inputs) (p .inputs),
+      resolved-hidden (f .output) (p .output),
+    );
+    origin = record { home = plain .name; section = tt; declared = declared-plain f p };
+  }
+
+  own-variable-sound : (v : Variable) → PlainVariable v → SoundHidden (own-hidden-items m seen) (own-variable m seen v)
+  unfolding own-variable declared-name
+  own-variable-sound v p = record {
+    standing = refl;
+    name = refl;
+    shape = resolved-hidden (v .sort) (p .sort);
+    origin = record { home = plain .name; section = tt; declared = (p .name, p .sort) };
+  }
+
+  own-hidden-sound : Every (SoundHidden (own-hidden-items m seen)) (own-hidden-items m seen)
+  unfolding own-hidden-items own-section
+  own-hidden-sound =
+      let sorts = map (own-sort m seen hidden-section) (m .hidden .sorts) in
+      let functions = map (own-function m seen hidden-section) (m .hidden .functions) in
+      let good : Item → Type 0 = SoundHidden (own-hidden-items m seen) in
+      every-append good (sorts ++ functions) (map (own-variable m seen) (variables-of m))
+      (every-append good sorts functions
+      (every-map Plain good (own-sort m seen hidden-section) own-hidden-sort (m .hidden .sorts) (plain .hidden .sorts))
+      (every-map PlainFunction good (own-function m seen hidden-section) own-hidden-function (m .hidden .functions) (plain .hidden .functions)))
+      (every-map PlainVariable good (own-variable m seen) own-variable-sound (variables-of m) (plain .variables))
+
+-- ---- typed equations have the names of known items
+
+abbrev PlainOption : {A : Type 0} → (A → Type 0) → Option A → Type 0
+PlainOption P none = Unit {0}
+PlainOption P (some a) = P a
+
+abbrev PlainTyped : Option Typed → Type 0
+PlainTyped o = PlainOption (λ t. PlainTerm (t .term)) o
+
+abbrev PlainTypedList : Option TypedList → Type 0
+PlainTypedList o = PlainOption (λ ts. PlainTerms (ts .terms)) o
+
+abbrev PlainFound : Option Item → Type 0
+PlainFound o = PlainOption (λ i. Plain (i .name)) o
+
+first-plain : (p : Item → Bool) (is : List Item) → Every (λ i. Plain (i .name)) is → PlainFound (first p is)
+unfolding first
+first-plain p [] h = tt
+first-plain p (i ∷ is) h = by-cases PlainFound _ _ _ (λ e. h .0) (λ e. first-plain p is (h .1))
+
+head-plain : (s : Section) (f : Name) (o : Origin) (t : FunctionType) → Plain f → PlainHead (head-of s f o t)
+unfolding head-of
+head-plain export-section f o t h = h
+head-plain hidden-section f o t h = tt
+head-plain (parameter-section p) f o t h = h
+
+shape-plain : (i : Item) (ts : TypedList) (s : Shape) → Plain (i .name) → PlainTerms (ts .terms) → PlainTyped (of-shape i ts s)
+unfolding of-shape
+shape-plain i ts sort-shape h k = tt
+shape-plain i ts (function-shape t) h k = (head-plain (i .standing) (i .name) (i .origin) t h, k)
+shape-plain i ts (variable-shape s) h k = tt
+
+found-plain : (ts : TypedList) (o : Option Item) → PlainFound o → PlainTerms (ts .terms) → PlainTyped (found-with ts o)
+unfolding found-with
+found-plain ts none h k = tt
+found-plain ts (some i) h k = shape-plain i ts (i .shape) h k
+
+either-plain : (a b : Option Typed) → PlainTyped a → PlainTyped b → PlainTyped (or-else a b)
+unfolding or-else
+either-plain (some t) b h k = h
+either-plain none b h k = k
+
+joined-plain : (t : Option Typed) (r : Option TypedList) → PlainTyped t → PlainTypedList r → PlainTypedList (joined-typed t r)
+unfolding joined-typed
+joined-plain none r h k = tt
+joined-plain (some t) none h k = tt
+joined-plain (some t) (some r) h k = (h, k)
+
+module _ (known : List Item) (plain : Every (λ i. Plain (i .name)) known) where
+  applied-plain : (f : Name) (ts : TypedList) → PlainTerms (ts .terms) → PlainTyped (applied known f ts)
+  unfolding applied
+  applied-plain f ts h = found-plain ts _ (first-plain _ known plain) h
+
+  alone-plain : (w : Name) → PlainTyped (alone known w)
+  unfolding alone no-arguments
+  alone-plain w = either-plain _ _ (found-plain no-arguments _ (first-plain _ known plain) tt) (applied-plain w no-arguments tt)
+
+  arguments-plain : (f : Name) (xs : Terms) (ts : Option TypedList) → PlainTypedList ts → PlainTyped (with-arguments known f xs ts)
+  unfolding with-arguments
+  arguments-plain f no-terms ts h = alone-plain f
+  arguments-plain f (x then xs) none h = tt
+  arguments-plain f (x then xs) (some ts) h = applied-plain f ts h
+
+  mutual
+    unfolding typed no-arguments
+
+    typed-plain : (t : Term) → PlainTyped (typed known t)
+    typed-plain (node f xs) = arguments-plain f xs _ (typed-list-plain xs)
+
+    typed-list-plain : (ts : Terms) → PlainTypedList (typed-list known ts)
+    typed-list-plain no-terms = tt
+    typed-list-plain (x then xs) = joined-plain _ _ (typed-plain x) (typed-list-plain xs)
+
+  sides-plain : (l r : Option Typed) → PlainTyped l → PlainTyped r → PlainOption PlainSides (equated l r)
+  unfolding equated
+  sides-plain none r h k = tt
+  sides-plain (some l) none h k = tt
+  sides-plain (some l) (some r) h k = by-cases (PlainOption PlainSides) _ _ _ (λ e. (h, k)) (λ e. tt)
+
+  joined-sides-plain : (e : Option ResolvedSides) (es : Option (List ResolvedSides)) → PlainOption PlainSides e
+      → PlainOption (Every PlainSides) es → PlainOption (Every PlainSides) (joined-sides e es)
+  unfolding joined-sides
+  joined-sides-plain none es h k = tt
+  joined-sides-plain (some e) none h k = tt
+  joined-sides-plain (some e) (some es) h k = (h, k)
+
+  typed-sides-plain : (e : Sides) → PlainOption PlainSides (typed-sides known e)
+  unfolding typed-sides
+  typed-sides-plain e = sides-plain _ _ (typed-plain (e .left)) (typed-plain (e .right))
+
+  conditions-plain : (es : List Sides) → PlainOption (Every PlainSides) (typed-conditions known es)
+  unfolding typed-conditions
+  conditions-plain [] = tt
+  conditions-plain (e ∷ es) = joined-sides-plain _ _ (typed-sides-plain e) (conditions-plain es)
+
+  made-plain : (home at : ℕ) (tag : Name) → Plain tag → (c : Option ResolvedSides) (ks : Option (List ResolvedSides))
+      → PlainOption PlainSides c → PlainOption (Every PlainSides) ks → Gives PlainEquation (made-equation home at tag c ks)
+  unfolding made-equation
+  made-plain home at tag p none ks h k = tt
+  made-plain home at tag p (some c) none h k = tt
+  made-plain home at tag p (some c) (some ks) h k = record { tag = p; conclusion = h; conditions = k }
+
+  equations-plain : (home at : ℕ) (rs : List Equation) → Every (λ r. Plain (r .tag)) rs → Gives (Every PlainEquation) (typed-equations known home at rs)
+  unfolding typed-equations
+  equations-plain home at [] h = tt
+  equations-plain home at (r ∷ rs) h =
+      gives-bound PlainEquation (Every PlainEquation) _ _
+      (made-plain home at (r .tag) (h .0) _ _ (typed-sides-plain (r .conclusion)) (conditions-plain (conditions-of r)))
+      (λ x p. gives-bound (Every PlainEquation) (Every PlainEquation) _ _ (equations-plain home (at + 1) rs (h .1)) (λ xs ps. (p, ps)))
+
+-- ---- one module, and a whole call
+
+in-order-sound : (n : Normal) → Sound n → Sound (in-order n)
+unfolding in-order visible-in-order hidden-in-order
+in-order-sound n s =
+    let is = n .hidden .items in
+    let d = sorted-rearranged (hidden-order (sorts-in-order is)) is in
+    record {
+      parameters = rearranged-every Plain (sorted-rearranged _ (n .visible .parameters)) (s .parameters);
+      standing =
+          rearranged-every _ (sorted-rearranged visible-order (n .visible .items))
+          (all-stand (n .visible .parameters) (by-name (λ (p : Name). p) (n .visible .parameters)) (n .visible .items)
+          (λ p m. rearranged-member (sorted-rearranged (λ (v w : Name). not-after v w) (n .visible .parameters)) m) (s .standing));
+      visible = rearranged-every SoundVisible (sorted-rearranged visible-order (n .visible .items)) (s .visible);
+      hidden =
+          rearranged-every (SoundHidden (items-in-order is)) d
+          (all-wider is (items-in-order is) is (λ o h. (h .0, rearranged-member d (h .1), h .2, h .3)) (s .hidden));
+      equations =
+          rearranged-every PlainEquation (sorted-rearranged (equation-order (items-in-order is)) (n .hidden .equations)) (s .equations);
+    }
+
+in-order-few : (n : Normal) → Few n → Few (in-order n)
+unfolding in-order hidden-in-order
+in-order-few n few = omega (arith, sorted-length (hidden-order (sorts-in-order (n .hidden .items))) (n .hidden .items))
+
+-- a normal form that is accepted: put in order from one whose items are told, sound, and not too large
+pub record Accepted (k : Normal) : Type 0 where
+  pub found : Normal
+  pub ordered : k ≡ in-order found
+  pub told : ItemsTold found
+  pub sound : Sound k
+  pub few : Few k
+
+fits-fine : (b : Bool) → fits b ≡ fine tt → b ≡ true
+unfolding fits pick
+fits-fine true e = refl
+fits-fine false e = let z : _≡_ {A = ℕ} 0 1 = cc in absurd (omega arith)
+
+room-few : (n : Normal) → room n ≡ fine tt → Few n
+unfolding room size
+room-few n e =
+    let items = length (n .visible .items) + length (n .hidden .items) in
+    let r = both-true (leb (length (n .visible .parameters)) 8 && leb items 512) _ (fits-fine _ e) in
+    omega (arith, leb-true items 512 (both-true (leb (length (n .visible .parameters)) 8) (leb items 512) (r .0) .1))
+
+declared-name-plain : (d : Declared) → PlainDeclared d → Plain (declared-name d)
+unfolding declared-name
+declared-name-plain (declared-sort a) h = h
+declared-name-plain (declared-function f i o) h = h .0
+declared-name-plain (declared-variable v s) h = h .0
+
+hidden-name-plain : (is : List Item) (i : Item) → SoundHidden is i → Plain (i .name)
+hidden-name-plain is i h = rw (h .name) (declared-name-plain (i .origin .declared) (h .origin .declared))
+
+module _ (m : Module) (plain : PlainModule m) (n : Normal) (sound : Sound n) where
+  abbrev own-seen : List Name
+  own-seen = seen-sorts m (n .visible)
+
+  own-part : List ResolvedEquation → Normal
+  own-part es = record { visible = own-visible m own-seen; hidden = record { items = own-hidden-items m own-seen; equations = es } }
+
+  own-part-sound : (es : List ResolvedEquation) → Every PlainEquation es → available-sorts m own-seen ≡ fine tt → Sound (own-part es)
+  unfolding own-part own-visible
+  own-part-sound es p a = record {
+    parameters = every-map PlainParameter Plain (λ (q : Parameter). q .name) (λ q h. h .name) (m .parameters) (plain .parameters);
+    standing = own-visible-stands m plain own-seen;
+    visible = own-visible-sound m plain own-seen a;
+    hidden = own-hidden-sound m plain own-seen;
+    equations = p;
+  }
+
+  known-plain : available-sorts m own-seen ≡ fine tt
+      → Every (λ i. Plain (i .name)) (joined-visible m (n .visible) .items ++ own-hidden-items m own-seen)
+  unfolding joined-visible unite-visible
+  known-plain a =
+      let is = union one-item (n .visible .items) (own-visible m own-seen .items) in
+      let own = own-hidden-items m own-seen in
+      every-append (λ i. Plain (i .name)) is own
+      (every-so SoundVisible (λ i. Plain (i .name)) is (λ i h. h .name)
+      (every-union SoundVisible one-item (n .visible .items) (own-visible m own-seen .items) (sound .visible) (own-visible-sound m plain own-seen a)))
+      (every-so (SoundHidden own) (λ i. Plain (i .name)) own (hidden-name-plain own) (own-hidden-sound m plain own-seen))
+
+  all-of : List ResolvedEquation → Normal
+  all-of es = record { visible = joined-visible m (n .visible); hidden = joined-hidden m own-seen (n .hidden) es }
+
+  all-sound : (es : List ResolvedEquation) → Every PlainEquation es → available-sorts m own-seen ≡ fine tt → Sound (all-of es)
+  unfolding all-of own-part joined-visible joined-hidden unite
+  all-sound es p a = unite-sound n (own-part es) sound (own-part-sound es p a)
+
+  all-accepted : (es : List ResolvedEquation) → Every PlainEquation es → own-checks m own-seen (joined-visible m (n .visible)) ≡ fine tt
+      → room (all-of es) ≡ fine tt → Accepted (in-order (all-of es))
+  unfolding own-checks all-of
+  all-accepted es p c r =
+      let s = all-sound es p (then-fine _ _ (then-fine _ _ c .1) .0) in
+      let few = room-few (all-of es) r in
+      record {
+        found = all-of es;
+        ordered = refl;
+        told = sound-told (all-of es) (own-hidden-items m own-seen) (then-fine _ _ c .0) s few;
+        sound = in-order-sound (all-of es) s;
+        few = in-order-few (all-of es) few;
+      }
+
+  joined-own-accepted : (home : ℕ) (total : Size) → Gives Accepted (joined-own home total m n)
+  unfolding joined-own own-equations own-checks all-of
+  joined-own-accepted home total =
+      gives-then Accepted _ _ (λ c.
+      gives-bound (Every PlainEquation) Accepted _ _
+      (equations-plain (joined-visible m (n .visible) .items ++ own-hidden-items m own-seen) (known-plain (then-fine _ _ (then-fine _ _ c .1) .0))
+      home 0 (m .equations) (plain .tags))
+      (λ es p. gives-then Accepted _ _ (λ r. gives-then Accepted _ _ (λ t. all-accepted es p c r))))
+
+-- what evaluating a module accepts
+pub evaluated-accepted : (declared earlier : List Name) (home : ℕ) (total : Size) (env : List Evaluated) (m : Module) → PlainModule m → SoundEnv env
+    → Gives Accepted (evaluate declared earlier home total env m)
+unfolding evaluate
+evaluated-accepted declared earlier home total env m plain sound =
+    gives-then Accepted _ _ (λ a. gives-then Accepted _ _ (λ b. gives-then Accepted _ _ (λ c.
+    gives-bound Sound Accepted _ _ (imported-sound env sound (m .imports) (plain .imports)) (λ n s. joined-own-accepted m plain n s home total))))
+
+abbrev AcceptedEnd : Ended → Type 0
+AcceptedEnd (normalised count n) = Accepted n
+AcceptedEnd (refused-at number count m w) = Unit {0}
+
+in-turn-accepted : (declared : List Name) (env : List Evaluated) (last : Normal) (xs : List Placed) → SoundEnv env → Accepted last
+    → Every (λ x. PlainModule (x .self)) xs → AcceptedEnd (in-turn declared env last xs)
+unfolding in-turn end-or
+in-turn-accepted declared env last [] s a h = a
+in-turn-accepted declared env last (x ∷ xs) s a h =
+    go (evaluate declared (x .earlier) (x .number) (total-of env) env (x .self))
+    (evaluated-accepted declared (x .earlier) (x .number) (total-of env) env (x .self) (h .0) s)
+    (λ n b. in-turn-accepted declared (record { name = x .self .name; names = named-by (x .self); normal = n } ∷ env) n xs (b .sound, s) b (h .1))
+  where
+    after : Normal → Ended
+    after n = in-turn declared (record { name = x .self .name; names = named-by (x .self); normal = n } ∷ env) n xs
+
+    go : (o : Outcome Normal) → Gives Accepted o → ((n : Normal) → Accepted n → AcceptedEnd (after n))
+        → AcceptedEnd (end-or (length env + 1) (x .self .name) after o)
+    go (fine n) b i = i n b
+    go (stop k w) b i = tt
+
+reached-plain : (asked : Name) (k : ℕ) (earlier : List Name) (ms : List Module) → Every PlainModule ms
+    → Every (λ x. PlainModule (x .self)) (reached-among asked k earlier ms)
+unfolding reached-among
+reached-plain asked k earlier [] h = tt
+reached-plain asked k earlier (m ∷ ms) h =
+    by-cases (Every (λ x. PlainModule (x .self))) _ _ _ (λ e. (h .0, reached-plain asked (k + 1) (m .name ∷ earlier) ms (h .1)))
+    (λ e. reached-plain asked (k + 1) (m .name ∷ earlier) ms (h .1))
+
+empty-accepted : Accepted empty
+unfolding empty nothing-visible nothing-hidden in-order visible-in-order hidden-in-order sorts-among keep sorted-onto
+empty-accepted = record {
+  found = empty;
+  ordered = refl;
+  told = record { visible = λ a b m. elim m [ ]; hidden = λ a b m. elim m [ ] };
+  sound = empty-sound;
+  few = lit< tt;
+}
+
+named-plain : (w : Name) (ms : List Module) → Every PlainModule ms → member w (module-names ms) ≡ true → Plain w
+unfolding module-names
+named-plain w ms h e =
+    every-member Plain (map (λ (m : Module). m .name) ms) (every-map PlainModule Plain (λ (m : Module). m .name) (λ m p. p .name) ms h) w
+    (member-found w (map (λ (m : Module). m .name) ms) e)
+
+-- a call that is accepted
+pub record AcceptedCall (asked : Name) (n : Normal) : Type 0 where
+  pub name : Plain asked
+  pub normal : Accepted n
+
+pub call-accepted : (asked : Name) (ms : List Module) (count : ℕ) (n : Normal) → Every PlainModule ms → normalise asked ms ≡ normalised count n
+    → AcceptedCall asked n
+unfolding normalise pick reached
+call-accepted asked ms count n plain e = go (member asked (module-names ms)) refl e
+  where
+    go : (b : Bool) → member asked (module-names ms) ≡ b
+        → pick b (in-turn (module-names ms) [] empty (reached asked ms)) (refused-at asked-absent 0 asked (short-or-blank asked)) ≡ normalised count n
+        → AcceptedCall asked n
+    go true q e = record {
+      name = named-plain asked ms plain q;
+      normal = subst AcceptedEnd e (in-turn-accepted (module-names ms) [] empty (reached asked ms) tt empty-accepted (reached-plain asked 0 [] ms plain));
+    }
+    go false q e = let z : _≡_ {A = ℕ} 0 1 = cc in absurd (omega arith)
+
+-- two accepted normal forms with one listing have the same visible items, the same parameters, the same hidden items, and the same
+-- equations as written
+pub one-normal-form : (asked asked′ : Name) (n n′ : Normal) → AcceptedCall asked n → AcceptedCall asked′ n′
+    → lines-text (listing-lines asked n) ≡ lines-text (listing-lines asked′ n′) → SameListed asked asked′ n n′
+one-normal-form asked asked′ n n′ a a′ e =
+    told-by-bytes asked asked′ n n′ (a .name) (a′ .name) (a .normal .sound) (a′ .normal .sound) (a .normal .few) e

@@ -1,0 +1,514 @@
+-- From a listing the items of its normal form can be told, and the equations as they are written: stage by stage, from bytes to lines, to
+-- items.
+use mathlib.Core.Path.{_≡_, refl, sym, ap, ap₂, subst, _∙_}
+use mathlib.Core.Logic.{_⊎_, ⊎-elim}
+use mathlib.Core.Option.{none}
+use Prim.Native.Nat.{ℕ, suc, _+_, _-_, _^_, _≤_, _<_}
+use Prim.Native.String.{String}
+use native.Mathlib.Omega.{arith}
+use mathlib.Core.Bool.{Bool, true, false, not, false≢true}
+use mathlib.Core.List.{List, [], _∷_, _++_, map, append-assoc, append-cancel-left, List·Memᴰ, List·Memᴰ·head, List·Memᴰ·tail, List·Memᴰ·cases-cons}
+use lib.Dec.{lit<}
+use lib.ListN.{length}
+use Rattle.meaning.specs.Laws.{by-cases}
+use Rattle.meaning.specs.Lists.{pick, keep, first, before, each}
+use Rattle.meaning.specs.Tokens.{is-word}
+use Rattle.meaning.specs.Names.{bytes, byte, Name, same, member, words}
+use Rattle.meaning.specs.Origins.{Section, export-section, parameter-section, hidden-section, Declared, declared-sort, declared-function, declared-variable, Origin, same-origin, Sort, visible-sort, hidden-sort, Shape, sort-shape, function-shape, variable-shape, is-sort, Item, ResolvedEquation}
+use Rattle.meaning.specs.Checks.{in-parameter}
+use Rattle.meaning.specs.Typing.{alone}
+use Rattle.meaning.specs.Syntax.{node, _then_}
+use Rattle.meaning.specs.Clauses.{formals}
+use Rattle.meaning.specs.Normal.{Visible, Normal, sorts-among}
+use Rattle.meaning.specs.Written.{numbered, sort-text, type-text, function-type-text, origin-text, shape-text, equation-text, shape-rank}
+use Rattle.meaning.specs.Listing.{is-exported, visible-lines, Line, origin-line, sort-or-function, item-line, exported-lines, formal-lines, parameter-lines, hidden-item-lines, line, lines-text, equation-line, hidden-lines, listing-lines}
+use Rattle.promises.specs.ListingLaws.{first-of, rest-of, not-empty, Within, StartsOutside, starts, told-run, in-name, Plain, PlainOrigin, told-origin, origins-of, SortIn, ShapeIn, told-shape, every-so, every-append, not-byte, Separable, told-lines, all-pass, within-by, OneLine, in-line-then, plain-in-line, number-in-line, origin-in-line, shape-in-line, PlainEquation, equation-in-line}
+use Rattle.meaning.specs.Grammar.{after, name, function, parameter, equation, modules, is}
+use Rattle.meaning.specs.Answer.{listing}
+use Rattle.meaning.specs.OrderLaws.{Every, same-self}
+use Rattle.promises.specs.SameListing.{kept-member}
+
+-- ---- from the listing to the normal form
+
+-- the name under which an item was declared
+unfoldable pub declared-name : Declared → Name
+declared-name (declared-sort a) = a
+declared-name (declared-function f i o) = f
+declared-name (declared-variable v s) = v
+
+-- a visible item is no variable, its names are plain, its type has visible sorts alone, and it stands where it was declared
+pub record SoundVisible (i : Item) : Type 0 where
+  pub standing : i .standing ≡ i .origin .section
+  pub kind : shape-rank (i .shape) ≤ 1
+  pub name : Plain (i .name)
+  pub shape : ShapeIn [] (i .shape)
+  pub origin : PlainOrigin (i .origin)
+
+-- a hidden item has its declared name, and the hidden sorts of its type are among the hidden items `hidden`
+pub record SoundHidden (hidden : List Item) (i : Item) : Type 0 where
+  pub standing : i .standing ≡ hidden-section
+  pub name : i .name ≡ declared-name (i .origin .declared)
+  pub shape : ShapeIn (sorts-among hidden) (i .shape)
+  pub origin : PlainOrigin (i .origin)
+
+-- exported or inherited, or in one of the parameters
+abbrev pub StandsIn : List Name → Section → Type 0
+StandsIn ps export-section = Unit {0}
+StandsIn ps hidden-section = ⊥
+StandsIn ps (parameter-section p) = List·Memᴰ p ps
+
+pub record Sound (n : Normal) : Type 0 where
+  pub parameters : Every Plain (n .visible .parameters)
+  pub standing : Every (λ i. StandsIn (n .visible .parameters) (i .standing)) (n .visible .items)
+  pub visible : Every SoundVisible (n .visible .items)
+  pub hidden : Every (SoundHidden (n .hidden .items)) (n .hidden .items)
+  pub equations : Every PlainEquation (n .hidden .equations)
+
+-- so few hidden items that a number of ten digits tells each: in what is accepted they are at most 512
+abbrev pub Few : Normal → Type 0
+Few n = length (n .hidden .items) + 1 < 10 ^ 10
+
+-- ---- an item from its two lines
+
+module _ (s f v : String) (sf : same (bytes s) (bytes f) ≡ false) (sv : same (bytes s) (bytes v) ≡ false) (fv : same (bytes f) (bytes v) ≡ false) where
+  other-key : {X : Type 0} (a b : List ℕ) → same a b ≡ false → a ≡ b → X
+  other-key a b d e = absurd (false≢true (sym d ∙ ap (same a) (sym e) ∙ same-self a))
+
+  told-key : (a b : Shape) → sort-or-function s f v a ≡ sort-or-function s f v b → shape-rank a ≡ shape-rank b
+  unfolding sort-or-function shape-rank
+  told-key sort-shape sort-shape e = refl
+  told-key sort-shape (function-shape u) e = other-key (bytes s) (bytes f) sf e
+  told-key sort-shape (variable-shape r) e = other-key (bytes s) (bytes v) sv e
+  told-key (function-shape t) sort-shape e = other-key (bytes s) (bytes f) sf (sym e)
+  told-key (function-shape t) (function-shape u) e = refl
+  told-key (function-shape t) (variable-shape r) e = other-key (bytes f) (bytes v) fv e
+  told-key (variable-shape q) sort-shape e = other-key (bytes s) (bytes v) sv (sym e)
+  told-key (variable-shape q) (function-shape u) e = other-key (bytes f) (bytes v) fv (sym e)
+  told-key (variable-shape q) (variable-shape r) e = refl
+
+-- what follows a name does not go on with it
+shape-outside : (hidden : List Item) (s : Shape) → StartsOutside in-name (shape-text hidden s)
+unfolding shape-text function-type-text type-text in-name is-word pick
+shape-outside hidden sort-shape = tt
+shape-outside hidden (function-shape t) = refl
+shape-outside hidden (variable-shape s) = refl
+
+told-visible : (a b : Item) → SoundVisible a → SoundVisible b → shape-rank (a .shape) ≡ shape-rank (b .shape)
+    → a .name ++ shape-text [] (a .shape) ≡ b .name ++ shape-text [] (b .shape) → origin-text (a .origin) ≡ origin-text (b .origin) → a ≡ b
+told-visible a b h k r e o =
+    let t =
+    told-run in-name (a .name) (b .name) (shape-text [] (a .shape)) (shape-text [] (b .shape)) (h .name .letters) (k .name .letters)
+    (shape-outside [] (a .shape)) (shape-outside [] (b .shape)) e in
+    let shapes = told-shape [] (lit< tt) (a .shape) (b .shape) (h .shape) (k .shape) r (t .1) in
+    let origins = told-origin (a .origin) (b .origin) (h .origin) (k .origin) o in
+    let standings = h .standing ∙ ap (λ (p : Origin). p .section) origins ∙ sym (k .standing) in
+    λ x. record { standing = standings x; name = t .0 x; shape = shapes x; origin = origins x }
+
+told-each : {A : Type 0} (Good : A → Type 0) (f g : A → Line) → ((a b : A) → Good a → Good b → f a ≡ f b → g a ≡ g b → a ≡ b)
+    → (xs ys : List A) → Every Good xs → Every Good ys
+    → each (λ (x : A). f x ∷ g x ∷ []) xs ≡ each (λ (x : A). f x ∷ g x ∷ []) ys → xs ≡ ys
+unfolding each
+told-each Good f g inj [] [] h k e = refl
+told-each Good f g inj [] (y ∷ ys) h k e = not-empty e
+told-each Good f g inj (x ∷ xs) [] h k e = not-empty (sym e)
+told-each Good f g inj (x ∷ xs) (y ∷ ys) h k e =
+    ap₂ _∷_ (inj x y (h .0) (k .0) (first-of e) (first-of (rest-of e))) (told-each Good f g inj xs ys (h .1) (k .1) (rest-of (rest-of e)))
+
+told-exported : (is js : List Item) → Every SoundVisible is → Every SoundVisible js → each exported-lines is ≡ each exported-lines js → is ≡ js
+unfolding exported-lines origin-line same pick
+told-exported is js h k e =
+    told-each SoundVisible _ _ (λ a b ha hb p q. told-visible a b ha hb
+    (told-key "sort" "function" "variable" refl refl refl (a .shape) (b .shape) (ap (λ (l : Line). l .key) p)) (ap (λ (l : Line). l .value) p)
+    (ap (λ (l : Line). l .value) q)) is js h k e
+
+told-formals : (is js : List Item) → Every SoundVisible is → Every SoundVisible js → each formal-lines is ≡ each formal-lines js → is ≡ js
+unfolding formal-lines origin-line same pick
+told-formals is js h k e =
+    told-each SoundVisible _ _ (λ a b ha hb p q. told-visible a b ha hb
+    (told-key "parameter-sort" "parameter-function" "variable" refl refl refl (a .shape) (b .shape) (ap (λ (l : Line). l .key) p))
+    (ap (λ (l : Line). l .value) p) (ap (λ (l : Line). l .value) q)) is js h k e
+
+-- ---- the hidden items from their lines: first their origins, so that a number means the same in both
+
+hidden-origins : (hidden hidden′ : List Item) (k : ℕ) (is js : List Item) → Every (λ i. PlainOrigin (i .origin)) is
+    → Every (λ i. PlainOrigin (i .origin)) js → hidden-item-lines hidden k is ≡ hidden-item-lines hidden′ k js → origins-of is ≡ origins-of js
+unfolding hidden-item-lines origin-line
+hidden-origins hidden hidden′ k [] [] h g e = refl
+hidden-origins hidden hidden′ k [] (j ∷ js) h g e = not-empty e
+hidden-origins hidden hidden′ k (i ∷ is) [] h g e = not-empty (sym e)
+hidden-origins hidden hidden′ k (i ∷ is) (j ∷ js) h g e =
+    ap₂ _∷_ (told-origin (i .origin) (j .origin) (h .0) (g .0) (ap (λ (l : Line). l .value) (first-of (rest-of e))))
+    (hidden-origins hidden hidden′ (k + 1) is js (h .1) (g .1) (rest-of (rest-of e)))
+
+-- ---- more items, more sorts known
+
+module _ (is js : List Item) (wider : (o : Origin) → List·Memᴰ o (origins-of is) → List·Memᴰ o (origins-of js)) where
+  sort-wider : (s : Sort) → SortIn is s → SortIn js s
+  sort-wider (visible-sort a) h = h
+  sort-wider (hidden-sort o) h = wider o h
+
+  pub shape-wider : (s : Shape) → ShapeIn is s → ShapeIn js s
+  shape-wider sort-shape h = tt
+  shape-wider (function-shape t) h = (every-so (SortIn is) (SortIn js) (t .inputs) sort-wider (h .0), sort-wider (t .output) (h .1))
+  shape-wider (variable-shape s) h = sort-wider s h
+
+pub item-of-origin : {o : Origin} (is : List Item) → List·Memᴰ o (origins-of is) → (i : Item) × List·Memᴰ i is × (o ≡ i .origin)
+item-of-origin [] m = elim m [ ]
+item-of-origin (i ∷ is) m =
+    ⊎-elim (λ e. (i, List·Memᴰ·head refl, e)) (λ k. let r = item-of-origin is k in (r .0, List·Memᴰ·tail (r .1), r .2)) (List·Memᴰ·cases-cons m)
+
+pub origin-of-item : {i : Item} {is : List Item} → List·Memᴰ i is → (o : Origin) → o ≡ i .origin → List·Memᴰ o (origins-of is)
+origin-of-item (List·Memᴰ·head e) o q = List·Memᴰ·head (q ∙ ap (λ (i : Item). i .origin) e)
+origin-of-item (List·Memᴰ·tail m) o q = List·Memᴰ·tail (origin-of-item m o q)
+
+among-hidden : (is : List Item) (o : Origin) → List·Memᴰ o (origins-of (sorts-among is)) → List·Memᴰ o (origins-of is)
+unfolding sorts-among
+among-hidden is o m =
+    let r = item-of-origin (sorts-among is) m in origin-of-item (kept-member (λ (i : Item). is-sort (i .shape)) is (r .1) .0) o (r .2)
+
+before-map : {A B : Type 0} (f : A → B) (p : B → Bool) (xs : List A) → before (λ (x : A). p (f x)) xs ≡ before p (map f xs)
+unfolding before
+before-map f p [] = refl
+before-map f p (x ∷ xs) = ap (λ (k : ℕ). pick (p (f x)) 0 (suc k)) (before-map f p xs)
+
+module _ (hidden hidden′ : List Item) (same-origins : origins-of hidden ≡ origins-of hidden′) where
+  same-sort-text : (s : Sort) → sort-text hidden s ≡ sort-text hidden′ s
+  unfolding sort-text
+  same-sort-text (visible-sort a) = refl
+  same-sort-text (hidden-sort o) =
+      ap (λ (k : ℕ). numbered (k + 1))
+      (before-map (λ (i : Item). i .origin) (same-origin o) hidden ∙ ap (before (same-origin o)) same-origins
+      ∙ sym (before-map (λ (i : Item). i .origin) (same-origin o) hidden′))
+
+  same-sort-texts : (ss : List Sort) → map (sort-text hidden) ss ≡ map (sort-text hidden′) ss
+  same-sort-texts [] = refl
+  same-sort-texts (s ∷ ss) = ap₂ _∷_ (same-sort-text s) (same-sort-texts ss)
+
+  same-shape-text : (s : Shape) → shape-text hidden s ≡ shape-text hidden′ s
+  unfolding shape-text function-type-text
+  same-shape-text sort-shape = refl
+  same-shape-text (function-shape t) = rw (same-sort-texts (t .inputs), same-sort-text (t .output))
+  same-shape-text (variable-shape s) = rw (same-sort-text s)
+
+  told-hidden : (few : length hidden + 1 < 10 ^ 10) (k : ℕ) (is js : List Item) → Every (SoundHidden hidden) is → Every (SoundHidden hidden′) js
+      → hidden-item-lines hidden k is ≡ hidden-item-lines hidden′ k js → is ≡ js
+  unfolding hidden-item-lines origin-line same pick
+  told-hidden few k [] [] h g e = refl
+  told-hidden few k [] (j ∷ js) h g e = not-empty e
+  told-hidden few k (i ∷ is) [] h g e = not-empty (sym e)
+  told-hidden few k (i ∷ is) (j ∷ js) h g e =
+      let ranks = told-key "hidden-sort" "hidden-function" "variable" refl refl refl (i .shape) (j .shape) (ap (λ (l : Line). l .key) (first-of e)) in
+      let texts =
+      append-cancel-left (numbered k) (shape-text hidden (i .shape)) (shape-text hidden′ (j .shape)) (ap (λ (l : Line). l .value) (first-of e)) in
+      let shapes =
+      told-shape hidden few (i .shape) (j .shape) (shape-wider (sorts-among hidden) hidden (among-hidden hidden) (i .shape) (h .0 .shape))
+      (shape-wider (sorts-among hidden′) hidden (λ o q. subst (List·Memᴰ o) (sym same-origins) (among-hidden hidden′ o q)) (j .shape) (g .0 .shape)) ranks
+      (texts ∙ sym (same-shape-text (j .shape))) in
+      let origins = told-origin (i .origin) (j .origin) (h .0 .origin) (g .0 .origin) (ap (λ (l : Line). l .value) (first-of (rest-of e))) in
+      let names = h .0 .name ∙ ap (λ (o : Origin). declared-name (o .declared)) origins ∙ sym (g .0 .name) in
+      let standings = h .0 .standing ∙ sym (g .0 .standing) in
+      let here : i ≡ j = λ x. record { standing = standings x; name = names x; shape = shapes x; origin = origins x } in
+      ap₂ _∷_ here (told-hidden few (k + 1) is js (h .1) (g .1) (rest-of (rest-of e)))
+
+-- ---- the listing's parts from its lines, by the keys
+
+-- the line has one of these keys
+keyed : String → Line → Bool
+keyed ks l = member (l .key) (words (bytes ks))
+
+outside-append : (p : Line → Bool) (xs ys : List Line) → StartsOutside p xs → StartsOutside p ys → StartsOutside p (xs ++ ys)
+outside-append p [] ys h k = k
+outside-append p (x ∷ xs) ys h k = h
+
+pub every-keep : {A : Type 0} (P : A → Type 0) (p : A → Bool) (xs : List A) → Every P xs → Every P (keep p xs)
+unfolding keep
+every-keep P p [] h = tt
+every-keep P p (x ∷ xs) h = let r = every-keep P p xs (h .1) in by-cases (Every P) _ _ _ (λ e. (h .0, r)) (λ e. r)
+
+formals-sound : (p : Name) (v : Visible) → Every SoundVisible (v .items) → Every SoundVisible (formals p v)
+unfolding formals
+formals-sound p v h = every-keep SoundVisible (λ (i : Item). in-parameter p (i .standing)) (v .items) h
+
+exported-keyed : (is : List Item) → Every SoundVisible is → Within (keyed "sort function origin") (each exported-lines is)
+unfolding each exported-lines origin-line keyed member words same pick sort-or-function shape-rank
+exported-keyed [] h = tt
+exported-keyed (i ∷ is) h = (go (i .shape) (h .0 .kind), (refl, exported-keyed is (h .1)))
+  where
+    go : (s : Shape) → shape-rank s ≤ 1
+        → keyed "sort function origin" (item-line (sort-or-function "sort" "function" "variable" s) (i .name) [] s) ≡ true
+    go sort-shape r = refl
+    go (function-shape t) r = refl
+    go (variable-shape v) r = absurd (omega arith)
+
+formals-keyed : (is : List Item) → Every SoundVisible is → Within (keyed "parameter-sort parameter-function origin") (each formal-lines is)
+unfolding each formal-lines origin-line keyed member words same pick sort-or-function shape-rank
+formals-keyed [] h = tt
+formals-keyed (i ∷ is) h = (go (i .shape) (h .0 .kind), (refl, formals-keyed is (h .1)))
+  where
+    go : (s : Shape) → shape-rank s ≤ 1
+        → keyed "parameter-sort parameter-function origin"
+        (item-line (sort-or-function "parameter-sort" "parameter-function" "variable" s) (i .name) [] s) ≡ true
+    go sort-shape r = refl
+    go (function-shape t) r = refl
+    go (variable-shape v) r = absurd (omega arith)
+
+hidden-keyed : (hidden : List Item) (k : ℕ) (is : List Item) → Within (keyed "hidden-sort hidden-function variable origin") (hidden-item-lines hidden k is)
+unfolding hidden-item-lines origin-line keyed member words same pick sort-or-function
+hidden-keyed hidden k [] = tt
+hidden-keyed hidden k (i ∷ is) = (go (i .shape), (refl, hidden-keyed hidden (k + 1) is))
+  where
+    go : (s : Shape)
+        → keyed "hidden-sort hidden-function variable origin"
+        (item-line (sort-or-function "hidden-sort" "hidden-function" "variable" s) (numbered k) hidden s) ≡ true
+    go sort-shape = refl
+    go (function-shape t) = refl
+    go (variable-shape v) = refl
+
+equations-keyed : (hidden : List Item) (es : List ResolvedEquation) → Within (keyed "equation") (map (equation-line hidden) es)
+unfolding equation-line keyed member words same pick
+equations-keyed hidden [] = tt
+equations-keyed hidden (e ∷ es) = (refl, equations-keyed hidden es)
+
+-- what comes after the parameters has none of their keys, nor of the keys before
+hidden-outside : (ks : String) (hidden : List Item) (k : ℕ) (is : List Item) → member (bytes "hidden-sort") (words (bytes ks)) ≡ false
+    → member (bytes "hidden-function") (words (bytes ks)) ≡ false → member (bytes "variable") (words (bytes ks)) ≡ false
+    → StartsOutside (keyed ks) (hidden-item-lines hidden k is)
+unfolding hidden-item-lines keyed sort-or-function
+hidden-outside ks hidden k [] s f v = tt
+hidden-outside ks hidden k (i ∷ is) s f v = go (i .shape)
+  where
+    go : (h : Shape) → member (sort-or-function "hidden-sort" "hidden-function" "variable" h) (words (bytes ks)) ≡ false
+    go sort-shape = s
+    go (function-shape t) = f
+    go (variable-shape r) = v
+
+equations-outside : (ks : String) (hidden : List Item) (es : List ResolvedEquation) → member (bytes "equation") (words (bytes ks)) ≡ false
+    → StartsOutside (keyed ks) (map (equation-line hidden) es)
+unfolding equation-line keyed
+equations-outside ks hidden [] e = tt
+equations-outside ks hidden (r ∷ rs) e = e
+
+parameters-outside : (v : Visible) (ks : String) (ps : List Name) → member (bytes "parameter") (words (bytes ks)) ≡ false
+    → StartsOutside (keyed ks) (each (parameter-lines v) ps)
+unfolding each parameter-lines keyed
+parameters-outside v ks [] e = tt
+parameters-outside v ks (p ∷ ps) e = e
+
+module _ (v v′ : Visible) (sound : Every SoundVisible (v .items)) (sound′ : Every SoundVisible (v′ .items)) where
+  told-parameters : (ps qs : List Name) (us us′ : List Line) → StartsOutside (keyed "parameter") us → StartsOutside (keyed "parameter") us′
+      → StartsOutside (keyed "parameter-sort parameter-function origin") us → StartsOutside (keyed "parameter-sort parameter-function origin") us′
+      → each (parameter-lines v) ps ++ us ≡ each (parameter-lines v′) qs ++ us′
+      → (ps ≡ qs) × Every (λ p. formals p v ≡ formals p v′) ps × (us ≡ us′)
+  unfolding each parameter-lines keyed member words same pick
+  told-parameters [] [] us us′ o o′ f f′ e = (refl, tt, e)
+  told-parameters [] (q ∷ qs) us us′ o o′ f f′ e = starts (keyed "parameter") us _ _ o e refl
+  told-parameters (p ∷ ps) [] us us′ o o′ f f′ e = starts (keyed "parameter") us′ _ _ o′ (sym e) refl
+  told-parameters (p ∷ ps) (q ∷ qs) us us′ o o′ f f′ e =
+      let ks : String = "parameter-sort parameter-function origin" in
+      let F = each formal-lines (formals p v) in
+      let F′ = each formal-lines (formals q v′) in
+      let R = each (parameter-lines v) ps in
+      let R′ = each (parameter-lines v′) qs in
+      let names : p ≡ q = ap (λ (l : Line). l .value) (first-of e) in
+      let kept = formals-sound p v sound in
+      let kept′ = formals-sound q v′ sound′ in
+      let a =
+      told-run (keyed ks) F F′ (R ++ us) (R′ ++ us′) (formals-keyed (formals p v) kept) (formals-keyed (formals q v′) kept′)
+      (outside-append (keyed ks) R us (parameters-outside v ks ps refl) f) (outside-append (keyed ks) R′ us′ (parameters-outside v′ ks qs refl) f′)
+      (sym (append-assoc F R us) ∙ rest-of e ∙ append-assoc F′ R′ us′) in
+      let here = told-formals (formals p v) (formals q v′) kept kept′ (a .0) in
+      let more = told-parameters ps qs us us′ o o′ f f′ (a .1) in
+      (ap₂ _∷_ names (more .0), (here ∙ ap (λ w. formals w v′) (sym names), more .1), more .2)
+
+-- ---- what a listing tells
+
+abbrev pub exported-of : Visible → List Item
+exported-of v = keep (λ (i : Item). is-exported (i .standing)) (v .items)
+
+-- the asked module, the exported or inherited items, the parameters, the items of each, the hidden items, and the equations as written:
+-- not their modules and positions, and of a visible function at a node its name, not its type
+pub record SameListed (m m′ : Name) (n n′ : Normal) : Type 0 where
+  pub asked : m ≡ m′
+  pub exported : exported-of (n .visible) ≡ exported-of (n′ .visible)
+  pub parameters : n .visible .parameters ≡ n′ .visible .parameters
+  pub inside : Every (λ p. formals p (n .visible) ≡ formals p (n′ .visible)) (n .visible .parameters)
+  pub hidden : n .hidden .items ≡ n′ .hidden .items
+  pub equations : map (equation-text (n .hidden .items)) (n .hidden .equations) ≡ map (equation-text (n′ .hidden .items)) (n′ .hidden .equations)
+
+-- the parts of a listing after its first line: exported items, parameters, hidden items, equations, the end
+abbrev exported-part : Normal → List Line
+exported-part n = each exported-lines (exported-of (n .visible))
+
+abbrev parameter-part : Normal → List Line
+parameter-part n = each (parameter-lines (n .visible)) (n .visible .parameters)
+
+abbrev hidden-part : Normal → List Line
+hidden-part n = hidden-item-lines (n .hidden .items) 1 (n .hidden .items)
+
+abbrev equation-part : Normal → List Line
+equation-part n = map (equation-line (n .hidden .items)) (n .hidden .equations)
+
+abbrev end-part : Name → List Line
+end-part m = line "end" m ∷ []
+
+listing-parts : (m : Name) (n : Normal)
+    → listing-lines m n ≡ line "module" m ∷ (exported-part n ++ (parameter-part n ++ (hidden-part n ++ (equation-part n ++ end-part m))))
+unfolding listing-lines visible-lines hidden-lines
+listing-parts m n = simp append-assoc
+
+module _ (ks : String) (m : Name) (n : Normal) where
+  end-outside : member (bytes "equation") (words (bytes ks)) ≡ false → member (bytes "end") (words (bytes ks)) ≡ false
+      → StartsOutside (keyed ks) (equation-part n ++ end-part m)
+  unfolding keyed
+  end-outside e f =
+      outside-append (keyed ks) (equation-part n) (end-part m) (equations-outside ks (n .hidden .items) (n .hidden .equations) e) f
+
+  after-parameters : member (bytes "hidden-sort") (words (bytes ks)) ≡ false → member (bytes "hidden-function") (words (bytes ks)) ≡ false
+      → member (bytes "variable") (words (bytes ks)) ≡ false → member (bytes "equation") (words (bytes ks)) ≡ false
+      → member (bytes "end") (words (bytes ks)) ≡ false → StartsOutside (keyed ks) (hidden-part n ++ (equation-part n ++ end-part m))
+  after-parameters s f v e g =
+      outside-append (keyed ks) (hidden-part n) (equation-part n ++ end-part m)
+      (hidden-outside ks (n .hidden .items) 1 (n .hidden .items) s f v) (end-outside e g)
+
+after-exported : (m : Name) (n : Normal)
+    → StartsOutside (keyed "sort function origin") (parameter-part n ++ (hidden-part n ++ (equation-part n ++ end-part m)))
+unfolding member words same pick
+after-exported m n =
+    outside-append (keyed "sort function origin") (parameter-part n) (hidden-part n ++ (equation-part n ++ end-part m))
+    (parameters-outside (n .visible) "sort function origin" (n .visible .parameters) refl)
+    (after-parameters "sort function origin" m n refl refl refl refl refl)
+
+equation-values : (hidden : List Item) (es : List ResolvedEquation)
+    → map (λ (l : Line). l .value) (map (equation-line hidden) es) ≡ map (equation-text hidden) es
+unfolding equation-line
+equation-values hidden [] = refl
+equation-values hidden (e ∷ es) = ap (equation-text hidden e ∷_) (equation-values hidden es)
+
+module _ (m m′ : Name) (n n′ : Normal) (sound : Sound n) (sound′ : Sound n′) (few : Few n) where
+  -- the lines of a listing tell the normal form, but for the equations' modules and positions and what stands at a node besides its name
+  pub told-by-lines : listing-lines m n ≡ listing-lines m′ n′ → SameListed m m′ n n′
+  unfolding keyed member words same pick
+  told-by-lines e =
+      let f = sym (listing-parts m n) ∙ e ∙ listing-parts m′ n′ in
+      let exported : Item → Bool = λ i. is-exported (i .standing) in
+      let kept = every-keep SoundVisible exported (n .visible .items) (sound .visible) in
+      let kept′ = every-keep SoundVisible exported (n′ .visible .items) (sound′ .visible) in
+      let a =
+      told-run (keyed "sort function origin") (exported-part n) (exported-part n′)
+      (parameter-part n ++ (hidden-part n ++ (equation-part n ++ end-part m)))
+      (parameter-part n′ ++ (hidden-part n′ ++ (equation-part n′ ++ end-part m′))) (exported-keyed (exported-of (n .visible)) kept)
+      (exported-keyed (exported-of (n′ .visible)) kept′) (after-exported m n) (after-exported m′ n′) (rest-of f) in
+      let b =
+      told-parameters (n .visible) (n′ .visible) (sound .visible) (sound′ .visible) (n .visible .parameters) (n′ .visible .parameters)
+      (hidden-part n ++ (equation-part n ++ end-part m)) (hidden-part n′ ++ (equation-part n′ ++ end-part m′))
+      (after-parameters "parameter" m n refl refl refl refl refl) (after-parameters "parameter" m′ n′ refl refl refl refl refl)
+      (after-parameters "parameter-sort parameter-function origin" m n refl refl refl refl refl)
+      (after-parameters "parameter-sort parameter-function origin" m′ n′ refl refl refl refl refl) (a .1) in
+      let c =
+      told-run (keyed "hidden-sort hidden-function variable origin") (hidden-part n) (hidden-part n′) (equation-part n ++ end-part m)
+      (equation-part n′ ++ end-part m′) (hidden-keyed (n .hidden .items) 1 (n .hidden .items)) (hidden-keyed (n′ .hidden .items) 1 (n′ .hidden .items))
+      (end-outside "hidden-sort hidden-function variable origin" m n refl refl)
+      (end-outside "hidden-sort hidden-function variable origin" m′ n′ refl refl) (b .2) in
+      let d =
+      told-run (keyed "equation") (equation-part n) (equation-part n′) (end-part m) (end-part m′)
+      (equations-keyed (n .hidden .items) (n .hidden .equations)) (equations-keyed (n′ .hidden .items) (n′ .hidden .equations)) refl refl (c .1) in
+      let origins =
+      hidden-origins (n .hidden .items) (n′ .hidden .items) 1 (n .hidden .items) (n′ .hidden .items)
+      (every-so (SoundHidden (n .hidden .items)) _ (n .hidden .items) (λ i h. h .origin) (sound .hidden))
+      (every-so (SoundHidden (n′ .hidden .items)) _ (n′ .hidden .items) (λ i h. h .origin) (sound′ .hidden)) (c .0) in
+      record {
+        asked = ap (λ (l : Line). l .value) (first-of f);
+        exported = told-exported (exported-of (n .visible)) (exported-of (n′ .visible)) kept kept′ (a .0);
+        parameters = b .0;
+        inside = b .1;
+        hidden =
+            told-hidden (n .hidden .items) (n′ .hidden .items) origins few 1 (n .hidden .items) (n′ .hidden .items) (sound .hidden)
+            (sound′ .hidden) (c .0);
+        equations =
+            sym (equation-values (n .hidden .items) (n .hidden .equations)) ∙ ap (map (λ (l : Line). l .value)) (d .0)
+            ∙ equation-values (n′ .hidden .items) (n′ .hidden .equations);
+      }
+
+-- ---- and so do its bytes
+
+separable : (k : String) {value : List ℕ} → all-pass (not-byte (byte "=")) (bytes k) ≡ true → OneLine value → Separable (line k value)
+separable k e h = record { key = within-by _ (bytes k) e; value = h .within }
+
+-- an item's first line, of whatever kind
+item-separable : (s f v : String) (called : List ℕ) (hidden : List Item) (shape : Shape) → all-pass (not-byte (byte "=")) (bytes s) ≡ true
+    → all-pass (not-byte (byte "=")) (bytes f) ≡ true → all-pass (not-byte (byte "=")) (bytes v) ≡ true
+    → OneLine (called ++ shape-text hidden shape) → Separable (item-line (sort-or-function s f v shape) called hidden shape)
+unfolding sort-or-function
+item-separable s f v called hidden sort-shape p q r h = record { key = within-by _ (bytes s) p; value = h .within }
+item-separable s f v called hidden (function-shape t) p q r h = record { key = within-by _ (bytes f) q; value = h .within }
+item-separable s f v called hidden (variable-shape u) p q r h = record { key = within-by _ (bytes v) r; value = h .within }
+
+origin-separable : (o : Origin) → PlainOrigin o → Separable (origin-line o)
+unfolding origin-line
+origin-separable o h = separable "origin" refl (origin-in-line o h)
+
+pub every-each : {A B : Type 0} (P : B → Type 0) (Good : A → Type 0) (f : A → List B) → ((a : A) → Good a → Every P (f a)) → (xs : List A)
+    → Every Good xs → Every P (each f xs)
+unfolding each
+every-each P Good f h [] g = tt
+every-each P Good f h (x ∷ xs) g = every-append P (f x) (each f xs) (h x (g .0)) (every-each P Good f h xs (g .1))
+
+visible-in-line : (i : Item) → SoundVisible i → OneLine (i .name ++ shape-text [] (i .shape))
+visible-in-line i h = in-line-then (i .name) (plain-in-line (i .name) (h .name)) (shape-in-line [] (i .shape) (h .shape))
+
+exported-separable : (i : Item) → SoundVisible i → Every Separable (exported-lines i)
+unfolding exported-lines
+exported-separable i h = (
+  item-separable "sort" "function" "variable" (i .name) [] (i .shape) refl refl refl (visible-in-line i h),
+  (origin-separable (i .origin) (h .origin), tt),
+)
+
+formal-separable : (i : Item) → SoundVisible i → Every Separable (formal-lines i)
+unfolding formal-lines
+formal-separable i h = (
+  item-separable "parameter-sort" "parameter-function" "variable" (i .name) [] (i .shape) refl refl refl (visible-in-line i h),
+  (origin-separable (i .origin) (h .origin), tt),
+)
+
+parameter-separable : (v : Visible) → Every SoundVisible (v .items) → (p : Name) → Plain p → Every Separable (parameter-lines v p)
+unfolding parameter-lines
+parameter-separable v h p g = (
+  separable "parameter" refl (plain-in-line p g),
+  every-each Separable SoundVisible formal-lines formal-separable (formals p v) (formals-sound p v h),
+)
+
+hidden-separable : (hidden : List Item) (k : ℕ) (is : List Item) → Every (SoundHidden hidden) is → Every Separable (hidden-item-lines hidden k is)
+unfolding hidden-item-lines
+hidden-separable hidden k [] h = tt
+hidden-separable hidden k (i ∷ is) h = (
+  item-separable "hidden-sort" "hidden-function" "variable" (numbered k) hidden (i .shape) refl refl refl
+      (in-line-then (numbered k) (number-in-line k)
+      (shape-in-line hidden (i .shape) (shape-wider (sorts-among hidden) hidden (among-hidden hidden) (i .shape) (h .0 .shape)))),
+  (origin-separable (i .origin) (h .0 .origin), hidden-separable hidden (k + 1) is (h .1)),
+)
+
+equations-separable : (hidden : List Item) (es : List ResolvedEquation) → Every PlainEquation es → Every Separable (map (equation-line hidden) es)
+unfolding equation-line
+equations-separable hidden [] h = tt
+equations-separable hidden (e ∷ es) h = (separable "equation" refl (equation-in-line hidden e (h .0)), equations-separable hidden es (h .1))
+
+listing-separable : (m : Name) (n : Normal) → Plain m → Sound n → Every Separable (listing-lines m n)
+listing-separable m n g s =
+    subst (Every Separable) (sym (listing-parts m n)) (
+      separable "module" refl (plain-in-line m g),
+      every-append Separable (exported-part n) _
+          (every-each Separable SoundVisible exported-lines exported-separable (exported-of (n .visible))
+          (every-keep SoundVisible (λ (i : Item). is-exported (i .standing)) (n .visible .items) (s .visible)))
+          (every-append Separable (parameter-part n) _
+          (every-each Separable Plain (parameter-lines (n .visible)) (parameter-separable (n .visible) (s .visible)) (n .visible .parameters) (s .parameters))
+          (every-append Separable (hidden-part n) _ (hidden-separable (n .hidden .items) 1 (n .hidden .items) (s .hidden))
+          (every-append Separable (equation-part n) (end-part m) (equations-separable (n .hidden .items) (n .hidden .equations) (s .equations))
+          (separable "end" refl (plain-in-line m g), tt)))),
+    )
+
+-- normal forms of different visible items, parameters, hidden items or written equations have different listings
+pub told-by-bytes : (m m′ : Name) (n n′ : Normal) → Plain m → Plain m′ → Sound n → Sound n′ → Few n
+    → lines-text (listing-lines m n) ≡ lines-text (listing-lines m′ n′) → SameListed m m′ n n′
+told-by-bytes m m′ n n′ g g′ s s′ few e =
+    told-by-lines m m′ n n′ s s′ few
+    (told-lines (listing-lines m n) (listing-lines m′ n′) (listing-separable m n g s) (listing-separable m′ n′ g′ s′) e)
