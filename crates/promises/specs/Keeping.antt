@@ -33,7 +33,7 @@ unfolding _>>=_
 if-bind P Q (fine a) f h g = g a h
 if-bind P Q (stop k w) f h g = tt
 
-if-pick : {A : Type 0} (P : A → Type 0) (b : Bool) (o : Outcome A) (k : ℕ) (w : Name) → IfFine P o → IfFine P (pick b o (stop k w))
+pub if-pick : {A : Type 0} (P : A → Type 0) (b : Bool) (o : Outcome A) (k : ℕ) (w : Name) → IfFine P o → IfFine P (pick b o (stop k w))
 unfolding pick
 if-pick P true o k w h = h
 if-pick P false o k w h = tt

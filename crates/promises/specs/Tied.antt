@@ -31,7 +31,7 @@ name-inline asked (m ∷ ms) h q = go (same asked (m .name)) refl q (name-inline
     go true b g later = subst Inline (sym (same-eq asked (m .name) b)) (h .0 .name)
     go false b g later = later g
 
-abbrev Plain : Answer → Type 0
+abbrev pub Plain : Answer → Type 0
 Plain r = ForEach PlainLine (r .lines)
 
 ended-plain : (asked : Name) (ms : List Module) → ForEach InlineModule ms → Plain (of-ended asked (normalise asked ms))
@@ -55,9 +55,12 @@ unfolding of-read refusal
 read-plain asked text (done ms s) e = ended-plain asked ms (read-inline text ms s e)
 read-plain asked text (refused k p) e = tt
 
+-- each line of an answer stays a line
+pub answer-plain : (memory output : ℕ) (asked : Name) (text : List ℕ) → Plain (answer memory output asked text)
+unfolding answer within refusal
+answer-plain memory output asked text =
+    by-cases Plain _ _ _ (λ b. tt) (λ b. by-cases Plain _ _ _ (λ c. read-plain asked text (read text) refl) (λ c. tt))
+
 pub answer-tied : (memory output : ℕ) (asked : Name) (text : List ℕ)
     → visible-part (listing (answer memory output asked text)) ≡ lines-text (shown false (answer memory output asked text .lines))
-unfolding answer within refusal
-answer-tied memory output asked text =
-    visible-tie (answer memory output asked text .lines)
-    (by-cases Plain _ _ _ (λ b. tt) (λ b. by-cases Plain _ _ _ (λ c. read-plain asked text (read text) refl) (λ c. tt)))
+answer-tied memory output asked text = visible-tie (answer memory output asked text .lines) (answer-plain memory output asked text)

@@ -226,7 +226,7 @@ fn word_stop(table: &[u8], at: usize) -> usize
 }
 
 // The number of the first word of the table that w is, from 1 on; 0 if it is none.
-fn number_in(table: &[u8], w: &[u8]) -> usize
+pub fn number_in(table: &[u8], w: &[u8]) -> usize
     ensures { λ r. ⌜ r ≡ number-in (words (now (table .entry))) 1 (now (w .entry)) ⌝ }
 {
     let mut at = 0;

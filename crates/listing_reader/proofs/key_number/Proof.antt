@@ -1,0 +1,17 @@
+-- `listing_reader::key_number` meets its contract.
+-- Assumes nothing.
+use Rattle.meaning.specs.Reader.{listing-keys}
+use Rattle.listing_reader.specs.Places.{key-number}
+use borrow.Author.Needs.{needs}
+use Rattle.listing_reader.proofs.key_number.Statement.{statement}
+use Rattle.listing_reader.proofs.key_number.Tie as tie
+
+pub key-number-spec : {M : Type 1} → statement M
+unfolding key-number listing-keys
+key-number-spec =
+    tie.close
+    (tie.spec
+    (λ c. search needs)  -- slice-aggregate-number-in
+    (λ c κs. search needs)  -- number-in-requires
+    (λ c. search needs)  -- returns
+    )

@@ -1,0 +1,93 @@
+-- Every listing that a call gives is read back, line by line, and its front is its visible part.
+use mathlib.Core.Path.{_≡_, refl, sym, ap, _∙_}
+use Prim.Native.Nat.{ℕ}
+use mathlib.Core.Bool.{Bool, true, false}
+use mathlib.Core.List.{List, [], _∷_}
+use Rattle.meaning.specs.Lists.{pick, any}
+use Rattle.meaning.specs.Names.{Name, byte}
+use Rattle.meaning.specs.Laws.{by-cases}
+use Rattle.meaning.specs.Syntax.{Module}
+use Rattle.meaning.specs.Grammar.{Result, done, refused, read}
+use Rattle.meaning.specs.Reached.{Ended, normalised, refused-at, normalise}
+use Rattle.meaning.specs.Listing.{Line, lines-text, shown}
+use Rattle.meaning.specs.Answer.{Answer, answer, listing, refusal, of-ended, of-read, within}
+use Rattle.meaning.specs.Trials.{Every}
+use Rattle.promises.specs.Demand.{ForEach}
+use Rattle.promises.specs.Tie.{lacks, Inline, PlainLine}
+use Rattle.promises.specs.Tied.{answer-plain, answer-tied}
+use Rattle.promises.specs.VisiblePart.{visible-part}
+use Rattle.listing_reader.specs.Visible.{front-part}
+use Rattle.reader_laws.specs.Lines.{is-lf, No-LF, Readable, Gives, lines-given}
+use Rattle.reader_laws.specs.Front.{leading, front-leads}
+use Rattle.reader_laws.specs.Listing.{Known, Plain-values, listing-known, readable}
+use Rattle.reader_laws.specs.Shown.{Sort-or-function, listing-settled}
+use Rattle.reading_back.specs.Declared.{DeclaredEnded, normalise-declared}
+
+-- ---- no value has an LF
+
+no-lf : (w : List ℕ) → Inline w → No-LF w
+unfolding No-LF any lacks pick
+no-lf [] h = refl
+no-lf (b ∷ w) h = go (is-lf b) h (no-lf w)
+  where
+    go : (t : Bool) → pick t false (lacks (byte "\n") w) ≡ true → (Inline w → No-LF w) → pick t true (any is-lf w) ≡ false
+    go true e r = sym e
+    go false e r = r e
+
+plain-values : (ls : List Line) → ForEach PlainLine ls → Plain-values ls
+unfolding Every
+plain-values [] h = tt
+plain-values (l ∷ ls) h = (no-lf (l .value) (h .0 .value), plain-values ls (h .1))
+
+every-of : {A : Type 0} (P : A → Type 0) (xs : List A) → ForEach P xs → Every P xs
+unfolding Every
+every-of P [] h = tt
+every-of P (x ∷ xs) h = (h .0, every-of P xs (h .1))
+
+-- ---- an answer's lines: every key is known, and those in front are those that are shown
+
+record Listed (r : Answer) : Type 0 where
+  known : Every Known (r .lines)
+  fronts : leading (r .lines) ≡ shown false (r .lines)
+
+no-lines : (number count : ℕ) (m w : Name) (at : ℕ) → Listed (refusal number count m w at)
+unfolding refusal Every leading shown
+no-lines number count m w at = record { known = tt; fronts = refl }
+
+ended-listed : (asked : Name) (e : Ended) → DeclaredEnded e → Listed (of-ended asked e)
+unfolding of-ended
+ended-listed asked (normalised count n) d =
+    record { known = listing-known asked n; fronts = listing-settled asked n (every-of Sort-or-function (n .visible .items) d) }
+ended-listed asked (refused-at number count m w) d = no-lines number count m w 0
+
+read-listed : (asked : Name) (r : Result (List Module)) → Listed (of-read asked r)
+unfolding of-read
+read-listed asked (done ms s) = ended-listed asked (normalise asked ms) (normalise-declared asked ms)
+read-listed asked (refused number at) = no-lines number 0 [] [] at
+
+answer-listed : (memory output : ℕ) (asked : Name) (text : List ℕ) → Listed (answer memory output asked text)
+unfolding answer within
+answer-listed memory output asked text =
+    by-cases Listed _ _ _ (λ b. no-lines _ _ _ _ _) (λ b. by-cases Listed _ _ _ (λ c. read-listed asked (read text)) (λ c. no-lines _ _ _ _ _))
+
+-- ---- for every call that lends so much working memory and output
+
+module _ (memory output : ℕ) (asked : Name) (text : List ℕ) where
+  abbrev told : Answer
+  told = answer memory output asked text
+
+  all-readable : Every Readable (told .lines)
+  all-readable =
+      readable (told .lines) (answer-listed memory output asked text .known) (plain-values (told .lines) (answer-plain memory output asked text))
+
+  -- reading the listing from place 0 gives its lines in order, and then the end
+  pub answer-given : Gives (listing told) 0 (told .lines)
+  answer-given = lines-given (told .lines) all-readable
+
+  -- the front of the listing is the text of its visible lines
+  pub answer-front : front-part (listing told) ≡ lines-text (shown false (told .lines))
+  answer-front = front-leads (told .lines) all-readable ∙ ap lines-text (answer-listed memory output asked text .fronts)
+
+  -- and so it is the visible part that the promise on hidden things speaks of
+  pub front-visible : front-part (listing told) ≡ visible-part (listing told)
+  front-visible = answer-front ∙ sym (answer-tied memory output asked text)

@@ -1,0 +1,1 @@
+// Theorems alone: every listing that a call gives is read back. This crate has no function.
