@@ -1,0 +1,32 @@
+// Where a normal form lies in the working memory, and how much of it there is; and how a check ends.
+
+// Places are words of the working memory; an item row has sixteen words, an equation row eight, a node and a parameter's name one.
+pub struct Form {
+    pub parameters: u32,
+    pub parameter_count: u32,
+    pub visible: u32,
+    pub visible_count: u32,
+    pub hidden: u32,
+    pub hidden_count: u32,
+    pub equations: u32,
+    pub equation_count: u32,
+    pub nodes: u32,
+    pub node_count: u32,
+}
+
+// An equation's row: its module's number, its position there, its tag, how many conditions it has, and its nodes: the conclusion's two terms
+// and then each condition's, in prefix order, from `start` of the form's nodes on.
+pub struct EquationRow {
+    pub home: u32,
+    pub position: u32,
+    pub tag: u32,
+    pub conditions: u32,
+    pub start: u32,
+    pub count: u32,
+}
+
+// How a check ends: passed, or refused with its number and the word of the culprit's name (0 for a blank one).
+pub enum Verdict {
+    Fine,
+    Stop(u32, u32),
+}

@@ -1,0 +1,96 @@
+-- One law for each way through the code, in the code's terms.
+use mathlib.Core.Path.{_≡_, refl, sym, ap, _∙_}
+use mathlib.Core.List.{List, [], _∷_}
+use Prim.Native.Nat.{ℕ, zero, suc, _+_, _-_, _/_, _%_, _<_, _≤_, min}
+use native.Mathlib.Nat.{not-suc-le-zero}
+use native.Mathlib.Numerals.{sub-one, add-one}
+use native.Mathlib.Omega.{arith}
+use borrow.Author.Needs.{needs}
+use borrow.Author.Tests.{lt-ltb, le-ltb}
+use lib.ListN.{length, set, getD, drop-of-length-le}
+use lib.Seq.{set-out, drop-cons, take-nil, take-length}
+use Rattle.meaning.specs.Lists.{pick}
+use Rattle.meaning.specs.Written.{digits, decimal}
+use Rattle.meaning.specs.Numbers.{name-size}
+use Rattle.names.specs.Word.{name-of}
+use Rattle.pen.specs.Pen.{Pen, pen, written, part}
+use Rattle.pen.proofs.Laws.{mark-on, mark-off, written-append}
+
+module _ (l : ℕ) (b at : ℕ) (o : List ℕ) where
+  pub put-in : at < l → pen (at + 1) (set o at b) ≡ written l (b ∷ []) (pen at o)
+  unfolding written
+  put-in h = sym (mark-on l b (pen at o) h)
+
+  pub put-past : at < l → length o ≤ at → pen (at + 1) o ≡ written l (b ∷ []) (pen at o)
+  put-past h k = ap (pen (at + 1)) (sym (set-out o at b k)) ∙ put-in h
+
+  pub put-full : l ≤ at → pen at o ≡ written l (b ∷ []) (pen at o)
+  unfolding written
+  put-full h = sym (mark-off l b (pen at o) h)
+
+-- a loop that copies the text's bytes from `start`, `size` of them: it is at i with n left, the next place is t, the list is o
+pub record Copying (l : ℕ) (s : List ℕ) (start size at : ℕ) (o₀ : List ℕ) (i n t : ℕ) (o : List ℕ) : Type 0 where
+  pub sized : length o ≡ length o₀
+  pub comes : written l (part s start size) (pen at o₀) ≡ written l (part s i n) (pen t o)
+
+module _ (l : ℕ) (s : List ℕ) where
+  pub copy-start : (i n t : ℕ) (o : List ℕ) → Copying l s i n t o i n t o
+  copy-start i n t o = record { sized = refl; comes = refl }
+
+  module _ (start size at : ℕ) (o₀ : List ℕ) (i n t : ℕ) (o : List ℕ) (v : Copying l s start size at o₀ i n t o) where
+    pub copy-again : (r : ℕ) (o′ : List ℕ) → 0 < n → i < length s → length o′ ≡ length o → pen r o′ ≡ written l (getD s i 0 ∷ []) (pen t o) → Copying l s start size at o₀ (i + 1) (n - 1) r o′
+    unfolding written
+    copy-again r o′ z h k e = record { sized = k ∙ v .sized; comes = v .comes ∙ go n z }
+      where
+        go : (n : ℕ) → 0 < n → written l (part s i n) (pen t o) ≡ written l (part s (i + 1) (n - 1)) (pen r o′)
+        go zero z = absurd (not-suc-le-zero z)
+        go (suc n) z = rw (drop-cons s i 0 h, e, add-one i, sub-one)
+
+    pub copy-end : n ≤ 0 → pen t o ≡ written l (part s start size) (pen at o₀)
+    unfolding written
+    copy-end h = sym (v .comes ∙ go n h)
+      where
+        go : (n : ℕ) → n ≤ 0 → written l (part s i n) (pen t o) ≡ pen t o
+        go zero h = refl
+        go (suc n) h = absurd (not-suc-le-zero h)
+
+    pub copy-past : length s ≤ i → pen t o ≡ written l (part s start size) (pen at o₀)
+    unfolding written
+    copy-past h = sym (v .comes ∙ rw (drop-of-length-le s h, take-nil n))
+
+module _ (l : ℕ) (p : Pen) where
+  pub digits-none : (n k : ℕ) → k ≡ 0 → p ≡ written l (digits k n) p
+  unfolding written digits
+  digits-none n k z = rw z
+
+  pub digits-one : (n k : ℕ) (q : Pen) → (k ≡ 0 → ⊥) → n < 10 → q ≡ written l ((48 + n) ∷ []) p → q ≡ written l (digits k n) p
+  unfolding digits pick
+  digits-one n zero q z h e = absurd (z refl)
+  digits-one n (suc k) q z h e = rw (lt-ltb n 10 h) e
+
+  pub digits-more : (n k : ℕ) (q w : Pen) → (k ≡ 0 → ⊥) → 10 ≤ n → q ≡ written l (digits (k - 1) (n / 10)) p → w ≡ written l ((48 + n % 10) ∷ []) q → w ≡ written l (digits k n) p
+  unfolding digits pick
+  digits-more n zero q w z h e f = absurd (z refl)
+  digits-more n (suc k) q w z h e f =
+      rw (le-ltb n 10 h, written-append l (digits k (n / 10)) ((48 + n % 10) ∷ []) p, ← rw sub-one at e) f
+
+pub text-done : (l : ℕ) (s : List ℕ) (p q : Pen) → q ≡ written l (part s 0 (length s)) p → q ≡ written l s p
+text-done l s p q e = e ∙ ap (λ (x : List ℕ). written l x p) (take-length s)
+
+module _ (l : ℕ) (s : List ℕ) (w : ℕ) (p q : Pen) where
+  sized : (size : ℕ) → size ≡ min (w % 64) name-size → q ≡ written l (part s (w / 64) size) p → q ≡ written l (name-of s w) p
+  unfolding name-of
+  sized size e f = f ∙ ap (λ (n : ℕ). written l (part s (w / 64) n) p) e
+
+  pub name-short : w % 64 < 40 → q ≡ written l (part s (w / 64) (w % 64)) p → q ≡ written l (name-of s w) p
+  name-short h e = sized (w % 64) (omega arith) e
+
+  pub name-long : 40 ≤ w % 64 → q ≡ written l (part s (w / 64) 40) p → q ≡ written l (name-of s w) p
+  name-long h e = sized 40 (omega arith) e
+
+pub number-done : (l n : ℕ) (p q : Pen) → q ≡ written l (digits 10 n) p → q ≡ written l (decimal n) p
+unfolding decimal
+number-done l n p q e = e
+
+-- what the answers of this crate hand to `search`
+pub ruleset cases = (put-in, put-past, put-full, copy-start, copy-again, copy-end, copy-past, digits-none, digits-one, digits-more, text-done, name-short, name-long, number-done, needs)

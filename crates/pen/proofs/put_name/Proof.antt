@@ -1,0 +1,20 @@
+-- `pen::put_name` meets its contract.
+-- Assumes nothing.
+use Rattle.pen.proofs.Cases.{cases}
+use borrow.Author.Needs.{needs}
+use Rattle.pen.proofs.put_name.Statement.{statement}
+use Rattle.pen.proofs.put_name.Tie as tie
+
+pub put-name-spec : {M : Type 1} → statement M
+put-name-spec =
+    tie.close
+    (tie.spec
+    (λ c. search needs)  -- cast-start
+    (λ c. search needs)  -- cast-put-bytes
+    (λ c κs. search needs)  -- put-bytes-requires
+    (λ c. search needs)  -- same-length
+    (λ c. search cases)  -- returns
+    (λ c κs. search needs)  -- put-bytes-requires-2
+    (λ c. search needs)  -- same-length-2
+    (λ c. search cases)  -- returns-2
+    )

@@ -1,0 +1,39 @@
+-- Bytes laid over a list from a place on. The place stops at a limit; what would stand past the end of the list is lost.
+use Prim.Native.Nat.{ℕ, zero, suc, _+_}
+use mathlib.Core.List.{List, [], _∷_, _++_}
+use lib.Dec.{ltb}
+use lib.ListN.{set, take, drop}
+use Rattle.meaning.specs.Lists.{pick}
+
+-- where the next byte goes, and the list as it is
+pub record Pen : Type 0 where
+  pub at : ℕ
+  pub out : List ℕ
+
+abbrev pub pen : ℕ → List ℕ → Pen
+pen n o = record { at = n; out = o }
+
+-- one byte
+unfoldable pub mark : ℕ → ℕ → Pen → Pen
+mark limit b p = pick (ltb (p .at) limit) (pen (p .at + 1) (set (p .out) (p .at) b)) p
+
+-- bytes, one after the other
+unfoldable pub written : ℕ → List ℕ → Pen → Pen
+written limit [] p = p
+written limit (b ∷ bs) p = written limit bs (mark limit b p)
+
+-- as much of a text, from a place on, as there is
+abbrev pub part : List ℕ → ℕ → ℕ → List ℕ
+part text start size = take size (drop start text)
+
+-- ---- rows
+
+-- what each of n rows from i on is written as
+unfoldable pub rows-texts : (ℕ → List ℕ) → ℕ → ℕ → List (List ℕ)
+rows-texts f i zero = []
+rows-texts f i (suc n) = f i ∷ rows-texts f (i + 1) n
+
+-- one after the other
+unfoldable pub rows-text : (ℕ → List ℕ) → ℕ → ℕ → List ℕ
+rows-text f i zero = []
+rows-text f i (suc n) = f i ++ rows-text f (i + 1) n

@@ -1,0 +1,93 @@
+// Bytes written to lent output. The same calls count and write: lent no output, they only move the place.
+ghost use mathlib.Core.Path.{_≡_};
+ghost use mathlib.Core.List.{[], _∷_};
+ghost use Rattle.meaning.specs.Written.{digits, decimal, numbered};
+ghost use Rattle.names.specs.Word.{name-of};
+ghost use Rattle.pen.specs.Pen.{pen, written, part};
+
+// One byte at `at`. The next place; it never passes the limit.
+pub fn put(out: &mut [u8], at: usize, limit: usize, byte: u8) -> usize
+    ensures { λ r. ⌜ pen r (now (out .exit)) ≡ written limit (byte ∷ []) (pen at (now (out .entry))) ⌝ }
+{
+    if at < limit {
+        if at < out.len() {
+            out[at] = byte;
+            return at + 1;
+        }
+        return at + 1;
+    }
+    at
+}
+
+// The text's bytes from `start` on, `size` of them or as many as there are.
+pub fn put_bytes(
+    out: &mut [u8],
+    at: usize,
+    limit: usize,
+    text: &[u8],
+    start: usize,
+    size: usize,
+) -> usize
+    ensures { λ r. ⌜ pen r (now (out .exit)) ≡ written limit (part (now (text .entry)) start size) (pen at (now (out .entry))) ⌝ }
+{
+    let mut to = at;
+    let mut i = start;
+    let mut left = size;
+    while 0 < left {
+        if text.len() <= i {
+            return to;
+        }
+        to = put(out, to, limit, text[i]);
+        i += 1;
+        left -= 1;
+    }
+    to
+}
+
+// A whole text.
+pub fn put_text(out: &mut [u8], at: usize, limit: usize, text: &[u8]) -> usize
+    ensures { λ r. ⌜ pen r (now (out .exit)) ≡ written limit (now (text .entry)) (pen at (now (out .entry))) ⌝ }
+{
+    put_bytes(out, at, limit, text, 0, text.len())
+}
+
+// The name w of the text.
+pub fn put_name(out: &mut [u8], at: usize, limit: usize, text: &[u8], w: u32) -> usize
+    ensures { λ r. ⌜ pen r (now (out .exit)) ≡ written limit (name-of (now (text .entry)) w) (pen at (now (out .entry))) ⌝ }
+{
+    let start = (w / 64) as usize;
+    if w % 64 < 40 {
+        return put_bytes(out, at, limit, text, start, (w % 64) as usize);
+    }
+    put_bytes(out, at, limit, text, start, 40)
+}
+
+// The digits of n, `size` of them at most.
+fn put_digits(out: &mut [u8], at: usize, limit: usize, n: u32, size: usize) -> usize
+    ensures { λ r. ⌜ pen r (now (out .exit)) ≡ written limit (digits size n) (pen at (now (out .entry))) ⌝ }
+{
+    if size == 0 {
+        return at;
+    }
+    if n < 10 {
+        return put(out, at, limit, (48 + n) as u8);
+    }
+    let to = put_digits(out, at, limit, n / 10, size - 1);
+    put(out, to, limit, (48 + n % 10) as u8)
+}
+
+// A number in decimal.
+pub fn put_number(out: &mut [u8], at: usize, limit: usize, n: u32) -> usize
+    ensures { λ r. ⌜ pen r (now (out .exit)) ≡ written limit (decimal n) (pen at (now (out .entry))) ⌝ }
+{
+    put_digits(out, at, limit, n, 10)
+}
+
+// The number of a hidden item.
+pub fn put_numbered(out: &mut [u8], at: usize, limit: usize, n: u32) -> usize
+    ensures { λ r. ⌜ pen r (now (out .exit)) ≡ written limit (numbered n) (pen at (now (out .entry))) ⌝ }
+{
+    let a = put(out, at, limit, b'{');
+    let b = put_number(out, a, limit, n);
+    put(out, b, limit, b'}')
+}

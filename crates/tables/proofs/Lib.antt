@@ -1,0 +1,5 @@
+pub mod Auto
+pub mod Scans
+pub mod Told
+pub mod Moves
+pub mod Alike

@@ -1,0 +1,14 @@
+-- `tables::entries::sort_place` meets its contract.
+-- Assumes nothing.
+use Rattle.tables.proofs.Scans.{sort-found}
+use borrow.Author.Needs.{needs}
+use Rattle.tables.proofs.entries.sort_place.Statement.{statement}
+use Rattle.tables.proofs.entries.sort_place.Tie as tie
+
+pub sort-place-spec : {M : Type 1} → statement M
+sort-place-spec =
+    tie.close
+    (tie.spec
+    (λ c κs. search needs)  -- next-with-requires
+    (λ c. search (sort-found, needs))  -- returns
+    )

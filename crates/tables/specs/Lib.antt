@@ -1,0 +1,5 @@
+pub mod Entries
+pub mod Rows
+pub mod Kinds
+pub mod Decides
+pub mod RowLaws

@@ -1,0 +1,195 @@
+// Words of a memory, and what the tape says at a place: roles, names, and where a declaration is from.
+use super::Origin;
+use super::Section;
+use names::same_name;
+ghost use mathlib.Core.Path.{_≡_};
+ghost use Prim.Native.Nat.{_-_};
+ghost use lib.ListN.{getD, set};
+ghost use Rattle.meaning.specs.Names.{same};
+ghost use Rattle.names.specs.Word.{name-of};
+ghost use Rattle.tables.specs.Entries.{role-at, word-at, name-at, last-with, next-with, inputs-from, is-function-role, is-parameter-role, is-export-role, arity-at, sort-place, home-at, section-at, origin-at};
+ghost use Rattle.tables.specs.Kinds.{kind-at};
+
+// The word at i; 0 past the end.
+pub fn word_at(t: &[u32], i: usize) -> u32
+    ensures { λ r. ⌜ r ≡ getD (now (t .entry)) i 0 ⌝ }
+{
+    if i < t.len() { t[i] } else { 0 }
+}
+
+// v at i; past the end nothing is stored.
+pub fn put_word(t: &mut [u32], i: usize, v: u32)
+    ensures { λ r. ⌜ now (t .exit) ≡ set (now (t .entry)) i v ⌝ }
+{
+    if i < t.len() {
+        t[i] = v;
+        return;
+    }
+}
+
+// Are a and b the same name? One word is one name, with no look at the text.
+pub fn same_word(text: &[u8], a: u32, b: u32) -> bool
+    ensures { λ r. ⌜ r ≡ same (name-of (now (text .entry)) a) (name-of (now (text .entry)) b) ⌝ }
+{
+    if a == b {
+        return true;
+    }
+    same_name(text, a, b)
+}
+
+// What stands at i.
+pub fn role_at(tape: &[u32], i: usize) -> u32
+    ensures { λ r. ⌜ r ≡ role-at (now (tape .entry)) i ⌝ }
+{
+    word_at(tape, i) % 32
+}
+
+// The word of the name at i.
+pub fn name_at(tape: &[u32], i: usize) -> u32
+    ensures { λ r. ⌜ r ≡ word-at (now (tape .entry)) i ⌝ }
+{
+    word_at(tape, i) / 32
+}
+
+// Is the name at i the name at j?
+pub fn same_name_at(text: &[u8], tape: &[u32], i: usize, j: usize) -> bool
+    ensures { λ r. ⌜ r ≡ same (name-at (now (text .entry)) (now (tape .entry)) i) (name-at (now (text .entry)) (now (tape .entry)) j) ⌝ }
+{
+    same_word(text, name_at(tape, i), name_at(tape, j))
+}
+
+// The last place up to i that has the role; 0 if none has.
+pub fn last_with(tape: &[u32], role: u32, i: usize) -> usize
+    ensures { λ r. ⌜ r ≡ last-with role (now (tape .entry)) i ⌝ }
+{
+    let mut j = i;
+    while 0 < j {
+        if role_at(tape, j) == role {
+            return j;
+        }
+        j -= 1;
+    }
+    0
+}
+
+// The first place from i up to `end` that has the role; the place where it ends if none has.
+pub fn next_with(tape: &[u32], role: u32, i: usize, end: usize) -> usize
+    ensures { λ r. ⌜ r ≡ next-with role (now (tape .entry)) i (end - i) ⌝ }
+{
+    let mut j = i;
+    while j < end {
+        if role_at(tape, j) == role {
+            return j;
+        }
+        j += 1;
+    }
+    j
+}
+
+// How many inputs stand from i on, before `end`.
+pub fn inputs_from(tape: &[u32], i: usize, end: usize) -> usize
+    ensures { λ r. ⌜ r ≡ inputs-from (now (tape .entry)) i (end - i) ⌝ }
+{
+    let mut j = i;
+    while j < end {
+        if role_at(tape, j) == 9 {
+            j += 1;
+        } else {
+            return j - i;
+        }
+    }
+    j - i
+}
+
+pub fn is_function_role(role: u32) -> bool
+    ensures { λ r. ⌜ r ≡ is-function-role role ⌝ }
+{
+    if role == 4 {
+        return true;
+    }
+    if role == 6 {
+        return true;
+    }
+    role == 8
+}
+
+pub fn is_parameter_role(role: u32) -> bool
+    ensures { λ r. ⌜ r ≡ is-parameter-role role ⌝ }
+{
+    if role == 3 {
+        return true;
+    }
+    role == 4
+}
+
+pub fn is_export_role(role: u32) -> bool
+    ensures { λ r. ⌜ r ≡ is-export-role role ⌝ }
+{
+    if role == 5 {
+        return true;
+    }
+    role == 6
+}
+
+// How many inputs the function declared at d has.
+pub fn arity_at(tape: &[u32], d: u32) -> u32
+    ensures { λ r. ⌜ r ≡ arity-at (now (tape .entry)) d ⌝ }
+{
+    let i = d as usize + 1;
+    inputs_from(tape, i, i + 8) as u32
+}
+
+// What is declared at d, as a row's kind.
+pub fn kind_at(tape: &[u32], d: u32) -> u32
+    ensures { λ r. ⌜ r ≡ kind-at (now (tape .entry)) d ⌝ }
+{
+    let role = role_at(tape, d as usize);
+    if is_function_role(role) {
+        return arity_at(tape, d) + 2;
+    }
+    if role == 17 {
+        return 1;
+    }
+    0
+}
+
+// Where the sort of the variable declared at d stands.
+pub fn sort_place(tape: &[u32], d: u32) -> usize
+    ensures { λ r. ⌜ r ≡ sort-place (now (tape .entry)) d ⌝ }
+{
+    next_with(tape, 18, d as usize, tape.len())
+}
+
+// The name's word of the module that d stands in.
+pub fn home_at(tape: &[u32], d: u32) -> u32
+    ensures { λ r. ⌜ r ≡ home-at (now (tape .entry)) d ⌝ }
+{
+    name_at(tape, last_with(tape, 1, d as usize))
+}
+
+// The section that d stands in.
+pub fn section_at(tape: &[u32], d: u32) -> Section
+    ensures { λ r. ⌜ r ≡ section-at (now (tape .entry)) d ⌝ }
+{
+    let role = role_at(tape, d as usize);
+    if is_parameter_role(role) {
+        return Section::Parameter(name_at(tape, last_with(tape, 2, d as usize)));
+    }
+    if is_export_role(role) {
+        return Section::Export;
+    }
+    Section::Hidden
+}
+
+// Where what is declared at d is from.
+pub fn origin_at(tape: &[u32], d: u32) -> Origin
+    ensures { λ r. ⌜ r ≡ origin-at (now (tape .entry)) d ⌝ }
+{
+    let home = home_at(tape, d);
+    let section = section_at(tape, d);
+    Origin {
+        home,
+        section,
+        place: d,
+    }
+}

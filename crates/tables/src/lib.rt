@@ -1,0 +1,29 @@
+// Items, origins and sorts as words of the working memory: rows moved in and out as structs by value, and the tests on them.
+pub mod declarations;
+pub mod entries;
+pub mod rows;
+pub mod sections;
+pub mod sorts;
+
+// Where an item is declared, and where it stands. A parameter carries its name's word.
+pub enum Section {
+    Export,
+    Hidden,
+    Parameter(u32),
+}
+
+// The home module's name, the section, and the place on the tape of the declaration.
+pub struct Origin {
+    pub home: u32,
+    pub section: Section,
+    pub place: u32,
+}
+
+// An item: kind is 0 for a sort, 1 for a variable, 2 + n for a function of n inputs. The output, or a variable's sort, is the last of sorts.
+pub struct Row {
+    pub standing: Section,
+    pub name: u32,
+    pub kind: u32,
+    pub origin: Origin,
+    pub sorts: [u32; 9],
+}

@@ -1,0 +1,1 @@
+// The tape's entries as definitions: this crate has no code.

@@ -1,0 +1,29 @@
+-- `writing::put_others` meets its contract.
+-- Assumes nothing.
+use Prim.Native.Nat.{_-_}
+use Rattle.pen.proofs.Rows.{Writing}
+use Rattle.writing.specs.Parts.{marked-name}
+use Rattle.writing.proofs.Cases.{cases}
+use Rattle.writing.proofs.put_others.Statement.{statement}
+use Rattle.writing.proofs.put_others.Tie as tie
+
+abbrev Inv-loop : tie.InvT-loop
+Inv-loop out₀ at limit text tape first end to₀ i₀ out to i = Writing limit (marked-name text tape) first end at out₀ i to out
+
+abbrev μ-loop : tie.MeasureT-loop
+μ-loop out₀ at limit text tape first end to₀ i₀ out to i = end - i
+
+pub put-others-spec : {M : Type 1} → statement M
+put-others-spec =
+    tie.close
+    (tie.spec
+    Inv-loop
+    μ-loop
+    (λ c. search cases)  -- loop-holds
+    (λ c κs. search cases)  -- put-marked-requires
+    (λ c. search cases)  -- add-i
+    (λ c. search cases)  -- loop-less
+    (λ c. search cases)  -- loop-again
+    (λ c. search cases)  -- same-length
+    (λ c. search cases)  -- returns
+    )
