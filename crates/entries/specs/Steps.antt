@@ -1,0 +1,44 @@
+-- What the code's small functions answer, which go on from an answer and leave the tape alone.
+use mathlib.Core.Path.{_≡_}
+use Prim.Native.Nat.{ℕ, _-_}
+use mathlib.Core.Bool.{Bool, true, false}
+use mathlib.Core.List.{List, []}
+use lib.Dec.{leb}
+use Rattle.types.specs.declared.Token.{Token}
+use Rattle.meaning.specs.Numbers.{name-size, module-twice}
+use Rattle.entries.specs.declared.Place.{Place}
+use Rattle.entries.specs.declared.Reading.{Reading}
+use Rattle.entries.specs.declared.Reading.the-variants.{Done, Refused}
+use Rattle.entries.specs.Model.{Writer, out, onward, refuse, word, is-word-of}
+
+-- the answer of a writer that writes nothing
+unfoldable pub still : Writer → Reading → Reading
+still w r = onward r [] w .answer
+
+pub record Quiet (w : Writer) : Type 0 where
+  pub leaves : (p : Place) (t : List ℕ) → w p t ≡ out (w p [] .answer) t
+
+-- does the next token's kind pass a test?
+unfoldable pub next-passes : (ℕ → Bool) → Reading → Bool
+next-passes test (Refused k q) = false
+next-passes test (Done p) = test (p .token .kind)
+
+-- is the next token no longer than a name may be?
+unfoldable pub next-short : Reading → Bool
+next-short (Refused k q) = false
+next-short (Done p) = leb (p .token .end - p .token .start) name-size
+
+-- the word of the next token
+unfoldable pub next-word : Reading → ℕ
+next-word (Refused k q) = 0
+next-word (Done p) = word (p .token)
+
+-- is the next token the name of that word?
+unfoldable pub next-named : List ℕ → ℕ → Reading → Bool
+next-named text w (Refused k q) = false
+next-named text w (Done p) = is-word-of text w (p .token)
+
+-- refused where reading was, if it went on from there
+unfoldable pub twice : Reading → Reading → Reading
+twice at (Refused k q) = Refused k q
+twice at (Done p) = still (refuse module-twice) at

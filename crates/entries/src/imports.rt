@@ -1,0 +1,168 @@
+// Import expressions: renamings and bindings with their pairs.
+use super::Reading;
+use super::kinds::{IDENT, ARROW, BOUND, BY, IMPORTS, RENAMED, TO};
+use super::roles::{IMPORT, RENAMING, BINDING, OLD, NEW, ACTUAL};
+use super::steps::{next_is, refuse, unexpected, step, expect, mark, read_name};
+ghost use mathlib.Core.Path.{_≡_};
+ghost use Rattle.meaning.specs.Names.{byte};
+ghost use Rattle.meaning.specs.Numbers.{binding-limit, pair-limit};
+ghost use Rattle.meaning.specs.Tokens.{imports-key};
+ghost use Rattle.meaning.specs.Grammar.{is-name};
+ghost use Rattle.entries.specs.Model.{out, onward, separated, many, some-of, optional, pair, pairs, renamed, bound, perhaps-renamed, modifier, modified, import-expression, imports};
+
+fn read_pair(text: &[u8], tape: &mut [u32], at: Reading) -> Reading
+    ensures { λ r. ⌜ out r (now (tape .exit)) ≡ onward at (now (tape .entry)) (pair (now (text .entry))) ⌝ }
+{
+    let a = read_name(text, tape, at, OLD);
+    let b = expect(text, a, ARROW);
+    read_name(text, tape, b, NEW)
+}
+
+fn pair_list(text: &[u8], tape: &mut [u32], at: Reading) -> Reading
+    ensures { λ r. ⌜ out r (now (tape .exit)) ≡ onward at (now (tape .entry)) (separated (now (text .entry)) pair-limit (byte ",") is-name (pair (now (text .entry)))) ⌝ }
+{
+    let mut here = at;
+    let mut left: usize = 32;
+    while 0 < left {
+        let read = read_pair(text, tape, here);
+        if next_is(read, b',') {
+            here = step(text, read);
+            left -= 1;
+        } else {
+            return read;
+        }
+    }
+    if next_is(here, IDENT) {
+        return refuse(here, 4);
+    }
+    unexpected(here)
+}
+
+fn read_pairs(text: &[u8], tape: &mut [u32], at: Reading) -> Reading
+    ensures { λ r. ⌜ out r (now (tape .exit)) ≡ onward at (now (tape .entry)) (pairs (now (text .entry))) ⌝ }
+{
+    let a = expect(text, at, b'[');
+    let b = pair_list(text, tape, a);
+    expect(text, b, b']')
+}
+
+fn read_renamed(text: &[u8], tape: &mut [u32], at: Reading) -> Reading
+    ensures { λ r. ⌜ out r (now (tape .exit)) ≡ onward at (now (tape .entry)) (renamed (now (text .entry))) ⌝ }
+{
+    let a = expect(text, at, RENAMED);
+    let b = mark(tape, a, RENAMING);
+    let c = expect(text, b, BY);
+    read_pairs(text, tape, c)
+}
+
+fn read_bound(text: &[u8], tape: &mut [u32], at: Reading) -> Reading
+    ensures { λ r. ⌜ out r (now (tape .exit)) ≡ onward at (now (tape .entry)) (bound (now (text .entry))) ⌝ }
+{
+    let a = read_name(text, tape, at, BINDING);
+    let b = expect(text, a, BOUND);
+    let c = expect(text, b, BY);
+    let d = read_pairs(text, tape, c);
+    let e = expect(text, d, TO);
+    read_name(text, tape, e, ACTUAL)
+}
+
+// Bindings for as long as one begins, four at most.
+fn read_bindings(text: &[u8], tape: &mut [u32], at: Reading) -> Reading
+    ensures { λ r. ⌜ out r (now (tape .exit)) ≡ onward at (now (tape .entry)) (many (now (text .entry)) binding-limit is-name (bound (now (text .entry)))) ⌝ }
+{
+    let mut here = at;
+    let mut left: usize = 4;
+    while 0 < left {
+        if next_is(here, IDENT) {
+            here = read_bound(text, tape, here);
+            left -= 1;
+        } else {
+            return here;
+        }
+    }
+    if next_is(here, IDENT) {
+        return refuse(here, 4);
+    }
+    here
+}
+
+// One binding at least.
+fn some_bindings(text: &[u8], tape: &mut [u32], at: Reading) -> Reading
+    ensures { λ r. ⌜ out r (now (tape .exit)) ≡ onward at (now (tape .entry)) (some-of (now (text .entry)) binding-limit is-name (bound (now (text .entry)))) ⌝ }
+{
+    if next_is(at, IDENT) {
+        return read_bindings(text, tape, at);
+    }
+    unexpected(at)
+}
+
+fn perhaps_renamed(text: &[u8], tape: &mut [u32], at: Reading) -> Reading
+    ensures { λ r. ⌜ out r (now (tape .exit)) ≡ onward at (now (tape .entry)) (perhaps-renamed (now (text .entry))) ⌝ }
+{
+    if next_is(at, RENAMED) {
+        return read_renamed(text, tape, at);
+    }
+    at
+}
+
+// Renamed, and perhaps bindings; or bindings, and perhaps renamed.
+fn read_modifier(text: &[u8], tape: &mut [u32], at: Reading) -> Reading
+    ensures { λ r. ⌜ out r (now (tape .exit)) ≡ onward at (now (tape .entry)) (modifier (now (text .entry))) ⌝ }
+{
+    if next_is(at, RENAMED) {
+        let a = read_renamed(text, tape, at);
+        return read_bindings(text, tape, a);
+    }
+    let b = some_bindings(text, tape, at);
+    perhaps_renamed(text, tape, b)
+}
+
+// The clauses of an import expression, if it has any.
+fn read_clauses(text: &[u8], tape: &mut [u32], at: Reading) -> Reading
+    ensures { λ r. ⌜ out r (now (tape .exit)) ≡ onward at (now (tape .entry)) (optional (now (text .entry)) (byte "{") (modified (now (text .entry)))) ⌝ }
+{
+    if next_is(at, b'{') {
+        let a = step(text, at);
+        let b = read_modifier(text, tape, a);
+        return expect(text, b, b'}');
+    }
+    at
+}
+
+fn read_import(text: &[u8], tape: &mut [u32], at: Reading) -> Reading
+    ensures { λ r. ⌜ out r (now (tape .exit)) ≡ onward at (now (tape .entry)) (import-expression (now (text .entry))) ⌝ }
+{
+    let a = read_name(text, tape, at, IMPORT);
+    read_clauses(text, tape, a)
+}
+
+fn read_imports(text: &[u8], tape: &mut [u32], at: Reading) -> Reading
+    ensures { λ r. ⌜ out r (now (tape .exit)) ≡ onward at (now (tape .entry)) (imports (now (text .entry))) ⌝ }
+{
+    let mut here = at;
+    let mut left: usize = 16;
+    while 0 < left {
+        let read = read_import(text, tape, here);
+        if next_is(read, b',') {
+            here = step(text, read);
+            left -= 1;
+        } else {
+            return read;
+        }
+    }
+    if next_is(here, IDENT) {
+        return refuse(here, 4);
+    }
+    unexpected(here)
+}
+
+// The imports of a module, if it has any.
+pub fn section_imports(text: &[u8], tape: &mut [u32], at: Reading) -> Reading
+    ensures { λ r. ⌜ out r (now (tape .exit)) ≡ onward at (now (tape .entry)) (optional (now (text .entry)) imports-key (imports (now (text .entry)))) ⌝ }
+{
+    if next_is(at, IMPORTS) {
+        let a = step(text, at);
+        return read_imports(text, tape, a);
+    }
+    at
+}

@@ -1,0 +1,212 @@
+// Single tokens and single entries. Each step goes on from an answer, and does nothing where that is a refusal.
+use types::Token;
+use super::{Place, Reading};
+use super::kinds::{IDENT, NO_TOKEN};
+ghost use mathlib.Core.Path.{_≡_};
+ghost use Prim.Native.Nat.{_-_};
+ghost use Rattle.meaning.specs.Grammar.{is, begins-term};
+ghost use Rattle.entries.specs.Model.{out, onward, refuse, unexpected, word, written, mark, step, expect, short-name, name, this-name};
+ghost use Rattle.entries.specs.Steps.{still, next-passes, next-short, next-word, next-named};
+
+// Is the next token of this kind?
+pub fn next_is(at: Reading, kind: u8) -> bool
+    ensures { λ r. ⌜ r ≡ next-passes (is kind) at ⌝ }
+{
+    match at {
+        Reading::Refused { number, place } => false,
+        Reading::Done(p) => {
+            let t = p.token;
+            let k = t.kind;
+            k == kind
+        }
+    }
+}
+
+// May the next token begin a term?
+pub fn begins_term(at: Reading) -> bool
+    ensures { λ r. ⌜ r ≡ next-passes begins-term at ⌝ }
+{
+    if next_is(at, IDENT) {
+        return true;
+    }
+    next_is(at, b'(')
+}
+
+// Refused, at the next token.
+pub fn refuse(at: Reading, number: u8) -> Reading
+    ensures { λ r. ⌜ r ≡ still (refuse number) at ⌝ }
+{
+    match at {
+        Reading::Refused { number, place } => Reading::Refused { number, place },
+        Reading::Done(p) => {
+            let t = p.token;
+            let place = t.start;
+            Reading::Refused { number, place }
+        }
+    }
+}
+
+// The next token may not stand here.
+pub fn unexpected(at: Reading) -> Reading
+    ensures { λ r. ⌜ r ≡ still unexpected at ⌝ }
+{
+    if next_is(at, NO_TOKEN) {
+        return refuse(at, 1);
+    }
+    refuse(at, 2)
+}
+
+// The next token, passed over.
+pub fn step(text: &[u8], at: Reading) -> Reading
+    ensures { λ r. ⌜ r ≡ still (step (now (text .entry))) at ⌝ }
+{
+    match at {
+        Reading::Refused { number, place } => Reading::Refused { number, place },
+        Reading::Done(p) => {
+            let t = p.token;
+            let end = t.end;
+            let token = tokens::next_token(text, end);
+            let nodes = p.nodes;
+            let entries = p.entries;
+            Reading::Done(Place {
+                token,
+                nodes,
+                entries,
+            })
+        }
+    }
+}
+
+// A token of this kind, passed over.
+pub fn expect(text: &[u8], at: Reading, kind: u8) -> Reading
+    ensures { λ r. ⌜ r ≡ still (expect (now (text .entry)) kind) at ⌝ }
+{
+    if next_is(at, kind) {
+        return step(text, at);
+    }
+    unexpected(at)
+}
+
+// How many bytes a token has.
+fn size_of(t: Token) -> usize
+    ensures { λ r. ⌜ r ≡ t .end - t .start ⌝ }
+{
+    let start = t.start;
+    let end = t.end;
+    if start <= end {
+        return end - start;
+    }
+    0
+}
+
+// The word of a name: its place and its size.
+fn word_of(t: Token) -> u32
+    ensures { λ r. ⌜ r ≡ word t ⌝ }
+{
+    let start = t.start;
+    let size = size_of(t);
+    (start % 65536 * 64 + size % 64) as u32
+}
+
+// The word of the next token.
+pub fn next_word(at: Reading) -> u32
+    ensures { λ r. ⌜ r ≡ next-word at ⌝ }
+{
+    match at {
+        Reading::Refused { number, place } => 0,
+        Reading::Done(p) => {
+            let t = p.token;
+            word_of(t)
+        }
+    }
+}
+
+// Is the next token no longer than a name may be?
+fn next_short(at: Reading) -> bool
+    ensures { λ r. ⌜ r ≡ next-short at ⌝ }
+{
+    match at {
+        Reading::Refused { number, place } => false,
+        Reading::Done(p) => {
+            let t = p.token;
+            let size = size_of(t);
+            size <= 40
+        }
+    }
+}
+
+// A word more on the tape, where there is room.
+pub fn write(tape: &mut [u32], at: Reading, word: u32) -> Reading
+    ensures { λ r. ⌜ out r (now (tape .exit)) ≡ onward at (now (tape .entry)) (written word) ⌝ }
+{
+    match at {
+        Reading::Refused { number, place } => Reading::Refused { number, place },
+        Reading::Done(p) => {
+            let n = p.entries;
+            if n < tape.len() {
+                tape[n] = word;
+                let token = p.token;
+                let nodes = p.nodes;
+                return Reading::Done(Place {
+                    token,
+                    nodes,
+                    entries: n + 1,
+                });
+            }
+            Reading::Done(p)
+        }
+    }
+}
+
+// An entry without a name.
+pub fn mark(tape: &mut [u32], at: Reading, role: u8) -> Reading
+    ensures { λ r. ⌜ out r (now (tape .exit)) ≡ onward at (now (tape .entry)) (mark role) ⌝ }
+{
+    write(tape, at, role as u32)
+}
+
+// A name of bounded size, written with its role.
+fn short_name(text: &[u8], tape: &mut [u32], at: Reading, role: u8) -> Reading
+    ensures { λ r. ⌜ out r (now (tape .exit)) ≡ onward at (now (tape .entry)) (short-name (now (text .entry)) role) ⌝ }
+{
+    if next_short(at) {
+        let w = next_word(at);
+        let a = write(tape, at, w * 32 + role as u32);
+        return step(text, a);
+    }
+    refuse(at, 4)
+}
+
+// A name, written with its role.
+pub fn read_name(text: &[u8], tape: &mut [u32], at: Reading, role: u8) -> Reading
+    ensures { λ r. ⌜ out r (now (tape .exit)) ≡ onward at (now (tape .entry)) (name (now (text .entry)) role) ⌝ }
+{
+    if next_is(at, IDENT) {
+        return short_name(text, tape, at, role);
+    }
+    unexpected(at)
+}
+
+// Is the next token the name of that word?
+fn next_named(text: &[u8], at: Reading, w: u32) -> bool
+    ensures { λ r. ⌜ r ≡ next-named (now (text .entry)) w at ⌝ }
+{
+    if next_short(at) {
+        let v = next_word(at);
+        return names::same_name(text, w, v);
+    }
+    false
+}
+
+// The name after `end`, which is that of what it closes.
+pub fn this_name(text: &[u8], at: Reading, w: u32) -> Reading
+    ensures { λ r. ⌜ r ≡ still (this-name (now (text .entry)) w) at ⌝ }
+{
+    if next_is(at, IDENT) {
+        if next_named(text, at, w) {
+            return step(text, at);
+        }
+        return refuse(at, 3);
+    }
+    unexpected(at)
+}

@@ -1,0 +1,10 @@
+pub mod Matches
+pub mod Lines
+pub mod Steps
+pub mod Lists
+pub mod Rules
+pub mod Terms
+pub mod Equations
+pub mod Declared
+pub mod Modules
+pub mod Meant

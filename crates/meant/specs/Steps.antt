@@ -1,0 +1,247 @@
+-- Single tokens: one passed over, a name, an entry without a name.
+use mathlib.Core.Path.{_≡_, refl, sym, ap, _∙_}
+use Prim.Native.Nat.{ℕ, _+_, _-_, _*_, _/_, _%_, _≤_, _<_, min}
+use mathlib.Core.Bool.{true, false}
+use mathlib.Core.List.{List, [], _∷_, _++_, append-nil, map}
+use native.Mathlib.Omega.{arith}
+use native.Mathlib.Numerals.{add-one}
+use lib.Dec.{eqb, leb, ltb}
+use lib.ListN.{length, set, take, drop, length-set, length-take, length-drop}
+use lib.Seq.{take-suc-set, drop-set-lt}
+use borrow.Author.Tests.{ltb-true, leb-true, leb-false, eqb-true, eqb-false, lt-ltb}
+use Rattle.types.specs.declared.Token.{Token}
+use Rattle.meaning.specs.Lists.{pick}
+use Rattle.meaning.specs.Laws.{by-cases}
+use Rattle.meaning.specs.Names.{Name, slice, same}
+use Rattle.meaning.specs.Numbers.{text-size, name-size, over-size, other-end}
+use Rattle.meaning.specs.Tokens.{token-at, ident}
+use Rattle.meaning.specs.Grammar.{State, done, Parser, after, _>>=_, return, is, is-name}
+use Rattle.meaning.specs.Grammar
+use Rattle.meaning.specs.GrammarLaws.{at}
+use Rattle.names.specs.Word.{name-of, name-slice}
+use Rattle.names.proofs.Compared.{same-lengths}
+use Rattle.tokens.proofs.Bounds.{token-after, token-forward, token-within, token-filled}
+use Rattle.entries.specs.declared.Place.{Place}
+use Rattle.tape.specs.Tape.{Entry, entry, entries, spelled}
+use Rattle.entries.specs.Model.{Writer, onward, _>>_, word, place}
+use Rattle.entries.specs.Model
+use Rattle.meant.specs.Matches.{Stands, Ready, Step, state, Meaning, Matches, both-done, both-refused, Reads, means, next-ready, and-then}
+use Rattle.meant.specs.Lines.{whether, weaker, choice, by-next, either, unexpected-meant, refuse-meant, line}
+
+module _ {text : List ℕ} {i : ℕ} {p : Place} {t : List ℕ} (r : Ready text i p t) where
+  -- ---- where the next token lies
+
+  pub forward : p .token .start ≤ p .token .end
+  forward = token-forward text (r .stands .from) (p .token) (r .stands .found)
+
+  pub ends-within : p .token .end ≤ length text
+  ends-within = token-within text (r .stands .from) (p .token) (r .stands .found) (r .stands .within)
+
+  pub after-it : Stands text (token-at text (p .token .end))
+  after-it = record { from = p .token .end; within = ends-within; found = refl }
+
+  follows : p .token .end ≤ token-at text (p .token .end) .start
+  follows = token-after text (p .token .end) (token-at text (p .token .end)) refl
+
+  -- a token that may be expected has bytes
+  filled : (k : ℕ) → eqb k 0 ≡ false → eqb k 4 ≡ false → eqb (p .token .kind) k ≡ true → p .token .start < p .token .end
+  filled k a b e =
+      let h = eqb-true (p .token .kind) k e in
+      token-filled text (r .stands .from) (p .token) (r .stands .found) (λ z. eqb-false k 0 a (sym h ∙ z)) (λ z. eqb-false k 4 b (sym h ∙ z))
+
+  -- ---- passed over
+
+  passed : (j : ℕ) → p .token .start + j ≤ p .token .end + i
+      → Step text i j p t (place (token-at text (p .token .end)) (p .nodes) (p .entries)) t []
+  passed j h = record {
+    stands = after-it;
+    paid = omega (arith, follows);
+    size = refl;
+    count = omega arith;
+    said = sym (append-nil (entries text (p .entries) t));
+    left = refl;
+  }
+
+  -- ---- an entry
+
+  one-more : (w : ℕ) → p .entries < length t
+      → entries text (p .entries + 1) (set t (p .entries) w) ≡ entries text (p .entries) t ++ (spelled text w ∷ [])
+  unfolding entries
+  one-more w l = rw (add-one, take-suc-set t (p .entries) w l) (map-end (take (p .entries) t))
+    where
+      map-end : (ws : List ℕ) → map (spelled text) (ws ++ (w ∷ [])) ≡ map (spelled text) ws ++ (spelled text w ∷ [])
+      map-end [] = refl
+      map-end (v ∷ ws) = ap (λ es. spelled text v ∷ es) (map-end ws)
+
+  -- the word w written at p, where reading goes on with the token u
+  noted : (w j : ℕ) (u : Token) → Stands text u → p .entries < length t → p .token .start + 1 + j ≤ u .start + i
+      → Step text i j p t (place u (p .nodes) (p .entries + 1)) (set t (p .entries) w) (spelled text w ∷ [])
+  noted w j u s l h = record {
+    stands = s;
+    paid = omega arith;
+    size = length-set t (p .entries) w;
+    count = refl;
+    said = one-more w l;
+    left = drop-set-lt (p .entries + 1) t (p .entries) w (omega arith);
+  }
+
+  -- ---- words
+
+  pub word-slice : leb (p .token .end - p .token .start) name-size ≡ true
+      → name-of text (word (p .token)) ≡ slice text (p .token .start) (p .token .end)
+  unfolding word text-size
+  word-slice h =
+      let start = p .token .start in
+      let end = p .token .end in
+      let size = leb-true (end - start) name-size h in
+      let w : word (p .token) ≡ start * 64 + (end - start) = omega (arith, forward, ends-within, r .short) in
+      rw w (name-slice text start end size)
+
+-- what is known of a name that was the token t: its entry, its word, and the token after it
+pub record Named (text : List ℕ) (t : Token) (role : ℕ) (n : Name) (s : State) (es : List Entry) : Type 0 where
+  pub written : es ≡ entry role n ∷ []
+  pub called : name-of text (word t) ≡ n
+  pub next : s .token ≡ token-at text (t .end)
+
+module _ (text : List ℕ) where
+  spelled-name : (w role : ℕ) → ltb role 32 ≡ true → spelled text (w * 32 + role) ≡ entry role (name-of text w)
+  unfolding spelled
+  spelled-name w role h =
+      let l = ltb-true role 32 h in
+      let a : (w * 32 + role) % 32 ≡ role = omega arith in
+      let b : (w * 32 + role) / 32 ≡ w = omega arith in
+      rw (a, b)
+
+  spelled-mark : (role : ℕ) → ltb role 32 ≡ true → spelled text role ≡ entry role []
+  unfolding spelled name-of
+  spelled-mark role h =
+      let l = ltb-true role 32 h in
+      let a : role % 32 ≡ role = omega arith in
+      let b : role / 32 ≡ 0 = omega arith in
+      rw (a, b)
+
+module _ {text : List ℕ} where
+  -- ---- a token
+
+  pub step-meant : Reads text 0 0 (Model.step text) (Grammar.step text) (means λ a. [])
+  unfolding Model.step Grammar.step
+  step-meant = record { from = λ p t r. both-done (p .token) _ t [] refl (passed r 0 (omega (arith, forward r))) }
+
+  -- an expected token makes room for an entry
+  pub expect-more : (k : ℕ) → eqb k 0 ≡ false → eqb k 4 ≡ false
+      → Reads text 0 1 (Model.expect text k) (Grammar.expect text k) (means λ a. [])
+  unfolding Model.expect Grammar.expect Model.step Grammar.step
+  expect-more k a b = record {
+    from = λ p t r.
+        by-next (is k) _ _ _ _ (λ h. both-done (p .token) _ t [] refl (passed r 1 (omega (arith, filled r k a b h))))
+        (λ h. unexpected-meant .from p t r);
+  }
+
+  pub expect-meant : (k : ℕ) → Reads text 0 0 (Model.expect text k) (Grammar.expect text k) (means λ a. [])
+  unfolding Model.expect Grammar.expect
+  expect-meant k = either (is k) step-meant unexpected-meant
+
+  -- a rule that begins with a token, knowing that it is there
+  pub expected : {A : Type 0} {i j : ℕ} {Φ : Meaning A} {p : Place} {t : List ℕ} (k : ℕ) (W : Writer) (P : Parser A)
+      → (eqb (p .token .kind) k ≡ true → Matches text i j Φ p t ((Model.expect text k >> W) p t) (Grammar._>>_ (Grammar.expect text k) P (state p)))
+      → Matches text i j Φ p t ((Model.expect text k >> W) p t) (Grammar._>>_ (Grammar.expect text k) P (state p))
+  unfolding Model.expect Grammar.expect Model.if-next Grammar.if-next Model.unexpected Grammar.unexpected _>>_ Grammar._>>_ onward after pick
+  expected {p = p} {t = t} k W P f = whether (eqb (p .token .kind) k) f (λ h. rw h (both-refused _ _ t refl))
+
+  -- ---- an entry without a name, where there is room
+
+  pub mark-at : {A : Type 0} {Ψ : Meaning A} {p : Place} {t : List ℕ} (role : ℕ) (a : A) → ltb role 32 ≡ true → Ready text 1 p t
+      → Ψ a (state p) (entry role [] ∷ [])
+      → Matches text 1 0 Ψ p t (Model.mark role p t) (return a (state p))
+  unfolding Model.mark Model.written return pick
+  mark-at {p = p} {t = t} role a h r ψ =
+      let l : p .entries < length t = omega (arith, r .room, r .long, forward r, ends-within r) in
+      rw (lt-ltb (p .entries) (length t) l)
+      (both-done a (place (p .token) (p .nodes) (p .entries + 1)) _ (spelled text role ∷ []) (rw (spelled-mark text role h) ψ)
+      (noted r role 0 (p .token) (r .stands) l (omega arith)))
+
+  pub mark-meant : {A : Type 0} {Ψ : Meaning A} (role : ℕ) (a : A) → ltb role 32 ≡ true → ((s : State) → Ψ a s (entry role [] ∷ []))
+      → Reads text 1 0 (Model.mark role) (return a) Ψ
+  mark-meant role a h ψ = record { from = λ p t r. mark-at role a h r (ψ (state p)) }
+
+  -- ---- names
+
+  module _ (role : ℕ) (h : ltb role 32 ≡ true) (p : Place) (t : List ℕ) (r : Ready text 0 p t) where
+    short-named : leb (p .token .end - p .token .start) name-size ≡ true → p .token .start < p .token .end
+        → Matches text 0 0 (λ n s es. Named text (p .token) role n s es) p t (Model.named text role p t)
+        (done (slice text (p .token .start) (p .token .end)) (at (token-at text (p .token .end)) (p .nodes)))
+    unfolding Model.named Model.with-word Model.written Model.step _>>_ onward pick
+    short-named l f =
+        let m : p .entries < length t = omega (arith, r .room, r .long, ends-within r) in
+        rw (lt-ltb (p .entries) (length t) m)
+        (both-done (slice text (p .token .start) (p .token .end)) (place (token-at text (p .token .end)) (p .nodes) (p .entries + 1)) _
+        (spelled text (word (p .token) * 32 + role) ∷ [])
+        (record { written = rw (spelled-name text (word (p .token)) role h, word-slice r l); called = word-slice r l; next = refl })
+        (noted r (word (p .token) * 32 + role) 0 (token-at text (p .token .end)) (after-it r) m (omega (arith, follows r))))
+
+    short-name-at : eqb (p .token .kind) ident ≡ true
+        → Matches text 0 0 (λ n s es. Named text (p .token) role n s es) p t (Model.short-name text role p t) (Grammar.short-name text (state p))
+    unfolding Model.short-name Grammar.short-name Grammar.step _>>=_ after return
+    short-name-at e =
+        choice (leb (p .token .end - p .token .start) name-size) _ _ _ _ (λ l. short-named l (filled r ident refl refl e))
+        (λ l. refuse-meant over-size .from p t r)
+
+    pub name-at : Matches text 0 0 (λ n s es. Named text (p .token) role n s es) p t (Model.name text role p t) (Grammar.name text (state p))
+    unfolding Model.name Grammar.name
+    name-at = by-next is-name _ _ _ _ short-name-at (λ h. unexpected-meant .from p t r)
+
+  pub name-meant : (role : ℕ) → ltb role 32 ≡ true
+      → Reads text 0 0 (Model.name text role) (Grammar.name text) (means λ n. entry role n ∷ [])
+  name-meant role h = record { from = λ p t r. weaker _ _ (λ n s es k. k .written) (name-at role h p t r) }
+
+  -- ---- the name after `end`
+
+  module _ (w : ℕ) (n : Name) (e : name-of text w ≡ n) (p : Place) (t : List ℕ) (r : Ready text 0 p t) where
+    long-name : leb (p .token .end - p .token .start) name-size ≡ false
+        → false ≡ same (name-of text w) (slice text (p .token .start) (p .token .end))
+    unfolding name-of
+    long-name l =
+        same-lengths (name-of text w) (slice text (p .token .start) (p .token .end)) (λ e.
+        omega (
+          arith,
+          leb-false (p .token .end - p .token .start) name-size l,
+          length-take (min (w % 64) name-size) (drop (w / 64) text),
+          length-take (p .token .end - p .token .start) (drop (p .token .start) text),
+          length-drop (p .token .start) text,
+          ends-within r,
+        ))
+
+    told : Model.is-word-of text w (p .token) ≡ same n (slice text (p .token .start) (p .token .end))
+    unfolding Model.is-word-of
+    told = rw (← e) (by-cases (λ b. b ≡ same (name-of text w) (slice text (p .token .start) (p .token .end)))
+        (leb (p .token .end - p .token .start) name-size) _ _ (λ l. rw (word-slice r l)) long-name)
+
+    that-name-at : Matches text 0 0 (means λ a. []) p t (Model.that-name text w p t) (Grammar.that-name text n (state p))
+    unfolding Model.that-name Grammar.that-name
+    that-name-at =
+        rw told
+        (choice (same n (slice text (p .token .start) (p .token .end))) _ _ _ _ (λ h. step-meant .from p t r) (λ h. refuse-meant other-end .from p t r))
+
+  pub this-name-meant : (w : ℕ) (n : Name) → name-of text w ≡ n
+      → Reads text 0 0 (Model.this-name text w) (Grammar.this-name text n) (means λ a. [])
+  unfolding Model.this-name Grammar.this-name
+  this-name-meant w n e = either is-name (record { from = that-name-at w n e }) unexpected-meant
+
+  -- ---- first lines
+
+  -- an entry without a name, before what reads on
+  pub mark-first : {A : Type 0} {Ψ : Meaning A} {j : ℕ} {X : Writer} {Q : Parser A} (role : ℕ) → ltb role 32 ≡ true
+      → Reads text 0 j X Q (λ a s es. Ψ a s (entry role [] ∷ es)) → Reads text 1 j (Model.mark role >> X) Q Ψ
+  unfolding _>>=_ return after
+  mark-first {Ψ = Ψ} role h d = line {A = ℕ} {f = λ a. entry role [] ∷ []} {Ψ = Ψ} (mark-meant role 0 h (λ s. refl)) (λ a. d)
+
+  -- a name that is asked for again, by its word
+  pub with-name : {B : Type 0} {Ψ : Meaning B} {X : ℕ → Writer} {Q : Name → Parser B} (role : ℕ) → ltb role 32 ≡ true
+      → ((w : ℕ) (n : Name) → name-of text w ≡ n → Reads text 0 0 (X w) (Q n) (λ b s es. Ψ b s (entry role n ∷ es)))
+      → Reads text 0 0 (Model.with-word (λ w. Model.name text role >> X w)) (Grammar.name text >>= Q) Ψ
+  unfolding Model.with-word _>>_ _>>=_
+  with-name {Ψ = Ψ} {X} {Q} role h d = record {
+    from = λ p t r.
+        and-then Ψ (X (word (p .token))) Q _ _ (name-at role h p t r)
+        (λ n q u es k s. rw (k .written) (d (word (p .token)) n (k .called) .from q u (next-ready r s)));
+  }

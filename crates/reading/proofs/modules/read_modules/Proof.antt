@@ -1,0 +1,35 @@
+use Rattle.entries.specs.Model.{modules}
+use borrow.Author.Needs.{needs}
+use Rattle.entries.proofs.Lists.{Comes, sized}
+use Rattle.reading.proofs.Cases.{rounds}
+use Rattle.reading.proofs.modules.read_modules.Statement.{statement}
+use Rattle.reading.proofs.modules.read_modules.Tie as tie
+
+abbrev Inv-loop : tie.InvT-loop
+Inv-loop text tape₀ here₀ left₀ tape here left = Comes (modules text 64) (modules text left) here₀ tape₀ here tape
+
+abbrev μ-loop : tie.MeasureT-loop
+μ-loop text tape₀ here₀ left₀ tape here left = left
+
+pub read-modules-spec : {M : Type 1} → statement M
+read-modules-spec =
+    tie.close
+    (tie.spec
+    Inv-loop
+    μ-loop
+    (λ c. search rounds)  -- loop-holds
+    (λ c κs. search needs)  -- read-module-requires
+    (λ c κs. search needs)  -- next-is-requires
+    (λ c. search (sized, needs))  -- same-length
+    (λ c. search rounds)  -- returns
+    (λ c. search needs)  -- sub-left
+    (λ c. search needs)  -- loop-less
+    (λ c. search rounds)  -- loop-again
+    (λ c κs. search needs)  -- next-is-requires-2
+    (λ c κs. search needs)  -- refuse-requires
+    (λ c. search (sized, needs))  -- same-length-2
+    (λ c. search rounds)  -- returns-2
+    (λ c κs. search needs)  -- unexpected-requires
+    (λ c. search (sized, needs))  -- same-length-3
+    (λ c. search rounds)  -- returns-3
+    )

@@ -1,0 +1,55 @@
+// The grammar: a text is read token by token, and what it says is written to the tape; or it is refused, with a number and a place.
+use entries::{Place, Reading};
+use modules::read_modules;
+ghost use mathlib.Core.Path.{_≡_};
+ghost use lib.ListN.{length, replicate};
+ghost use Rattle.entries.specs.Model.{out, wiped, read};
+
+mod modules;
+
+// The whole tape, set to zero.
+fn clear(tape: &mut [u32])
+    ensures { λ r. ⌜ now (tape .exit) ≡ replicate (length (now (tape .entry))) 0 ⌝ }
+{
+    let mut i = 0;
+    while i < tape.len() {
+        tape[i] = 0;
+        i += 1;
+    }
+}
+
+// A refusal leaves zeros.
+fn wipe(tape: &mut [u32], r: Reading) -> Reading
+    ensures { λ q. ⌜ out q (now (tape .exit)) ≡ wiped r (now (tape .entry)) ⌝ }
+{
+    match r {
+        Reading::Done(p) => Reading::Done(p),
+        Reading::Refused { number, place } => {
+            clear(tape);
+            Reading::Refused { number, place }
+        }
+    }
+}
+
+// What a text says, on the tape; or its leftmost offence, and zeros.
+pub fn read(text: &[u8], tape: &mut [u32]) -> Reading
+    ensures { λ r. ⌜ out r (now (tape .exit)) ≡ read (now (text .entry)) (now (tape .entry)) ⌝ }
+{
+    if 32768 < text.len() {
+        return wipe(
+            tape,
+            Reading::Refused {
+                number: 4,
+                place: 32768,
+            },
+        );
+    }
+    let token = tokens::next_token(text, 0);
+    let first = Reading::Done(Place {
+        token,
+        nodes: 0,
+        entries: 0,
+    });
+    let r = read_modules(text, tape, first);
+    wipe(tape, r)
+}

@@ -1,0 +1,125 @@
+// Modules, to the end of the text.
+use entries::Reading;
+use entries::declarations::{read_signature, section_parameters, section_exports};
+use terms::equations::{section_variables, section_equations};
+use entries::imports::section_imports;
+use entries::kinds::{END_OF_TEXT, BEGIN, END, MODULE};
+use entries::roles::{MODULE_NAME, HIDDEN_SORT, HIDDEN_FUNCTION};
+use entries::steps::{next_is, refuse, unexpected, expect, next_word, read_name, this_name};
+ghost use mathlib.Core.Path.{_≡_};
+ghost use Rattle.entries.specs.Model.{out, onward, declares, taken, fresh-name, front, back, module-named, a-module, modules};
+ghost use Rattle.entries.specs.Steps.{twice};
+
+// Is this the entry of a module with the name of that word?
+fn declares(text: &[u8], w: u32, entry: u32) -> bool
+    ensures { λ r. ⌜ r ≡ declares (now (text .entry)) w entry ⌝ }
+{
+    if entry % 32 == MODULE_NAME as u32 {
+        return names::same_name(text, w, entry / 32);
+    }
+    false
+}
+
+// Does one of the first n entries declare a module with the name of that word?
+fn is_taken(text: &[u8], tape: &[u32], w: u32, n: usize) -> bool
+    ensures { λ r. ⌜ r ≡ taken (now (text .entry)) w n (now (tape .entry)) ⌝ }
+{
+    let mut i = 0;
+    while i < n {
+        if tape.len() <= i {
+            return false;
+        }
+        if declares(text, w, tape[i]) {
+            return true;
+        }
+        i += 1;
+    }
+    false
+}
+
+// Refused at `at`, if reading went on from there.
+fn twice(at: Reading, read: Reading) -> Reading
+    ensures { λ r. ⌜ r ≡ twice at read ⌝ }
+{
+    match read {
+        Reading::Refused { number, place } => Reading::Refused { number, place },
+        Reading::Done(p) => refuse(at, 5),
+    }
+}
+
+// A name that no earlier module has.
+fn fresh_name(text: &[u8], tape: &mut [u32], at: Reading) -> Reading
+    ensures { λ r. ⌜ out r (now (tape .exit)) ≡ onward at (now (tape .entry)) (fresh-name (now (text .entry))) ⌝ }
+{
+    match at {
+        Reading::Refused { number, place } => Reading::Refused { number, place },
+        Reading::Done(p) => {
+            let n = p.entries;
+            let w = next_word(at);
+            let again = is_taken(text, tape, w, n);
+            let a = read_name(text, tape, at, MODULE_NAME);
+            if again {
+                return twice(at, a);
+            }
+            a
+        }
+    }
+}
+
+// What a module declares before its hidden section.
+fn read_front(text: &[u8], tape: &mut [u32], at: Reading) -> Reading
+    ensures { λ r. ⌜ out r (now (tape .exit)) ≡ onward at (now (tape .entry)) (front (now (text .entry))) ⌝ }
+{
+    let a = section_parameters(text, tape, at);
+    let b = section_exports(text, tape, a);
+    section_imports(text, tape, b)
+}
+
+// What a module declares from its hidden section on.
+fn read_back(text: &[u8], tape: &mut [u32], at: Reading) -> Reading
+    ensures { λ r. ⌜ out r (now (tape .exit)) ≡ onward at (now (tape .entry)) (back (now (text .entry))) ⌝ }
+{
+    let a = read_signature(text, tape, at, HIDDEN_SORT, HIDDEN_FUNCTION);
+    let b = section_variables(text, tape, a);
+    section_equations(text, tape, b)
+}
+
+// A module from its name on, whose word is w.
+fn module_named(text: &[u8], tape: &mut [u32], at: Reading, w: u32) -> Reading
+    ensures { λ r. ⌜ out r (now (tape .exit)) ≡ onward at (now (tape .entry)) (module-named (now (text .entry)) w) ⌝ }
+{
+    let a = fresh_name(text, tape, at);
+    let b = expect(text, a, BEGIN);
+    let c = read_front(text, tape, b);
+    let d = read_back(text, tape, c);
+    let e = expect(text, d, END);
+    this_name(text, e, w)
+}
+
+fn read_module(text: &[u8], tape: &mut [u32], at: Reading) -> Reading
+    ensures { λ r. ⌜ out r (now (tape .exit)) ≡ onward at (now (tape .entry)) (a-module (now (text .entry))) ⌝ }
+{
+    let a = expect(text, at, MODULE);
+    let w = next_word(a);
+    module_named(text, tape, a, w)
+}
+
+// The modules to the end of the text, 64 at most.
+pub fn read_modules(text: &[u8], tape: &mut [u32], at: Reading) -> Reading
+    ensures { λ r. ⌜ out r (now (tape .exit)) ≡ onward at (now (tape .entry)) (modules (now (text .entry)) 64) ⌝ }
+{
+    let mut here = at;
+    let mut left: usize = 64;
+    while 0 < left {
+        let read = read_module(text, tape, here);
+        if next_is(read, END_OF_TEXT) {
+            return read;
+        }
+        here = read;
+        left -= 1;
+    }
+    if next_is(here, MODULE) {
+        return refuse(here, 4);
+    }
+    unexpected(here)
+}

@@ -1,0 +1,13 @@
+use Rattle.terms.proofs.Cases.{cases}
+use borrow.Author.Needs.{needs}
+use Rattle.terms.proofs.terms.node_role.Statement.{statement}
+use Rattle.terms.proofs.terms.node_role.Tie as tie
+
+pub node-role-spec : {M : Type 1} → statement M
+node-role-spec =
+    tie.close
+    (tie.spec
+    (λ c κs. search needs)  -- next-token-requires
+    (λ c. search cases)  -- returns
+    (λ c. search cases)  -- returns-2
+    )
