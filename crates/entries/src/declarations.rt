@@ -1,8 +1,28 @@
 // Names in a list, functions, signatures and parameters.
 use super::Reading;
-use super::kinds::{IDENT, ARROW, BEGIN, END, EXPORTS, FUNCTIONS, PARAMETERS, SORTS};
-use super::roles::{PARAMETER, PARAMETER_SORT, PARAMETER_FUNCTION, EXPORT_SORT, EXPORT_FUNCTION, INPUT, OUTPUT};
-use super::steps::{next_is, refuse, unexpected, step, expect, next_word, read_name, this_name};
+use super::kinds::ARROW;
+use super::kinds::BEGIN;
+use super::kinds::END;
+use super::kinds::EXPORTS;
+use super::kinds::FUNCTIONS;
+use super::kinds::IDENT;
+use super::kinds::PARAMETERS;
+use super::kinds::SORTS;
+use super::roles::EXPORT_FUNCTION;
+use super::roles::EXPORT_SORT;
+use super::roles::INPUT;
+use super::roles::OUTPUT;
+use super::roles::PARAMETER;
+use super::roles::PARAMETER_FUNCTION;
+use super::roles::PARAMETER_SORT;
+use super::steps::expect;
+use super::steps::next_is;
+use super::steps::next_word;
+use super::steps::read_name;
+use super::steps::refuse;
+use super::steps::step;
+use super::steps::this_name;
+use super::steps::unexpected;
 ghost use mathlib.Core.Path.{_≡_};
 ghost use Rattle.meaning.specs.Numbers.{text-size};
 ghost use Rattle.meaning.specs.Names.{byte};
@@ -117,13 +137,7 @@ pub fn read_signature(
 }
 
 // A signature between `begin` and `end`.
-fn read_enclosed(
-    text: &[u8],
-    tape: &mut [u32],
-    at: Reading,
-    sorts: u8,
-    functions: u8,
-) -> Reading
+fn read_enclosed(text: &[u8], tape: &mut [u32], at: Reading, sorts: u8, functions: u8) -> Reading
     ensures { λ r. ⌜ out r (now (tape .exit)) ≡ onward at (now (tape .entry)) (enclosed (now (text .entry)) sorts functions) ⌝ }
 {
     let a = expect(text, at, BEGIN);

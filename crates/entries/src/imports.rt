@@ -1,8 +1,25 @@
 // Import expressions: renamings and bindings with their pairs.
 use super::Reading;
-use super::kinds::{IDENT, ARROW, BOUND, BY, IMPORTS, RENAMED, TO};
-use super::roles::{IMPORT, RENAMING, BINDING, OLD, NEW, ACTUAL};
-use super::steps::{next_is, refuse, unexpected, step, expect, mark, read_name};
+use super::kinds::ARROW;
+use super::kinds::BOUND;
+use super::kinds::BY;
+use super::kinds::IDENT;
+use super::kinds::IMPORTS;
+use super::kinds::RENAMED;
+use super::kinds::TO;
+use super::roles::ACTUAL;
+use super::roles::BINDING;
+use super::roles::IMPORT;
+use super::roles::NEW;
+use super::roles::OLD;
+use super::roles::RENAMING;
+use super::steps::expect;
+use super::steps::mark;
+use super::steps::next_is;
+use super::steps::read_name;
+use super::steps::refuse;
+use super::steps::step;
+use super::steps::unexpected;
 ghost use mathlib.Core.Path.{_≡_};
 ghost use Rattle.meaning.specs.Names.{byte};
 ghost use Rattle.meaning.specs.Numbers.{binding-limit, pair-limit};

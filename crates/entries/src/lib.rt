@@ -2,11 +2,11 @@
 // that is a refusal.
 use types::Token;
 
+pub mod declarations;
+pub mod imports;
 pub mod kinds;
 pub mod roles;
 pub mod steps;
-pub mod declarations;
-pub mod imports;
 
 // Where reading is: the token that is next, the nodes of the equation so far, and the entries on the tape.
 pub struct Place {

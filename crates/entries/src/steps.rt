@@ -1,7 +1,9 @@
 // Single tokens and single entries. Each step goes on from an answer, and does nothing where that is a refusal.
+use super::Place;
+use super::Reading;
+use super::kinds::IDENT;
+use super::kinds::NO_TOKEN;
 use types::Token;
-use super::{Place, Reading};
-use super::kinds::{IDENT, NO_TOKEN};
 ghost use mathlib.Core.Path.{_≡_};
 ghost use Prim.Native.Nat.{_-_};
 ghost use Rattle.meaning.specs.Grammar.{is, begins-term};

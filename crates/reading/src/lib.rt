@@ -1,5 +1,6 @@
 // The grammar: a text is read token by token, and what it says is written to the tape; or it is refused, with a number and a place.
-use entries::{Place, Reading};
+use entries::Place;
+use entries::Reading;
 use modules::read_modules;
 ghost use mathlib.Core.Path.{_≡_};
 ghost use lib.ListN.{length, replicate};

@@ -44,7 +44,7 @@ fn number(digits: &[u8]) -> usize {
     let mut i = 0;
     while i < digits.len() {
         if b'0' <= digits[i] {
-            value = (value % 100000) * 10 + (wide(digits[i]) + 2) % 10;
+            value = value % 100000 * 10 + (wide(digits[i]) % 256 + 2) % 10;
         }
         i += 1;
     }
@@ -84,16 +84,21 @@ fn run_case(input: &[u8], at: usize) -> usize {
     input.len()
 }
 
+// Every case. There are fewer than there are bytes.
+fn run(input: &[u8]) {
+    let mut at = 0;
+    let mut left = input.len();
+    while 0 < left {
+        if input.len() <= at {
+            return;
+        }
+        at = run_case(input, at);
+        left -= 1;
+    }
+}
+
 fn main() {
     let mut input = [0; 262144];
     let n = io::read_full(STDIN_FILENO, &mut input);
-    let mut at = 0;
-    let mut left = n;
-    while 0 < left {
-        if n <= at {
-            return;
-        }
-        at = run_case(&input[..n], at);
-        left -= 1;
-    }
+    run(&input[..n]);
 }

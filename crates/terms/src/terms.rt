@@ -1,9 +1,19 @@
 // Terms: a name, a name with one to eight arguments, or a term in brackets. Terms and argument lists call each other, with the depth falling.
-use types::Token;
-use entries::{Place, Reading};
+use entries::Place;
+use entries::Reading;
 use entries::kinds::IDENT;
-use entries::roles::{ALONE, HEAD, CLOSE};
-use entries::steps::{next_is, begins_term, refuse, unexpected, step, expect, mark, read_name};
+use entries::roles::ALONE;
+use entries::roles::CLOSE;
+use entries::roles::HEAD;
+use entries::steps::begins_term;
+use entries::steps::expect;
+use entries::steps::mark;
+use entries::steps::next_is;
+use entries::steps::read_name;
+use entries::steps::refuse;
+use entries::steps::step;
+use entries::steps::unexpected;
+use types::Token;
 ghost use mathlib.Core.Path.{_≡_};
 ghost use Rattle.meaning.specs.Names.{byte};
 ghost use Rattle.meaning.specs.Grammar.{begins-term};
@@ -81,13 +91,7 @@ pub fn read_term(text: &[u8], tape: &mut [u32], at: Reading, depth: usize) -> Re
 }
 
 // Arguments, of which `left` more may come.
-fn read_arguments(
-    text: &[u8],
-    tape: &mut [u32],
-    at: Reading,
-    depth: usize,
-    left: usize,
-) -> Reading
+fn read_arguments(text: &[u8], tape: &mut [u32], at: Reading, depth: usize, left: usize) -> Reading
     ensures { λ r. ⌜ out r (now (tape .exit)) ≡ onward at (now (tape .entry)) (separated (now (text .entry)) left (byte ",") begins-term (term (now (text .entry)) depth)) ⌝ }
 {
     if left == 0 {
