@@ -1,0 +1,31 @@
+-- `modules::find_number` meets its contract.
+-- Assumes nothing.
+use borrow.Author.Needs.{needs}
+use Prim.Native.Nat.{_-_}
+use Rattle.meaning.specs.Names.{same}
+use Rattle.names.specs.Word.{name-of}
+use Rattle.modules.proofs.Cases.{numbers, Seeking}
+use Rattle.modules.proofs.find_number.Statement.{statement}
+use Rattle.modules.proofs.find_number.Tie as tie
+
+abbrev Inv-loop : tie.InvT-loop
+Inv-loop text tape h w count k₀ k = Seeking (same (name-of text w)) text tape h count k
+
+abbrev μ-loop : tie.MeasureT-loop
+μ-loop text tape h w count k₀ k = count - k
+
+pub find-number-spec : {M : Type 1} → statement M
+find-number-spec =
+    tie.close
+    (tie.spec
+    Inv-loop
+    μ-loop
+    (λ c. search numbers)  -- loop-holds
+    (λ c κs. search needs)  -- name-of-module-requires
+    (λ c κs. search needs)  -- same-name-requires
+    (λ c. search numbers)  -- returns
+    (λ c. search needs)  -- add-k
+    (λ c. search needs)  -- loop-less
+    (λ c. search numbers)  -- loop-again
+    (λ c. search numbers)  -- returns-2
+    )

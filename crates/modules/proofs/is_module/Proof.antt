@@ -1,0 +1,14 @@
+-- `modules::is_module` meets its contract.
+-- Assumes nothing.
+use Rattle.modules.specs.Modules.{is-module}
+use Rattle.tables.proofs.Auto.{tests}
+use Rattle.modules.proofs.is_module.Statement.{statement}
+use Rattle.modules.proofs.is_module.Tie as tie
+
+pub is-module-spec : {M : Type 1} → statement M
+unfolding is-module
+is-module-spec =
+    tie.close
+    (tie.spec
+    (λ c. search tests)  -- returns
+    )

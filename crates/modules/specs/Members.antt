@@ -1,0 +1,71 @@
+-- Which names are members, by the number of the first that is the same; and the names of modules checked one by one.
+use mathlib.Core.Path.{_≡_, refl}
+use Prim.Native.Nat.{ℕ, zero, suc, _<_, _≤_}
+use native.Mathlib.Omega.{arith}
+use mathlib.Core.Bool.{Bool, true, false}
+use mathlib.Core.List.{List, [], _∷_}
+use lib.ListN.{length, take}
+use Rattle.meaning.specs.Lists.{pick, before}
+use Rattle.meaning.specs.Names.{Name, same, member}
+use Rattle.meaning.specs.Numbers.{named-absent, named-late}
+use Rattle.meaning.specs.Checks.{Check, fine, stop, _>>_}
+use Rattle.meaning.specs.Evaluate.{missing, too-late, names-right}
+
+pub member-found : (w : Name) (ds : List Name) → before (same w) ds < length ds → member w ds ≡ true
+unfolding before member pick
+member-found w [] h = absurd (omega arith)
+member-found w (x ∷ ds) h = go (same w x) h (member-found w ds)
+  where
+    go : (b : Bool) → pick b 0 (suc (before (same w) ds)) < suc (length ds) → (before (same w) ds < length ds → member w ds ≡ true)
+        → pick b true (member w ds) ≡ true
+    go true h f = refl
+    go false h f = f (omega arith)
+
+pub member-absent : (w : Name) (ds : List Name) → length ds ≤ before (same w) ds → member w ds ≡ false
+unfolding before member pick
+member-absent w [] h = refl
+member-absent w (x ∷ ds) h = go (same w x) h (member-absent w ds)
+  where
+    go : (b : Bool) → suc (length ds) ≤ pick b 0 (suc (before (same w) ds)) → (length ds ≤ before (same w) ds → member w ds ≡ false)
+        → pick b true (member w ds) ≡ false
+    go true h f = absurd (omega arith)
+    go false h f = f (omega arith)
+
+pub member-early : (w : Name) (ds : List Name) (k : ℕ) → before (same w) ds < k → before (same w) ds < length ds → member w (take k ds) ≡ true
+unfolding before member pick
+member-early w ds zero h l = absurd (omega arith)
+member-early w [] (suc k) h l = absurd (omega arith)
+member-early w (x ∷ ds) (suc k) h l = go (same w x) h l (member-early w ds k)
+  where
+    go : (b : Bool) → pick b 0 (suc (before (same w) ds)) < suc k → pick b 0 (suc (before (same w) ds)) < suc (length ds)
+        → (before (same w) ds < k → before (same w) ds < length ds → member w (take k ds) ≡ true) → pick b true (member w (take k ds)) ≡ true
+    go true h l f = refl
+    go false h l f = f (omega arith) (omega arith)
+
+pub member-late : (w : Name) (ds : List Name) (k : ℕ) → k ≤ before (same w) ds → member w (take k ds) ≡ false
+unfolding before member pick
+member-late w ds zero h = refl
+member-late w [] (suc k) h = refl
+member-late w (x ∷ ds) (suc k) h = go (same w x) h (member-late w ds k)
+  where
+    go : (b : Bool) → suc k ≤ pick b 0 (suc (before (same w) ds)) → (k ≤ before (same w) ds → member w (take k ds) ≡ false)
+        → pick b true (member w (take k ds)) ≡ false
+    go true h f = absurd (omega arith)
+    go false h f = f (omega arith)
+
+-- the first name, and then the others
+pub names-step : (ds es : List Name) (w : Name) (ws : List Name)
+    → names-right ds es (w ∷ ws) ≡ names-right ds es (w ∷ []) >> names-right ds es ws
+unfolding names-right pick _>>_
+names-step ds es w ws = go (missing ds w) (too-late ds es w) (names-right ds es ws)
+  where
+    absent : Check
+    absent = stop named-absent w
+
+    late : Check
+    late = stop named-late w
+
+    go : (b c : Bool) (more : Check) → pick b absent (pick c late more) ≡ pick b absent (pick c late (fine tt)) >> more
+    go true c more = refl
+    go false true more = refl
+    go false false more = refl

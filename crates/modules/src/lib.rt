@@ -1,0 +1,224 @@
+// The modules of a tape: where each is declared, whether the modules that one names stand before it, and which modules it reaches.
+// A module's number is its place among the modules of the text, from 0.
+use forms::Verdict;
+use tables::entries::name_at;
+use tables::entries::role_at;
+ghost use mathlib.Core.Path.{_≡_};
+ghost use mathlib.Core.List.{[], _∷_};
+ghost use lib.ListN.{getD, take};
+ghost use Rattle.meaning.specs.Lists.{before};
+ghost use Rattle.meaning.specs.Names.{Name, same};
+ghost use Rattle.meaning.specs.Evaluate.{names-right};
+ghost use Rattle.names.specs.Word.{name-of};
+ghost use Rattle.tables.specs.Entries.{word-at};
+ghost use Rattle.forms.specs.Verdicts.{told};
+ghost use Rattle.module_set.specs.ModuleSet.{holds};
+ghost use Rattle.modules.specs.Modules.{is-module, names-module, HeadsOf, declared, name-right, named-in, with-named, named-set, turned, gathered, reached-set, cycle-found};
+
+// The places on the tape where the modules begin, in text order, and behind them where the last one ends.
+pub struct Heads {
+    pub places: [u32; 65],
+    pub count: u32,
+}
+
+fn is_module(role: u32) -> bool
+    ensures { λ r. ⌜ r ≡ is-module role ⌝ }
+{
+    role == 1
+}
+
+// Is the name at an entry with the role that of a module which an import or a binding uses?
+fn names_module(role: u32) -> bool
+    ensures { λ r. ⌜ r ≡ names-module role ⌝ }
+{
+    if role == 11 {
+        return true;
+    }
+    role == 16
+}
+
+// The heads of the modules among the first n entries, up to 64.
+pub fn find_heads(tape: &[u32], n: u32) -> Heads
+    ensures { λ r. ⌜ HeadsOf (now (tape .entry)) n r ⌝ }
+{
+    let mut places = [0; 65];
+    let mut count: u32 = 0;
+    let mut j: u32 = 0;
+    while j < n {
+        if is_module(role_at(tape, j as usize)) {
+            if count < 64 {
+                places[count as usize] = j;
+                count += 1;
+                j += 1;
+            } else {
+                places[64] = n;
+                return Heads { places, count: 64 };
+            }
+        } else {
+            j += 1;
+        }
+    }
+    places[count as usize] = n;
+    Heads { places, count }
+}
+
+// Where module k begins; 0 past the last place.
+pub fn place_at(h: Heads, k: usize) -> u32
+    ensures { λ r. ⌜ r ≡ getD (h .places) k 0 ⌝ }
+{
+    let places = h.places;
+    if k < 65 {
+        return places[k];
+    }
+    0
+}
+
+// The word of the name of module k.
+pub fn name_of_module(tape: &[u32], h: Heads, k: u32) -> u32
+    ensures { λ r. ⌜ r ≡ word-at (now (tape .entry)) (getD (h .places) k 0) ⌝ }
+{
+    name_at(tape, place_at(h, k as usize) as usize)
+}
+
+// The number of the module called w; the number of modules if there is none.
+pub fn find_number(text: &[u8], tape: &[u32], h: Heads, w: u32) -> u32
+    ensures { λ r. ⌜ r ≡ before (same (name-of (now (text .entry)) w)) (declared (now (text .entry)) (now (tape .entry)) h) ⌝ }
+{
+    let count = h.count;
+    let mut k = 0;
+    while k < count {
+        if names::same_name(text, w, name_of_module(tape, h, k)) {
+            return k;
+        }
+        k += 1;
+    }
+    k
+}
+
+// The number of the module with the asked name; the number of modules if there is none.
+pub fn find_asked(text: &[u8], tape: &[u32], h: Heads, asked: &[u8]) -> u32
+    ensures { λ r. ⌜ r ≡ before (λ (w : Name). same w (now (asked .entry))) (declared (now (text .entry)) (now (tape .entry)) h) ⌝ }
+{
+    let count = h.count;
+    let mut k = 0;
+    while k < count {
+        if names::is_called(text, name_of_module(tape, h, k), asked) {
+            return k;
+        }
+        k += 1;
+    }
+    k
+}
+
+// Step 1 for the name w of module k: 7 where no module is called so, 8 where none before module k is.
+fn name_right(text: &[u8], tape: &[u32], h: Heads, k: u32, w: u32) -> Verdict
+    ensures { λ r. ⌜ told (now (text .entry)) r ≡ name-right (declared (now (text .entry)) (now (tape .entry)) h) k (name-of (now (text .entry)) w) ⌝ }
+{
+    let count = h.count;
+    let p = find_number(text, tape, h, w);
+    if count <= p {
+        return Verdict::Stop(7, w);
+    }
+    if k <= p {
+        return Verdict::Stop(8, w);
+    }
+    Verdict::Fine
+}
+
+// Step 1 for module k: the names of modules among its entries, in text order.
+pub fn names_right(text: &[u8], tape: &[u32], h: Heads, k: u32) -> Verdict
+    ensures { λ r. ⌜ told (now (text .entry)) r ≡ names-right (declared (now (text .entry)) (now (tape .entry)) h) (take k (declared (now (text .entry)) (now (tape .entry)) h)) (named-in (now (text .entry)) (now (tape .entry)) h k) ⌝ }
+{
+    let mut j = place_at(h, k as usize);
+    let end = place_at(h, k as usize + 1);
+    while j < end {
+        if names_module(role_at(tape, j as usize)) {
+            match name_right(text, tape, h, k, name_at(tape, j as usize)) {
+                Verdict::Stop(k, w) => return Verdict::Stop(k, w),
+                Verdict::Fine => {
+                    j += 1;
+                }
+            }
+        } else {
+            j += 1;
+        }
+    }
+    Verdict::Fine
+}
+
+// The set with the module called w, if it stands before module k.
+fn with_name(text: &[u8], tape: &[u32], h: Heads, k: u32, set: u64, w: u32) -> u64
+    ensures { λ r. ⌜ holds r ≡ with-named (declared (now (text .entry)) (now (tape .entry)) h) k (holds set) (name-of (now (text .entry)) w ∷ []) ⌝ }
+{
+    let p = find_number(text, tape, h, w);
+    if p < k {
+        return module_set::with(set, p);
+    }
+    set
+}
+
+// The modules before module k that it names.
+pub fn named_set(text: &[u8], tape: &[u32], h: Heads, k: u32) -> u64
+    ensures { λ r. ⌜ holds r ≡ named-set (now (text .entry)) (now (tape .entry)) h k ⌝ }
+{
+    let mut j = place_at(h, k as usize);
+    let end = place_at(h, k as usize + 1);
+    let mut set = module_set::empty();
+    while j < end {
+        if names_module(role_at(tape, j as usize)) {
+            set = with_name(text, tape, h, k, set, name_at(tape, j as usize));
+            j += 1;
+        } else {
+            j += 1;
+        }
+    }
+    set
+}
+
+// The set, with the modules that module k names where module k is in it.
+fn turned(text: &[u8], tape: &[u32], h: Heads, k: u32, set: u64) -> u64
+    ensures { λ r. ⌜ holds r ≡ turned (named-set (now (text .entry)) (now (tape .entry)) h) (holds set) k ⌝ }
+{
+    if module_set::has(set, k) {
+        return module_set::joined(set, named_set(text, tape, h, k));
+    }
+    set
+}
+
+// The set, and the modules that those of its modules reach which are below n: the latest first.
+fn gathered(text: &[u8], tape: &[u32], h: Heads, n: u32, set: u64) -> u64
+    ensures { λ r. ⌜ holds r ≡ gathered (named-set (now (text .entry)) (now (tape .entry)) h) (holds set) 0 n ⌝ }
+{
+    let mut all = set;
+    let mut k = n;
+    while 0 < k {
+        all = turned(text, tape, h, k - 1, all);
+        k -= 1;
+    }
+    all
+}
+
+// Module k, and the modules that it reaches.
+pub fn reached(text: &[u8], tape: &[u32], h: Heads, k: u32) -> u64
+    ensures { λ r. ⌜ holds r ≡ reached-set (now (text .entry)) (now (tape .entry)) h k ⌝ }
+{
+    let count = h.count;
+    gathered(
+        text,
+        tape,
+        h,
+        count,
+        module_set::with(module_set::empty(), k),
+    )
+}
+
+// 20 where module k is among the modules reached from those that it names.
+pub fn acyclic(text: &[u8], tape: &[u32], h: Heads, k: u32) -> Verdict
+    ensures { λ r. ⌜ told (now (text .entry)) r ≡ cycle-found (now (text .entry)) (now (tape .entry)) h k ⌝ }
+{
+    let set = gathered(text, tape, h, k, named_set(text, tape, h, k));
+    if module_set::has(set, k) {
+        return Verdict::Stop(20, name_of_module(tape, h, k));
+    }
+    Verdict::Fine
+}
