@@ -1,6 +1,6 @@
 -- The cases of single steps, one for each way through the code: p is the place of an answer.
 use mathlib.Core.Path.{_≡_, refl, sym, ap, _∙_}
-use mathlib.Core.Bool.{Bool, true, false, _||_, false≢true}
+use mathlib.Core.Bool.{Bool, true, false, false≢true}
 use mathlib.Core.List.{List, []}
 use Prim.Native.Nat.{ℕ, _+_, _-_, _*_, _%_, _<_, _≤_}
 use native.Mathlib.Omega.{arith}
@@ -19,9 +19,9 @@ use Rattle.names.specs.Word.{name-of}
 use Rattle.entries.specs.declared.Place.{Place}
 use Rattle.entries.specs.declared.Reading.{Reading}
 use Rattle.entries.specs.declared.Reading.the-variants.{Done, Refused}
-use Rattle.entries.specs.Model.{Out, out, place, Writer, onward, _>>_, refuse, unexpected, if-next, word, written, with-word, mark, step, expect, named, short-name, name, is-word-of, that-name, this-name}
+use Rattle.entries.specs.Model.{Out, out, place, Writer, onward, refuse, unexpected, word, written, with-word, step, named, short-name, name, is-word-of, that-name, this-name}
 use Rattle.entries.specs.Steps.{still, Quiet, next-passes, next-short, next-word, next-named}
-use Rattle.entries.proofs.Laws.{laws, then, quietly, refuse-quiet, step-quiet, unexpected-quiet, if-quiet, still-yes, still-no, next-yes, next-no}
+use Rattle.entries.proofs.Laws.{laws, then, quietly, refuse-quiet, step-quiet, unexpected-quiet, if-quiet}
 
 module _ (r : Reading) (k q : ℕ) (e : r ≡ Refused k q) where
   pub refused-still : (f : Writer) → Refused k q ≡ still f r

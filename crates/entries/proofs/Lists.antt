@@ -10,7 +10,7 @@ use borrow.Author.Needs.{needs}
 use lib.ListN.{length}
 use Rattle.meaning.specs.Grammar.{is}
 use Rattle.entries.specs.declared.Reading.{Reading}
-use Rattle.entries.specs.Model.{Out, out, Writer, onward, _>>_, stay, refuse, unexpected, if-next, too-many, step, separated, many}
+use Rattle.entries.specs.Model.{out, Writer, onward, _>>_, stay, refuse, unexpected, if-next, too-many, step, separated, many}
 use Rattle.entries.specs.Steps.{still, next-passes}
 use Rattle.entries.proofs.Laws.{then, then-still, stays, quietly, next-yes, next-no, step-quiet, refuse-quiet, unexpected-quiet}
 

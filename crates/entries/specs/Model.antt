@@ -1,7 +1,7 @@
 -- The grammar as it writes the tape: the rules of meaning/specs/Grammar.antt, line for line, where a rule leaves its entries in place of a
 -- result. Rules have the names that they have there.
 use Prim.Native.Nat.{ℕ, zero, suc, _+_, _-_, _*_, _/_, _%_}
-use mathlib.Core.Bool.{Bool, true, false}
+use mathlib.Core.Bool.{Bool, false}
 use mathlib.Core.List.{List}
 use lib.Dec.{eqb, leb, ltb}
 use lib.ListN.{length, set, take, replicate}

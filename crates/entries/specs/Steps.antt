@@ -1,10 +1,9 @@
 -- What the code's small functions answer, which go on from an answer and leave the tape alone.
 use mathlib.Core.Path.{_≡_}
 use Prim.Native.Nat.{ℕ, _-_}
-use mathlib.Core.Bool.{Bool, true, false}
+use mathlib.Core.Bool.{Bool, false}
 use mathlib.Core.List.{List, []}
 use lib.Dec.{leb}
-use Rattle.types.specs.declared.Token.{Token}
 use Rattle.meaning.specs.Numbers.{name-size, module-twice}
 use Rattle.entries.specs.declared.Place.{Place}
 use Rattle.entries.specs.declared.Reading.{Reading}

@@ -1,20 +1,7 @@
 // Names in a list, functions, signatures and parameters.
 use super::Reading;
-use super::kinds::ARROW;
-use super::kinds::BEGIN;
-use super::kinds::END;
-use super::kinds::EXPORTS;
-use super::kinds::FUNCTIONS;
-use super::kinds::IDENT;
-use super::kinds::PARAMETERS;
-use super::kinds::SORTS;
-use super::roles::EXPORT_FUNCTION;
-use super::roles::EXPORT_SORT;
-use super::roles::INPUT;
-use super::roles::OUTPUT;
-use super::roles::PARAMETER;
-use super::roles::PARAMETER_FUNCTION;
-use super::roles::PARAMETER_SORT;
+use super::numbers;
+use super::roles;
 use super::steps::expect;
 use super::steps::next_is;
 use super::steps::next_word;
@@ -52,8 +39,8 @@ pub fn read_names(
             return read;
         }
     }
-    if next_is(here, IDENT) {
-        return refuse(here, 4);
+    if next_is(here, tokens::IDENT) {
+        return refuse(here, numbers::OVER_SIZE);
     }
     unexpected(here)
 }
@@ -62,10 +49,10 @@ pub fn read_names(
 fn read_inputs(text: &[u8], tape: &mut [u32], at: Reading) -> Reading
     ensures { λ r. ⌜ out r (now (tape .exit)) ≡ onward at (now (tape .entry)) (input-type (now (text .entry))) ⌝ }
 {
-    if next_is(at, ARROW) {
+    if next_is(at, tokens::ARROW) {
         return at;
     }
-    read_names(text, tape, at, 8, b'#', INPUT)
+    read_names(text, tape, at, numbers::ARGUMENT_LIMIT, b'#', roles::INPUT)
 }
 
 fn read_function(text: &[u8], tape: &mut [u32], at: Reading, role: u8) -> Reading
@@ -74,8 +61,8 @@ fn read_function(text: &[u8], tape: &mut [u32], at: Reading, role: u8) -> Readin
     let a = read_name(text, tape, at, role);
     let b = expect(text, a, b':');
     let c = read_inputs(text, tape, b);
-    let d = expect(text, c, ARROW);
-    read_name(text, tape, d, OUTPUT)
+    let d = expect(text, c, tokens::ARROW);
+    read_name(text, tape, d, roles::OUTPUT)
 }
 
 // Functions for as long as one begins.
@@ -83,17 +70,17 @@ fn read_functions(text: &[u8], tape: &mut [u32], at: Reading, role: u8) -> Readi
     ensures { λ r. ⌜ out r (now (tape .exit)) ≡ onward at (now (tape .entry)) (many (now (text .entry)) text-size is-name (function (now (text .entry)) role)) ⌝ }
 {
     let mut here = at;
-    let mut left: usize = 32768;
+    let mut left: usize = numbers::TEXT_SIZE;
     while 0 < left {
-        if next_is(here, IDENT) {
+        if next_is(here, tokens::IDENT) {
             here = read_function(text, tape, here, role);
             left -= 1;
         } else {
             return here;
         }
     }
-    if next_is(here, IDENT) {
-        return refuse(here, 4);
+    if next_is(here, tokens::IDENT) {
+        return refuse(here, numbers::OVER_SIZE);
     }
     here
 }
@@ -102,9 +89,9 @@ fn read_functions(text: &[u8], tape: &mut [u32], at: Reading, role: u8) -> Readi
 fn section_sorts(text: &[u8], tape: &mut [u32], at: Reading, role: u8) -> Reading
     ensures { λ r. ⌜ out r (now (tape .exit)) ≡ onward at (now (tape .entry)) (optional (now (text .entry)) sorts-key (names (now (text .entry)) text-size (byte ",") role)) ⌝ }
 {
-    if next_is(at, SORTS) {
+    if next_is(at, tokens::SORTS_KEY) {
         let a = step(text, at);
-        return read_names(text, tape, a, 32768, b',', role);
+        return read_names(text, tape, a, numbers::TEXT_SIZE, b',', role);
     }
     at
 }
@@ -113,9 +100,9 @@ fn section_sorts(text: &[u8], tape: &mut [u32], at: Reading, role: u8) -> Readin
 fn section_functions(text: &[u8], tape: &mut [u32], at: Reading, role: u8) -> Reading
     ensures { λ r. ⌜ out r (now (tape .exit)) ≡ onward at (now (tape .entry)) (optional (now (text .entry)) functions-key (some-of (now (text .entry)) text-size is-name (function (now (text .entry)) role))) ⌝ }
 {
-    if next_is(at, FUNCTIONS) {
+    if next_is(at, tokens::FUNCTIONS_KEY) {
         let a = step(text, at);
-        if next_is(a, IDENT) {
+        if next_is(a, tokens::IDENT) {
             return read_functions(text, tape, a, role);
         }
         return unexpected(a);
@@ -140,17 +127,23 @@ pub fn read_signature(
 fn read_enclosed(text: &[u8], tape: &mut [u32], at: Reading, sorts: u8, functions: u8) -> Reading
     ensures { λ r. ⌜ out r (now (tape .exit)) ≡ onward at (now (tape .entry)) (enclosed (now (text .entry)) sorts functions) ⌝ }
 {
-    let a = expect(text, at, BEGIN);
+    let a = expect(text, at, tokens::BEGIN_KEY);
     let b = read_signature(text, tape, a, sorts, functions);
-    expect(text, b, END)
+    expect(text, b, tokens::END_KEY)
 }
 
 fn read_parameter(text: &[u8], tape: &mut [u32], at: Reading) -> Reading
     ensures { λ r. ⌜ out r (now (tape .exit)) ≡ onward at (now (tape .entry)) (parameter (now (text .entry))) ⌝ }
 {
     let w = next_word(at);
-    let a = read_name(text, tape, at, PARAMETER);
-    let b = read_enclosed(text, tape, a, PARAMETER_SORT, PARAMETER_FUNCTION);
+    let a = read_name(text, tape, at, roles::PARAMETER);
+    let b = read_enclosed(
+        text,
+        tape,
+        a,
+        roles::PARAMETER_SORT,
+        roles::PARAMETER_FUNCTION,
+    );
     this_name(text, b, w)
 }
 
@@ -158,7 +151,7 @@ fn read_parameters(text: &[u8], tape: &mut [u32], at: Reading) -> Reading
     ensures { λ r. ⌜ out r (now (tape .exit)) ≡ onward at (now (tape .entry)) (parameters (now (text .entry))) ⌝ }
 {
     let mut here = at;
-    let mut left: usize = 32768;
+    let mut left: usize = numbers::TEXT_SIZE;
     while 0 < left {
         let read = read_parameter(text, tape, here);
         if next_is(read, b',') {
@@ -168,8 +161,8 @@ fn read_parameters(text: &[u8], tape: &mut [u32], at: Reading) -> Reading
             return read;
         }
     }
-    if next_is(here, IDENT) {
-        return refuse(here, 4);
+    if next_is(here, tokens::IDENT) {
+        return refuse(here, numbers::OVER_SIZE);
     }
     unexpected(here)
 }
@@ -178,7 +171,7 @@ fn read_parameters(text: &[u8], tape: &mut [u32], at: Reading) -> Reading
 pub fn section_parameters(text: &[u8], tape: &mut [u32], at: Reading) -> Reading
     ensures { λ r. ⌜ out r (now (tape .exit)) ≡ onward at (now (tape .entry)) (optional (now (text .entry)) parameters-key (parameters (now (text .entry)))) ⌝ }
 {
-    if next_is(at, PARAMETERS) {
+    if next_is(at, tokens::PARAMETERS_KEY) {
         let a = step(text, at);
         return read_parameters(text, tape, a);
     }
@@ -189,9 +182,9 @@ pub fn section_parameters(text: &[u8], tape: &mut [u32], at: Reading) -> Reading
 pub fn section_exports(text: &[u8], tape: &mut [u32], at: Reading) -> Reading
     ensures { λ r. ⌜ out r (now (tape .exit)) ≡ onward at (now (tape .entry)) (optional (now (text .entry)) exports-key (exports (now (text .entry)))) ⌝ }
 {
-    if next_is(at, EXPORTS) {
+    if next_is(at, tokens::EXPORTS_KEY) {
         let a = step(text, at);
-        return read_enclosed(text, tape, a, EXPORT_SORT, EXPORT_FUNCTION);
+        return read_enclosed(text, tape, a, roles::EXPORT_SORT, roles::EXPORT_FUNCTION);
     }
     at
 }

@@ -1,18 +1,7 @@
 // Import expressions: renamings and bindings with their pairs.
 use super::Reading;
-use super::kinds::ARROW;
-use super::kinds::BOUND;
-use super::kinds::BY;
-use super::kinds::IDENT;
-use super::kinds::IMPORTS;
-use super::kinds::RENAMED;
-use super::kinds::TO;
-use super::roles::ACTUAL;
-use super::roles::BINDING;
-use super::roles::IMPORT;
-use super::roles::NEW;
-use super::roles::OLD;
-use super::roles::RENAMING;
+use super::numbers;
+use super::roles;
 use super::steps::expect;
 use super::steps::mark;
 use super::steps::next_is;
@@ -30,16 +19,16 @@ ghost use Rattle.entries.specs.Model.{out, onward, separated, many, some
 fn read_pair(text: &[u8], tape: &mut [u32], at: Reading) -> Reading
     ensures { λ r. ⌜ out r (now (tape .exit)) ≡ onward at (now (tape .entry)) (pair (now (text .entry))) ⌝ }
 {
-    let a = read_name(text, tape, at, OLD);
-    let b = expect(text, a, ARROW);
-    read_name(text, tape, b, NEW)
+    let a = read_name(text, tape, at, roles::OLD);
+    let b = expect(text, a, tokens::ARROW);
+    read_name(text, tape, b, roles::NEW)
 }
 
 fn pair_list(text: &[u8], tape: &mut [u32], at: Reading) -> Reading
     ensures { λ r. ⌜ out r (now (tape .exit)) ≡ onward at (now (tape .entry)) (separated (now (text .entry)) pair-limit (byte ",") is-name (pair (now (text .entry)))) ⌝ }
 {
     let mut here = at;
-    let mut left: usize = 32;
+    let mut left: usize = numbers::PAIR_LIMIT;
     while 0 < left {
         let read = read_pair(text, tape, here);
         if next_is(read, b',') {
@@ -49,8 +38,8 @@ fn pair_list(text: &[u8], tape: &mut [u32], at: Reading) -> Reading
             return read;
         }
     }
-    if next_is(here, IDENT) {
-        return refuse(here, 4);
+    if next_is(here, tokens::IDENT) {
+        return refuse(here, numbers::OVER_SIZE);
     }
     unexpected(here)
 }
@@ -66,21 +55,21 @@ fn read_pairs(text: &[u8], tape: &mut [u32], at: Reading) -> Reading
 fn read_renamed(text: &[u8], tape: &mut [u32], at: Reading) -> Reading
     ensures { λ r. ⌜ out r (now (tape .exit)) ≡ onward at (now (tape .entry)) (renamed (now (text .entry))) ⌝ }
 {
-    let a = expect(text, at, RENAMED);
-    let b = mark(tape, a, RENAMING);
-    let c = expect(text, b, BY);
+    let a = expect(text, at, tokens::RENAMED_KEY);
+    let b = mark(tape, a, roles::RENAMING);
+    let c = expect(text, b, tokens::BY_KEY);
     read_pairs(text, tape, c)
 }
 
 fn read_bound(text: &[u8], tape: &mut [u32], at: Reading) -> Reading
     ensures { λ r. ⌜ out r (now (tape .exit)) ≡ onward at (now (tape .entry)) (bound (now (text .entry))) ⌝ }
 {
-    let a = read_name(text, tape, at, BINDING);
-    let b = expect(text, a, BOUND);
-    let c = expect(text, b, BY);
+    let a = read_name(text, tape, at, roles::BINDING);
+    let b = expect(text, a, tokens::BOUND_KEY);
+    let c = expect(text, b, tokens::BY_KEY);
     let d = read_pairs(text, tape, c);
-    let e = expect(text, d, TO);
-    read_name(text, tape, e, ACTUAL)
+    let e = expect(text, d, tokens::TO_KEY);
+    read_name(text, tape, e, roles::ACTUAL)
 }
 
 // Bindings for as long as one begins, four at most.
@@ -88,17 +77,17 @@ fn read_bindings(text: &[u8], tape: &mut [u32], at: Reading) -> Reading
     ensures { λ r. ⌜ out r (now (tape .exit)) ≡ onward at (now (tape .entry)) (many (now (text .entry)) binding-limit is-name (bound (now (text .entry)))) ⌝ }
 {
     let mut here = at;
-    let mut left: usize = 4;
+    let mut left: usize = numbers::BINDING_LIMIT;
     while 0 < left {
-        if next_is(here, IDENT) {
+        if next_is(here, tokens::IDENT) {
             here = read_bound(text, tape, here);
             left -= 1;
         } else {
             return here;
         }
     }
-    if next_is(here, IDENT) {
-        return refuse(here, 4);
+    if next_is(here, tokens::IDENT) {
+        return refuse(here, numbers::OVER_SIZE);
     }
     here
 }
@@ -107,7 +96,7 @@ fn read_bindings(text: &[u8], tape: &mut [u32], at: Reading) -> Reading
 fn some_bindings(text: &[u8], tape: &mut [u32], at: Reading) -> Reading
     ensures { λ r. ⌜ out r (now (tape .exit)) ≡ onward at (now (tape .entry)) (some-of (now (text .entry)) binding-limit is-name (bound (now (text .entry)))) ⌝ }
 {
-    if next_is(at, IDENT) {
+    if next_is(at, tokens::IDENT) {
         return read_bindings(text, tape, at);
     }
     unexpected(at)
@@ -116,7 +105,7 @@ fn some_bindings(text: &[u8], tape: &mut [u32], at: Reading) -> Reading
 fn perhaps_renamed(text: &[u8], tape: &mut [u32], at: Reading) -> Reading
     ensures { λ r. ⌜ out r (now (tape .exit)) ≡ onward at (now (tape .entry)) (perhaps-renamed (now (text .entry))) ⌝ }
 {
-    if next_is(at, RENAMED) {
+    if next_is(at, tokens::RENAMED_KEY) {
         return read_renamed(text, tape, at);
     }
     at
@@ -126,7 +115,7 @@ fn perhaps_renamed(text: &[u8], tape: &mut [u32], at: Reading) -> Reading
 fn read_modifier(text: &[u8], tape: &mut [u32], at: Reading) -> Reading
     ensures { λ r. ⌜ out r (now (tape .exit)) ≡ onward at (now (tape .entry)) (modifier (now (text .entry))) ⌝ }
 {
-    if next_is(at, RENAMED) {
+    if next_is(at, tokens::RENAMED_KEY) {
         let a = read_renamed(text, tape, at);
         return read_bindings(text, tape, a);
     }
@@ -149,7 +138,7 @@ fn read_clauses(text: &[u8], tape: &mut [u32], at: Reading) -> Reading
 fn read_import(text: &[u8], tape: &mut [u32], at: Reading) -> Reading
     ensures { λ r. ⌜ out r (now (tape .exit)) ≡ onward at (now (tape .entry)) (import-expression (now (text .entry))) ⌝ }
 {
-    let a = read_name(text, tape, at, IMPORT);
+    let a = read_name(text, tape, at, roles::IMPORT);
     read_clauses(text, tape, a)
 }
 
@@ -157,7 +146,7 @@ fn read_imports(text: &[u8], tape: &mut [u32], at: Reading) -> Reading
     ensures { λ r. ⌜ out r (now (tape .exit)) ≡ onward at (now (tape .entry)) (imports (now (text .entry))) ⌝ }
 {
     let mut here = at;
-    let mut left: usize = 16;
+    let mut left: usize = numbers::IMPORT_LIMIT;
     while 0 < left {
         let read = read_import(text, tape, here);
         if next_is(read, b',') {
@@ -167,8 +156,8 @@ fn read_imports(text: &[u8], tape: &mut [u32], at: Reading) -> Reading
             return read;
         }
     }
-    if next_is(here, IDENT) {
-        return refuse(here, 4);
+    if next_is(here, tokens::IDENT) {
+        return refuse(here, numbers::OVER_SIZE);
     }
     unexpected(here)
 }
@@ -177,7 +166,7 @@ fn read_imports(text: &[u8], tape: &mut [u32], at: Reading) -> Reading
 pub fn section_imports(text: &[u8], tape: &mut [u32], at: Reading) -> Reading
     ensures { λ r. ⌜ out r (now (tape .exit)) ≡ onward at (now (tape .entry)) (optional (now (text .entry)) imports-key (imports (now (text .entry)))) ⌝ }
 {
-    if next_is(at, IMPORTS) {
+    if next_is(at, tokens::IMPORTS_KEY) {
         let a = step(text, at);
         return read_imports(text, tape, a);
     }

@@ -4,7 +4,7 @@ use types::Token;
 
 pub mod declarations;
 pub mod imports;
-pub mod kinds;
+pub mod numbers;
 pub mod roles;
 pub mod steps;
 

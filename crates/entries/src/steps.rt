@@ -1,8 +1,7 @@
 // Single tokens and single entries. Each step goes on from an answer, and does nothing where that is a refusal.
 use super::Place;
 use super::Reading;
-use super::kinds::IDENT;
-use super::kinds::NO_TOKEN;
+use super::numbers;
 use types::Token;
 ghost use mathlib.Core.Path.{_≡_};
 ghost use Prim.Native.Nat.{_-_};
@@ -28,7 +27,7 @@ pub fn next_is(at: Reading, kind: u8) -> bool
 pub fn begins_term(at: Reading) -> bool
     ensures { λ r. ⌜ r ≡ next-passes begins-term at ⌝ }
 {
-    if next_is(at, IDENT) {
+    if next_is(at, tokens::IDENT) {
         return true;
     }
     next_is(at, b'(')
@@ -52,10 +51,10 @@ pub fn refuse(at: Reading, number: u8) -> Reading
 pub fn unexpected(at: Reading) -> Reading
     ensures { λ r. ⌜ r ≡ still unexpected at ⌝ }
 {
-    if next_is(at, NO_TOKEN) {
-        return refuse(at, 1);
+    if next_is(at, tokens::NO_TOKEN) {
+        return refuse(at, numbers::NO_TOKEN_THERE);
     }
-    refuse(at, 2)
+    refuse(at, numbers::NOT_ALLOWED)
 }
 
 // The next token, passed over.
@@ -132,7 +131,7 @@ fn next_short(at: Reading) -> bool
         Reading::Done(p) => {
             let t = p.token;
             let size = size_of(t);
-            size <= 40
+            size <= numbers::NAME_SIZE
         }
     }
 }
@@ -176,14 +175,14 @@ fn short_name(text: &[u8], tape: &mut [u32], at: Reading, role: u8) -> Reading
         let a = write(tape, at, w * 32 + role as u32);
         return step(text, a);
     }
-    refuse(at, 4)
+    refuse(at, numbers::OVER_SIZE)
 }
 
 // A name, written with its role.
 pub fn read_name(text: &[u8], tape: &mut [u32], at: Reading, role: u8) -> Reading
     ensures { λ r. ⌜ out r (now (tape .exit)) ≡ onward at (now (tape .entry)) (name (now (text .entry)) role) ⌝ }
 {
-    if next_is(at, IDENT) {
+    if next_is(at, tokens::IDENT) {
         return short_name(text, tape, at, role);
     }
     unexpected(at)
@@ -204,11 +203,11 @@ fn next_named(text: &[u8], at: Reading, w: u32) -> bool
 pub fn this_name(text: &[u8], at: Reading, w: u32) -> Reading
     ensures { λ r. ⌜ r ≡ still (this-name (now (text .entry)) w) at ⌝ }
 {
-    if next_is(at, IDENT) {
+    if next_is(at, tokens::IDENT) {
         if next_named(text, at, w) {
             return step(text, at);
         }
-        return refuse(at, 3);
+        return refuse(at, numbers::OTHER_END);
     }
     unexpected(at)
 }

@@ -1,7 +1,7 @@
 -- The cases of modules and of the whole text, one for each way through the code: a, q and u come of callees, b is what a test said.
 use mathlib.Core.Path.{_≡_, refl, sym, ap, _∙_}
 use mathlib.Core.Bool.{Bool, true, false}
-use mathlib.Core.List.{List, [], _∷_, _++_}
+use mathlib.Core.List.{List, _∷_}
 use Prim.Native.Nat.{ℕ, zero, suc, _+_, _-_, _/_, _%_, _<_, _≤_}
 use native.Mathlib.Nat.{not-suc-le-zero}
 use native.Mathlib.Numerals.{add-one, sub-one}
@@ -20,7 +20,7 @@ use Rattle.names.specs.Word.{name-of}
 use Rattle.entries.specs.declared.Place.{Place}
 use Rattle.entries.specs.declared.Reading.{Reading}
 use Rattle.entries.specs.declared.Reading.the-variants.{Done, Refused}
-use Rattle.entries.specs.Model.{Out, out, place, Writer, onward, _>>_, stay, refuse, unexpected, if-next, too-many, word, declares, taken, name, fresh-name, a-module, modules, wiped, read}
+use Rattle.entries.specs.Model.{Out, out, place, Writer, onward, stay, refuse, unexpected, if-next, too-many, declares, taken, name, fresh-name, a-module, modules, wiped, read}
 use Rattle.entries.specs.Steps.{still, next-passes, next-word, twice}
 use Rattle.entries.proofs.Laws.{then, quietly, stays, next-yes, next-no, refuse-quiet, unexpected-quiet}
 use Rattle.entries.proofs.Cases.{refused-onward}

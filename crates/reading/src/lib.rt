@@ -1,6 +1,7 @@
 // The grammar: a text is read token by token, and what it says is written to the tape; or it is refused, with a number and a place.
 use entries::Place;
 use entries::Reading;
+use entries::numbers;
 use modules::read_modules;
 ghost use mathlib.Core.Path.{_≡_};
 ghost use lib.ListN.{length, replicate};
@@ -36,12 +37,12 @@ fn wipe(tape: &mut [u32], r: Reading) -> Reading
 pub fn read(text: &[u8], tape: &mut [u32]) -> Reading
     ensures { λ r. ⌜ out r (now (tape .exit)) ≡ read (now (text .entry)) (now (tape .entry)) ⌝ }
 {
-    if 32768 < text.len() {
+    if numbers::TEXT_SIZE < text.len() {
         return wipe(
             tape,
             Reading::Refused {
-                number: 4,
-                place: 32768,
+                number: numbers::OVER_SIZE,
+                place: numbers::TEXT_SIZE,
             },
         );
     }

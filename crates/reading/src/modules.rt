@@ -4,13 +4,8 @@ use entries::declarations::read_signature;
 use entries::declarations::section_exports;
 use entries::declarations::section_parameters;
 use entries::imports::section_imports;
-use entries::kinds::BEGIN;
-use entries::kinds::END;
-use entries::kinds::END_OF_TEXT;
-use entries::kinds::MODULE;
-use entries::roles::HIDDEN_FUNCTION;
-use entries::roles::HIDDEN_SORT;
-use entries::roles::MODULE_NAME;
+use entries::numbers;
+use entries::roles;
 use entries::steps::expect;
 use entries::steps::next_is;
 use entries::steps::next_word;
@@ -28,7 +23,7 @@ ghost use Rattle.entries.specs.Steps.{twice};
 fn declares(text: &[u8], w: u32, entry: u32) -> bool
     ensures { λ r. ⌜ r ≡ declares (now (text .entry)) w entry ⌝ }
 {
-    if entry % 32 == MODULE_NAME as u32 {
+    if entry % 32 == roles::MODULE_NAME as u32 {
         return names::same_name(text, w, entry / 32);
     }
     false
@@ -57,7 +52,7 @@ fn twice(at: Reading, read: Reading) -> Reading
 {
     match read {
         Reading::Refused { number, place } => Reading::Refused { number, place },
-        Reading::Done(p) => refuse(at, 5),
+        Reading::Done(p) => refuse(at, numbers::MODULE_TWICE),
     }
 }
 
@@ -71,7 +66,7 @@ fn fresh_name(text: &[u8], tape: &mut [u32], at: Reading) -> Reading
             let n = p.entries;
             let w = next_word(at);
             let again = is_taken(text, tape, w, n);
-            let a = read_name(text, tape, at, MODULE_NAME);
+            let a = read_name(text, tape, at, roles::MODULE_NAME);
             if again {
                 return twice(at, a);
             }
@@ -93,7 +88,7 @@ fn read_front(text: &[u8], tape: &mut [u32], at: Reading) -> Reading
 fn read_back(text: &[u8], tape: &mut [u32], at: Reading) -> Reading
     ensures { λ r. ⌜ out r (now (tape .exit)) ≡ onward at (now (tape .entry)) (back (now (text .entry))) ⌝ }
 {
-    let a = read_signature(text, tape, at, HIDDEN_SORT, HIDDEN_FUNCTION);
+    let a = read_signature(text, tape, at, roles::HIDDEN_SORT, roles::HIDDEN_FUNCTION);
     let b = section_variables(text, tape, a);
     section_equations(text, tape, b)
 }
@@ -103,17 +98,17 @@ fn module_named(text: &[u8], tape: &mut [u32], at: Reading, w: u32) -> Reading
     ensures { λ r. ⌜ out r (now (tape .exit)) ≡ onward at (now (tape .entry)) (module-named (now (text .entry)) w) ⌝ }
 {
     let a = fresh_name(text, tape, at);
-    let b = expect(text, a, BEGIN);
+    let b = expect(text, a, tokens::BEGIN_KEY);
     let c = read_front(text, tape, b);
     let d = read_back(text, tape, c);
-    let e = expect(text, d, END);
+    let e = expect(text, d, tokens::END_KEY);
     this_name(text, e, w)
 }
 
 fn read_module(text: &[u8], tape: &mut [u32], at: Reading) -> Reading
     ensures { λ r. ⌜ out r (now (tape .exit)) ≡ onward at (now (tape .entry)) (a-module (now (text .entry))) ⌝ }
 {
-    let a = expect(text, at, MODULE);
+    let a = expect(text, at, tokens::MODULE_KEY);
     let w = next_word(a);
     module_named(text, tape, a, w)
 }
@@ -123,17 +118,17 @@ pub fn read_modules(text: &[u8], tape: &mut [u32], at: Reading) -> Reading
     ensures { λ r. ⌜ out r (now (tape .exit)) ≡ onward at (now (tape .entry)) (modules (now (text .entry)) 64) ⌝ }
 {
     let mut here = at;
-    let mut left: usize = 64;
+    let mut left: usize = numbers::MODULE_LIMIT;
     while 0 < left {
         let read = read_module(text, tape, here);
-        if next_is(read, END_OF_TEXT) {
+        if next_is(read, tokens::END_OF_TEXT) {
             return read;
         }
         here = read;
         left -= 1;
     }
-    if next_is(here, MODULE) {
-        return refuse(here, 4);
+    if next_is(here, tokens::MODULE_KEY) {
+        return refuse(here, numbers::OVER_SIZE);
     }
     unexpected(here)
 }

@@ -1,5 +1,5 @@
 -- The cases of terms, one for each way through the code: f, q and u come of callees.
-use mathlib.Core.Path.{_≡_, refl, sym, ap, _∙_}
+use mathlib.Core.Path.{_≡_, refl, sym, _∙_}
 use mathlib.Core.Bool.{Bool, true, false}
 use mathlib.Core.List.{List}
 use Prim.Native.Nat.{ℕ, zero, suc, _+_, _-_, _<_, _≤_}
@@ -10,16 +10,15 @@ use borrow.Author.Needs.{needs}
 use borrow.Author.Tests.{eq-eqb, ne-eqb, le-leb, lt-leb}
 use Rattle.types.specs.declared.Token.{Token}
 use Rattle.meaning.specs.Lists.{pick}
-use Rattle.meaning.specs.Names.{byte}
 use Rattle.meaning.specs.Tokens.{token-at}
-use Rattle.meaning.specs.Grammar.{is, is-name, begins-term}
+use Rattle.meaning.specs.Grammar.{is, begins-term}
 use Rattle.entries.specs.declared.Place.{Place}
 use Rattle.entries.specs.declared.Reading.{Reading}
-use Rattle.entries.specs.declared.Reading.the-variants.{Done, Refused}
+use Rattle.entries.specs.declared.Reading.the-variants.{Done}
 use Rattle.tape.specs.Tape.{close-role}
-use Rattle.entries.specs.Model.{Out, out, place, Writer, onward, _>>_, stay, refuse, unexpected, if-next, too-many, mark, step, expect, name, node-role, counted-name, term-name, term-by, in-brackets, separated, term, no-nodes}
+use Rattle.entries.specs.Model.{Out, out, place, Writer, onward, _>>_, stay, refuse, unexpected, if-next, mark, step, expect, name, node-role, counted-name, term-name, term-by, in-brackets, separated, term, no-nodes}
 use Rattle.entries.specs.Steps.{still, Quiet, next-passes}
-use Rattle.entries.proofs.Laws.{then, then-still, quietly, stays, next-yes, next-no, refuse-quiet, step-quiet, expect-quiet, unexpected-quiet}
+use Rattle.entries.proofs.Laws.{then, then-still, quietly, stays, next-yes, next-no, refuse-quiet, expect-quiet}
 use Rattle.entries.proofs.Cases.{refused-onward, refused-still}
 use Rattle.entries.proofs.Lists.{begins-loop, separated-again, separated-ends, separated-full, separated-bad}
 

@@ -1,19 +1,10 @@
 // Variables and equations.
-use super::terms::read_term;
+use super::term::read_term;
 use entries::Place;
 use entries::Reading;
 use entries::declarations::read_names;
-use entries::kinds::ARROW;
-use entries::kinds::EQUATIONS;
-use entries::kinds::IDENT;
-use entries::kinds::IMPLIES;
-use entries::kinds::VARIABLES;
-use entries::kinds::WHEN;
-use entries::roles::CONCLUSION;
-use entries::roles::CONDITION;
-use entries::roles::TAG;
-use entries::roles::VARIABLE;
-use entries::roles::VARIABLE_SORT;
+use entries::numbers;
+use entries::roles;
 use entries::steps::begins_term;
 use entries::steps::expect;
 use entries::steps::mark;
@@ -34,10 +25,10 @@ ghost use Rattle.entries.specs.Steps.{still};
 fn read_group(text: &[u8], tape: &mut [u32], at: Reading) -> Reading
     ensures { λ r. ⌜ out r (now (tape .exit)) ≡ onward at (now (tape .entry)) (variable-group (now (text .entry))) ⌝ }
 {
-    let a = read_names(text, tape, at, 32768, b',', VARIABLE);
+    let a = read_names(text, tape, at, numbers::TEXT_SIZE, b',', roles::VARIABLE);
     let b = expect(text, a, b':');
-    let c = expect(text, b, ARROW);
-    read_name(text, tape, c, VARIABLE_SORT)
+    let c = expect(text, b, tokens::ARROW);
+    read_name(text, tape, c, roles::VARIABLE_SORT)
 }
 
 // Groups of variables for as long as one begins.
@@ -45,17 +36,17 @@ fn read_groups(text: &[u8], tape: &mut [u32], at: Reading) -> Reading
     ensures { λ r. ⌜ out r (now (tape .exit)) ≡ onward at (now (tape .entry)) (many (now (text .entry)) text-size is-name (variable-group (now (text .entry)))) ⌝ }
 {
     let mut here = at;
-    let mut left: usize = 32768;
+    let mut left: usize = numbers::TEXT_SIZE;
     while 0 < left {
-        if next_is(here, IDENT) {
+        if next_is(here, tokens::IDENT) {
             here = read_group(text, tape, here);
             left -= 1;
         } else {
             return here;
         }
     }
-    if next_is(here, IDENT) {
-        return refuse(here, 4);
+    if next_is(here, tokens::IDENT) {
+        return refuse(here, numbers::OVER_SIZE);
     }
     here
 }
@@ -64,9 +55,9 @@ fn read_groups(text: &[u8], tape: &mut [u32], at: Reading) -> Reading
 pub fn section_variables(text: &[u8], tape: &mut [u32], at: Reading) -> Reading
     ensures { λ r. ⌜ out r (now (tape .exit)) ≡ onward at (now (tape .entry)) (optional (now (text .entry)) variables-key (variables (now (text .entry)))) ⌝ }
 {
-    if next_is(at, VARIABLES) {
+    if next_is(at, tokens::VARIABLES_KEY) {
         let a = step(text, at);
-        if next_is(a, IDENT) {
+        if next_is(a, tokens::IDENT) {
             return read_groups(text, tape, a);
         }
         return unexpected(a);
@@ -78,9 +69,9 @@ pub fn section_variables(text: &[u8], tape: &mut [u32], at: Reading) -> Reading
 fn read_sides(text: &[u8], tape: &mut [u32], at: Reading, role: u8) -> Reading
     ensures { λ r. ⌜ out r (now (tape .exit)) ≡ onward at (now (tape .entry)) (sides (now (text .entry)) (mark role)) ⌝ }
 {
-    let a = read_term(text, tape, at, 15);
+    let a = read_term(text, tape, at, numbers::BRACKET_LIMIT);
     let b = expect(text, a, b'=');
-    let c = read_term(text, tape, b, 15);
+    let c = read_term(text, tape, b, numbers::BRACKET_LIMIT);
     mark(tape, c, role)
 }
 
@@ -89,21 +80,21 @@ fn mark_by_next(tape: &mut [u32], at: Reading) -> Reading
     ensures { λ r. ⌜ out r (now (tape .exit)) ≡ onward at (now (tape .entry)) by-next ⌝ }
 {
     if next_is(at, b',') {
-        return mark(tape, at, CONDITION);
+        return mark(tape, at, roles::CONDITION);
     }
-    if next_is(at, IMPLIES) {
-        return mark(tape, at, CONDITION);
+    if next_is(at, tokens::IMPLIES) {
+        return mark(tape, at, roles::CONDITION);
     }
-    mark(tape, at, CONCLUSION)
+    mark(tape, at, roles::CONCLUSION)
 }
 
 // Sides that are a condition or a conclusion by what follows.
 fn open_sides(text: &[u8], tape: &mut [u32], at: Reading) -> Reading
     ensures { λ r. ⌜ out r (now (tape .exit)) ≡ onward at (now (tape .entry)) (sides (now (text .entry)) by-next) ⌝ }
 {
-    let a = read_term(text, tape, at, 15);
+    let a = read_term(text, tape, at, numbers::BRACKET_LIMIT);
     let b = expect(text, a, b'=');
-    let c = read_term(text, tape, b, 15);
+    let c = read_term(text, tape, b, numbers::BRACKET_LIMIT);
     mark_by_next(tape, c)
 }
 
@@ -111,8 +102,8 @@ fn open_sides(text: &[u8], tape: &mut [u32], at: Reading) -> Reading
 fn read_implied(text: &[u8], tape: &mut [u32], at: Reading) -> Reading
     ensures { λ r. ⌜ out r (now (tape .exit)) ≡ onward at (now (tape .entry)) (implied (now (text .entry))) ⌝ }
 {
-    let a = expect(text, at, IMPLIES);
-    read_sides(text, tape, a, CONCLUSION)
+    let a = expect(text, at, tokens::IMPLIES);
+    read_sides(text, tape, a, roles::CONCLUSION)
 }
 
 // The conditions after `when`, eight at most.
@@ -120,9 +111,9 @@ fn read_conditions(text: &[u8], tape: &mut [u32], at: Reading) -> Reading
     ensures { λ r. ⌜ out r (now (tape .exit)) ≡ onward at (now (tape .entry)) (separated (now (text .entry)) condition-limit (byte ",") begins-term (sides (now (text .entry)) (mark condition-role))) ⌝ }
 {
     let mut here = at;
-    let mut left: usize = 8;
+    let mut left: usize = numbers::CONDITION_LIMIT;
     while 0 < left {
-        let read = read_sides(text, tape, here, CONDITION);
+        let read = read_sides(text, tape, here, roles::CONDITION);
         if next_is(read, b',') {
             here = step(text, read);
             left -= 1;
@@ -131,7 +122,7 @@ fn read_conditions(text: &[u8], tape: &mut [u32], at: Reading) -> Reading
         }
     }
     if begins_term(here) {
-        return refuse(here, 4);
+        return refuse(here, numbers::OVER_SIZE);
     }
     unexpected(here)
 }
@@ -140,7 +131,7 @@ fn read_conditions(text: &[u8], tape: &mut [u32], at: Reading) -> Reading
 fn read_conditional(text: &[u8], tape: &mut [u32], at: Reading) -> Reading
     ensures { λ r. ⌜ out r (now (tape .exit)) ≡ onward at (now (tape .entry)) (conditional (now (text .entry))) ⌝ }
 {
-    if next_is(at, WHEN) {
+    if next_is(at, tokens::WHEN_KEY) {
         let a = step(text, at);
         return read_conditions(text, tape, a);
     }
@@ -152,7 +143,7 @@ fn read_premises(text: &[u8], tape: &mut [u32], at: Reading) -> Reading
     ensures { λ r. ⌜ out r (now (tape .exit)) ≡ onward at (now (tape .entry)) (separated (now (text .entry)) 7 (byte ",") begins-term (sides (now (text .entry)) by-next)) ⌝ }
 {
     let mut here = at;
-    let mut left: usize = 7;
+    let mut left: usize = numbers::CONDITION_LIMIT - 1;
     while 0 < left {
         let read = open_sides(text, tape, here);
         if next_is(read, b',') {
@@ -163,7 +154,7 @@ fn read_premises(text: &[u8], tape: &mut [u32], at: Reading) -> Reading
         }
     }
     if begins_term(here) {
-        return refuse(here, 4);
+        return refuse(here, numbers::OVER_SIZE);
     }
     unexpected(here)
 }
@@ -177,7 +168,7 @@ fn equation_after(text: &[u8], tape: &mut [u32], at: Reading) -> Reading
         let b = read_premises(text, tape, a);
         return read_implied(text, tape, b);
     }
-    if next_is(at, IMPLIES) {
+    if next_is(at, tokens::IMPLIES) {
         return read_implied(text, tape, at);
     }
     read_conditional(text, tape, at)
@@ -206,7 +197,7 @@ fn read_equation(text: &[u8], tape: &mut [u32], at: Reading) -> Reading
 {
     let a = no_nodes(at);
     let b = expect(text, a, b'[');
-    let c = read_name(text, tape, b, TAG);
+    let c = read_name(text, tape, b, roles::TAG);
     let d = expect(text, c, b']');
     let e = open_sides(text, tape, d);
     equation_after(text, tape, e)
@@ -217,7 +208,7 @@ fn read_equations(text: &[u8], tape: &mut [u32], at: Reading) -> Reading
     ensures { λ r. ⌜ out r (now (tape .exit)) ≡ onward at (now (tape .entry)) (many (now (text .entry)) text-size (is (byte "[")) (equation (now (text .entry)))) ⌝ }
 {
     let mut here = at;
-    let mut left: usize = 32768;
+    let mut left: usize = numbers::TEXT_SIZE;
     while 0 < left {
         if next_is(here, b'[') {
             here = read_equation(text, tape, here);
@@ -227,7 +218,7 @@ fn read_equations(text: &[u8], tape: &mut [u32], at: Reading) -> Reading
         }
     }
     if next_is(here, b'[') {
-        return refuse(here, 4);
+        return refuse(here, numbers::OVER_SIZE);
     }
     here
 }
@@ -236,7 +227,7 @@ fn read_equations(text: &[u8], tape: &mut [u32], at: Reading) -> Reading
 pub fn section_equations(text: &[u8], tape: &mut [u32], at: Reading) -> Reading
     ensures { λ r. ⌜ out r (now (tape .exit)) ≡ onward at (now (tape .entry)) (optional (now (text .entry)) equations-key (equations (now (text .entry)))) ⌝ }
 {
-    if next_is(at, EQUATIONS) {
+    if next_is(at, tokens::EQUATIONS_KEY) {
         let a = step(text, at);
         if next_is(a, b'[') {
             return read_equations(text, tape, a);

@@ -1,3 +1,3 @@
 // Terms and equations, written to the tape.
 pub mod equations;
-pub mod terms;
+pub mod term;

@@ -1,3 +1,5 @@
+-- `reading::clear` meets its contract. The words before i are zero.
+-- Assumes nothing.
 use Prim.Native.Nat.{_-_}
 use lib.ListN.{length}
 use Rattle.reading.proofs.Cases.{Clearing, cases}

@@ -1,3 +1,5 @@
+-- `entries::declarations::read_enclosed` meets its contract.
+-- Assumes nothing.
 use Rattle.entries.specs.Model.{enclosed}
 use borrow.Author.Needs.{needs}
 use Rattle.entries.proofs.Rules.{rules}

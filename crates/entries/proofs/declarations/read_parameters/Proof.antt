@@ -1,3 +1,5 @@
+-- `entries::declarations::read_parameters` meets its contract. The loop keeps what is to be read: what was at first comes to what is now.
+-- Assumes nothing.
 use Rattle.entries.specs.Model.{separated, parameter, parameters}
 use Rattle.meaning.specs.Numbers.{text-size}
 use Rattle.meaning.specs.Names.{byte}

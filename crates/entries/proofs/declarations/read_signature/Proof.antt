@@ -1,3 +1,5 @@
+-- `entries::declarations::read_signature` meets its contract.
+-- Assumes nothing.
 use Rattle.entries.specs.Model.{signature}
 use borrow.Author.Needs.{needs}
 use Rattle.entries.proofs.Rules.{rules}

@@ -1,3 +1,5 @@
+-- `entries::declarations::section_parameters` meets its contract.
+-- Assumes nothing.
 use Rattle.entries.specs.Model.{optional}
 use borrow.Author.Needs.{needs}
 use Rattle.entries.proofs.Rules.{rules}

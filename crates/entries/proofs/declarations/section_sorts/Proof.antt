@@ -1,3 +1,5 @@
+-- `entries::declarations::section_sorts` meets its contract.
+-- Assumes nothing.
 use Rattle.entries.specs.Model.{optional}
 use Rattle.meaning.specs.Numbers.{text-size}
 use borrow.Author.Needs.{needs}

@@ -1,3 +1,5 @@
+-- `entries::imports::pair_list` meets its contract. The loop keeps what is to be read: what was at first comes to what is now.
+-- Assumes nothing.
 use Rattle.entries.specs.Model.{separated, pair}
 use Rattle.meaning.specs.Numbers.{pair-limit}
 use Rattle.meaning.specs.Names.{byte}

@@ -1,3 +1,5 @@
+-- `entries::imports::perhaps_renamed` meets its contract.
+-- Assumes nothing.
 use Rattle.entries.specs.Model.{perhaps-renamed}
 use borrow.Author.Needs.{needs}
 use Rattle.entries.proofs.Rules.{rules}

@@ -1,3 +1,5 @@
+-- `entries::imports::read_bindings` meets its contract. The loop keeps what is to be read: what was at first comes to what is now.
+-- Assumes nothing.
 use Rattle.entries.specs.Model.{many, bound}
 use Rattle.meaning.specs.Numbers.{binding-limit}
 use Rattle.meaning.specs.Grammar.{is-name}

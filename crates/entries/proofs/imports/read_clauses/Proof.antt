@@ -1,3 +1,5 @@
+-- `entries::imports::read_clauses` meets its contract.
+-- Assumes nothing.
 use Rattle.entries.specs.Model.{optional, modified}
 use borrow.Author.Needs.{needs}
 use Rattle.entries.proofs.Rules.{rules}

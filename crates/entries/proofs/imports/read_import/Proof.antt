@@ -1,3 +1,5 @@
+-- `entries::imports::read_import` meets its contract.
+-- Assumes nothing.
 use Rattle.entries.specs.Model.{import-expression}
 use borrow.Author.Needs.{needs}
 use Rattle.entries.proofs.Rules.{rules}

@@ -1,3 +1,5 @@
+-- `entries::imports::read_imports` meets its contract. The loop keeps what is to be read: what was at first comes to what is now.
+-- Assumes nothing.
 use Rattle.entries.specs.Model.{separated, import-expression, imports}
 use Rattle.meaning.specs.Names.{byte}
 use Rattle.meaning.specs.Grammar.{is-name}

@@ -1,3 +1,5 @@
+-- `entries::imports::read_modifier` meets its contract.
+-- Assumes nothing.
 use Rattle.entries.specs.Model.{modifier}
 use borrow.Author.Needs.{needs}
 use Rattle.entries.proofs.Rules.{rules}

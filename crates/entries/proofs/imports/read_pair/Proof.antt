@@ -1,3 +1,5 @@
+-- `entries::imports::read_pair` meets its contract.
+-- Assumes nothing.
 use Rattle.entries.specs.Model.{pair}
 use borrow.Author.Needs.{needs}
 use Rattle.entries.proofs.Rules.{rules}

@@ -1,3 +1,5 @@
+-- `entries::imports::some_bindings` meets its contract.
+-- Assumes nothing.
 use Rattle.entries.specs.Model.{some-of}
 use borrow.Author.Needs.{needs}
 use Rattle.entries.proofs.Rules.{rules}

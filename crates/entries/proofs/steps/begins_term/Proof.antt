@@ -1,3 +1,5 @@
+-- `entries::steps::begins_term` meets its contract.
+-- Assumes nothing.
 use Rattle.entries.proofs.Cases.{cases}
 use borrow.Author.Needs.{needs}
 use Rattle.entries.proofs.steps.begins_term.Statement.{statement}

@@ -1,3 +1,5 @@
+-- `entries::steps::expect` meets its contract.
+-- Assumes nothing.
 use Rattle.entries.specs.Model.{expect}
 use Rattle.entries.proofs.Cases.{cases}
 use borrow.Author.Needs.{needs}

@@ -1,3 +1,5 @@
+-- `entries::steps::mark` meets its contract.
+-- Assumes nothing.
 use Rattle.entries.specs.Model.{mark}
 use Rattle.entries.proofs.Cases.{cases}
 use borrow.Author.Needs.{needs}

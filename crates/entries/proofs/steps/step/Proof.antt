@@ -1,3 +1,5 @@
+-- `entries::steps::step` meets its contract.
+-- Assumes nothing.
 use Rattle.entries.proofs.Cases.{cases}
 use borrow.Author.Needs.{needs}
 use Rattle.entries.proofs.steps.step.Statement.{statement}

@@ -1,3 +1,5 @@
+-- `entries::steps::word_of` meets its contract.
+-- Assumes nothing.
 use Rattle.entries.proofs.Cases.{cases}
 use borrow.Author.Needs.{needs}
 use Rattle.entries.proofs.steps.word_of.Statement.{statement}

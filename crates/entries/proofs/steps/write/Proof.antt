@@ -1,3 +1,5 @@
+-- `entries::steps::write` meets its contract.
+-- Assumes nothing.
 use Rattle.entries.proofs.Cases.{cases}
 use borrow.Author.Needs.{needs}
 use Rattle.entries.proofs.steps.write.Statement.{statement}

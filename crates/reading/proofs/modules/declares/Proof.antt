@@ -1,3 +1,5 @@
+-- `reading::modules::declares` meets its contract.
+-- Assumes nothing.
 use Rattle.reading.proofs.Cases.{cases}
 use borrow.Author.Needs.{needs}
 use Rattle.reading.proofs.modules.declares.Statement.{statement}

@@ -1,3 +1,5 @@
+-- `reading::modules::fresh_name` meets its contract.
+-- Assumes nothing.
 use Rattle.reading.proofs.Cases.{cases}
 use borrow.Author.Needs.{needs}
 use Rattle.reading.proofs.modules.fresh_name.Statement.{statement}

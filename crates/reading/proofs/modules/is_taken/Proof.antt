@@ -1,3 +1,5 @@
+-- `reading::modules::is_taken` meets its contract. The entries before i declare no module with the name.
+-- Assumes nothing.
 use mathlib.Core.Path.{_≡_}
 use Prim.Native.Nat.{_-_}
 use lib.ListN.{take, drop}

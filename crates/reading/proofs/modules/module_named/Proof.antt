@@ -1,3 +1,5 @@
+-- `reading::modules::module_named` meets its contract.
+-- Assumes nothing.
 use Rattle.entries.specs.Model.{module-named}
 use borrow.Author.Needs.{needs}
 use Rattle.entries.proofs.Rules.{rules}

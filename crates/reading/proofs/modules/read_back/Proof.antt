@@ -1,3 +1,5 @@
+-- `reading::modules::read_back` meets its contract.
+-- Assumes nothing.
 use Rattle.entries.specs.Model.{back}
 use borrow.Author.Needs.{needs}
 use Rattle.entries.proofs.Rules.{rules}

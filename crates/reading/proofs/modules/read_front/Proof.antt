@@ -1,3 +1,5 @@
+-- `reading::modules::read_front` meets its contract.
+-- Assumes nothing.
 use Rattle.entries.specs.Model.{front}
 use borrow.Author.Needs.{needs}
 use Rattle.entries.proofs.Rules.{rules}

@@ -1,3 +1,5 @@
+-- `reading::modules::read_module` meets its contract.
+-- Assumes nothing.
 use Rattle.entries.specs.Model.{a-module}
 use borrow.Author.Needs.{needs}
 use Rattle.entries.proofs.Rules.{rules}

@@ -1,3 +1,5 @@
+-- `reading::modules::read_modules` meets its contract. The loop keeps what is to be read: what was at first comes to what is now.
+-- Assumes nothing.
 use Rattle.entries.specs.Model.{modules}
 use borrow.Author.Needs.{needs}
 use Rattle.entries.proofs.Lists.{Comes, sized}

@@ -1,3 +1,5 @@
+-- `terms::equations::equation_after` meets its contract.
+-- Assumes nothing.
 use Rattle.entries.specs.Model.{equation-after}
 use borrow.Author.Needs.{needs}
 use Rattle.entries.proofs.Rules.{rules}

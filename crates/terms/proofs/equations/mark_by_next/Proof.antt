@@ -1,3 +1,5 @@
+-- `terms::equations::mark_by_next` meets its contract.
+-- Assumes nothing.
 use Rattle.entries.specs.Model.{by-next}
 use borrow.Author.Needs.{needs}
 use Rattle.entries.proofs.Rules.{rules}

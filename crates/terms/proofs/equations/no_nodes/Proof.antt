@@ -1,3 +1,5 @@
+-- `terms::equations::no_nodes` meets its contract.
+-- Assumes nothing.
 use Rattle.terms.proofs.Cases.{cases}
 use borrow.Author.Needs.{needs}
 use Rattle.terms.proofs.equations.no_nodes.Statement.{statement}

@@ -1,3 +1,5 @@
+-- `terms::equations::open_sides` meets its contract.
+-- Assumes nothing.
 use Rattle.entries.specs.Model.{sides}
 use borrow.Author.Needs.{needs}
 use Rattle.entries.proofs.Rules.{rules}

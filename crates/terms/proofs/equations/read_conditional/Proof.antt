@@ -1,3 +1,5 @@
+-- `terms::equations::read_conditional` meets its contract.
+-- Assumes nothing.
 use Rattle.entries.specs.Model.{conditional, optional}
 use borrow.Author.Needs.{needs}
 use Rattle.entries.proofs.Rules.{rules}

@@ -1,3 +1,5 @@
+-- `terms::equations::read_conditions` meets its contract. The loop keeps what is to be read: what was at first comes to what is now.
+-- Assumes nothing.
 use Rattle.tape.specs.Tape.{condition-role}
 use Rattle.entries.specs.Model.{separated, mark, sides}
 use Rattle.meaning.specs.Numbers.{condition-limit}

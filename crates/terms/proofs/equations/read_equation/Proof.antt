@@ -1,3 +1,5 @@
+-- `terms::equations::read_equation` meets its contract.
+-- Assumes nothing.
 use Rattle.entries.specs.Model.{equation}
 use borrow.Author.Needs.{needs}
 use Rattle.entries.proofs.Rules.{rules}

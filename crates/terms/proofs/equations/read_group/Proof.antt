@@ -1,3 +1,5 @@
+-- `terms::equations::read_group` meets its contract.
+-- Assumes nothing.
 use Rattle.entries.specs.Model.{variable-group}
 use Rattle.meaning.specs.Numbers.{text-size}
 use borrow.Author.Needs.{needs}

@@ -1,3 +1,5 @@
+-- `terms::equations::read_implied` meets its contract.
+-- Assumes nothing.
 use Rattle.entries.specs.Model.{implied}
 use borrow.Author.Needs.{needs}
 use Rattle.entries.proofs.Rules.{rules}

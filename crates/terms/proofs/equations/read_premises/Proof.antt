@@ -1,3 +1,5 @@
+-- `terms::equations::read_premises` meets its contract. The loop keeps what is to be read: what was at first comes to what is now.
+-- Assumes nothing.
 use Rattle.entries.specs.Model.{separated, by-next, sides}
 use Rattle.meaning.specs.Names.{byte}
 use Rattle.meaning.specs.Grammar.{begins-term}
@@ -18,6 +20,7 @@ read-premises-spec =
     (tie.spec
     Inv-loop
     μ-loop
+    (λ c. search needs)  -- sub-left
     (λ c. search loops)  -- loop-holds
     (λ c κs. search needs)  -- open-sides-requires
     (λ c κs. search needs)  -- next-is-requires

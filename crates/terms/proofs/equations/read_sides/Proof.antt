@@ -1,3 +1,5 @@
+-- `terms::equations::read_sides` meets its contract.
+-- Assumes nothing.
 use Rattle.entries.specs.Model.{sides}
 use borrow.Author.Needs.{needs}
 use Rattle.entries.proofs.Rules.{rules}

@@ -1,3 +1,5 @@
+-- `terms::equations::section_variables` meets its contract.
+-- Assumes nothing.
 use Rattle.entries.specs.Model.{optional, variables, some-of}
 use borrow.Author.Needs.{needs}
 use Rattle.entries.proofs.Rules.{rules}
