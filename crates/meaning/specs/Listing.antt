@@ -32,21 +32,21 @@ origin-line o = line "origin" (origin-text o)
 
 -- ---- items: a key for each kind, the name or number, and what follows it
 
-unfoldable pub sort-or-function : String → String → String → Shape → List ℕ
-sort-or-function s f v sort-shape = bytes s
-sort-or-function s f v (function-shape t) = bytes f
-sort-or-function s f v (variable-shape r) = bytes v
+unfoldable pub kind-key : String → String → String → Shape → List ℕ
+kind-key s f v sort-shape = bytes s
+kind-key s f v (function-shape t) = bytes f
+kind-key s f v (variable-shape r) = bytes v
 
 abbrev pub item-line : List ℕ → List ℕ → List Item → Shape → Line
 item-line key called hidden shape = record { key = key; value = called ++ shape-text hidden shape }
 
 unfoldable pub exported-lines : Item → List Line
 exported-lines i =
-    item-line (sort-or-function "sort" "function" "variable" (i .shape)) (i .name) [] (i .shape) ∷ origin-line (i .origin) ∷ []
+    item-line (kind-key "sort" "function" "variable" (i .shape)) (i .name) [] (i .shape) ∷ origin-line (i .origin) ∷ []
 
 unfoldable pub formal-lines : Item → List Line
 formal-lines i =
-    item-line (sort-or-function "parameter-sort" "parameter-function" "variable" (i .shape)) (i .name) [] (i .shape)
+    item-line (kind-key "parameter-sort" "parameter-function" "variable" (i .shape)) (i .name) [] (i .shape)
     ∷ origin-line (i .origin) ∷ []
 
 -- exported or inherited items, then each parameter with its own
@@ -66,7 +66,7 @@ visible-lines v =
 unfoldable pub hidden-item-lines : List Item → ℕ → List Item → List Line
 hidden-item-lines hidden k [] = []
 hidden-item-lines hidden k (i ∷ is) =
-    item-line (sort-or-function "hidden-sort" "hidden-function" "variable" (i .shape)) (numbered k) hidden (i .shape)
+    item-line (kind-key "hidden-sort" "hidden-function" "variable" (i .shape)) (numbered k) hidden (i .shape)
     ∷ origin-line (i .origin) ∷ hidden-item-lines hidden (k + 1) is
 
 unfoldable pub equation-line : List Item → ResolvedEquation → Line
@@ -96,5 +96,5 @@ shown kept (l ∷ ls) =
 
 -- opens every definition of this file
 unfoldable pub listing-opened : Unit {0}
-unfolding line-text lines-text origin-line sort-or-function exported-lines formal-lines is-exported parameter-lines visible-lines hidden-item-lines equation-line hidden-lines listing-lines visible-keys shown
+unfolding line-text lines-text origin-line kind-key exported-lines formal-lines is-exported parameter-lines visible-lines hidden-item-lines equation-line hidden-lines listing-lines visible-keys shown
 listing-opened = tt

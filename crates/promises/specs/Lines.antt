@@ -7,7 +7,7 @@ use Rattle.meaning.specs.Lists.{pick}
 use Rattle.meaning.specs.Names.{bytes, Name, same, member, words}
 use Rattle.meaning.specs.Origins.{Origin, ResolvedEquation, Shape, Item, sort-shape, function-shape, variable-shape}
 use Rattle.meaning.specs.Normal.{Hidden, Normal}
-use Rattle.meaning.specs.Listing.{Line, line, origin-line, sort-or-function, visible-lines, hidden-item-lines, equation-line, hidden-lines, listing-lines, visible-keys, shown}
+use Rattle.meaning.specs.Listing.{Line, line, origin-line, kind-key, visible-lines, hidden-item-lines, equation-line, hidden-lines, listing-lines, visible-keys, shown}
 
 -- ---- lines of which none is shown
 
@@ -23,11 +23,11 @@ origin-dropped o ls = refl
 
 -- opens what the keys are tested by
 unfoldable key-opened : Unit {0}
-unfolding same member pick visible-keys words sort-or-function
+unfolding same member pick visible-keys words kind-key
 key-opened = tt
 
 abbrev hidden-key : Shape → List ℕ
-hidden-key s = sort-or-function "hidden-sort" "hidden-function" "variable" s
+hidden-key s = kind-key "hidden-sort" "hidden-function" "variable" s
 
 hidden-not-origin : (s : Shape) → same (hidden-key s) (bytes "origin") ≡ false
 unfolding key-opened

@@ -12,7 +12,7 @@ use Rattle.meaning.specs.Origins.{Section, Declared, Origin, Sort, Head, Resolv
 use Rattle.meaning.specs.Normal.{Visible, Hidden, Normal}
 use Rattle.meaning.specs.Written.{digits, decimal, between-marks, type-text, argument-text, section-text, declared-text, origin-text, numbered, sort-text, function-type-text, shape-text, head-text, variable-text, term-text, term-texts, sides-text, conditions-text, equation-text}
 use Rattle.meaning.specs.Clauses.{formals}
-use Rattle.meaning.specs.Listing.{Line, line, origin-line, sort-or-function, item-line, exported-lines, formal-lines, is-exported, parameter-lines, visible-lines, hidden-item-lines, equation-line, hidden-lines, listing-lines}
+use Rattle.meaning.specs.Listing.{Line, line, origin-line, kind-key, item-line, exported-lines, formal-lines, is-exported, parameter-lines, visible-lines, hidden-item-lines, equation-line, hidden-lines, listing-lines}
 use Rattle.promises.specs.Demand.{ForEach}
 use Rattle.promises.specs.Tie.{lacks, Inline, PlainLine, lacks-cons, lacks-append}
 use Rattle.promises.specs.Inline.{InlineSection, InlineDeclared, InlineOrigin, InlineSort, InlineShape, InlineItem, InlineHead, InlineTerm, InlineTerms, InlineSides, InlineEquation, InlineVisible, InlineHidden, InlineNormal, each-append, each-kept, each-mapped, each-joined}
@@ -154,8 +154,8 @@ item-plain key called hidden i h k q p = (
 )
 
 -- a test that three keys pass passes the one that is chosen
-keyed : (P : List ℕ → Type 0) (s f v : String) (h : Shape) → P (bytes s) → P (bytes f) → P (bytes v) → P (sort-or-function s f v h)
-unfolding sort-or-function
+keyed : (P : List ℕ → Type 0) (s f v : String) (h : Shape) → P (bytes s) → P (bytes f) → P (bytes v) → P (kind-key s f v h)
+unfolding kind-key
 keyed P s f v sort-shape a b c = a
 keyed P s f v (function-shape t) a b c = b
 keyed P s f v (variable-shape r) a b c = c

@@ -21,7 +21,7 @@ use Rattle.meaning.specs.Syntax.{node, _then_}
 use Rattle.meaning.specs.Clauses.{formals}
 use Rattle.meaning.specs.Normal.{Visible, Normal, sorts-among}
 use Rattle.meaning.specs.Written.{numbered, sort-text, type-text, function-type-text, origin-text, shape-text, equation-text, shape-rank}
-use Rattle.meaning.specs.Listing.{is-exported, visible-lines, Line, origin-line, sort-or-function, item-line, exported-lines, formal-lines, parameter-lines, hidden-item-lines, line, lines-text, equation-line, hidden-lines, listing-lines}
+use Rattle.meaning.specs.Listing.{is-exported, visible-lines, Line, origin-line, kind-key, item-line, exported-lines, formal-lines, parameter-lines, hidden-item-lines, line, lines-text, equation-line, hidden-lines, listing-lines}
 use Rattle.promises.specs.ListingLaws.{first-of, rest-of, not-empty, Within, StartsOutside, starts, told-run, in-name, Plain, PlainOrigin, told-origin, origins-of, SortIn, ShapeIn, told-shape, every-so, every-append, not-byte, Separable, told-lines, all-pass, within-by, OneLine, in-line-then, plain-in-line, number-in-line, origin-in-line, shape-in-line, PlainEquation, equation-in-line}
 use Rattle.meaning.specs.Grammar.{after, name, function, parameter, equation, modules, is}
 use Rattle.meaning.specs.Answer.{listing}
@@ -74,8 +74,8 @@ module _ (s f v : String) (sf : same (bytes s) (bytes f) ≡ false) (sv : same (
   other-key : {X : Type 0} (a b : List ℕ) → same a b ≡ false → a ≡ b → X
   other-key a b d e = absurd (false≢true (sym d ∙ ap (same a) (sym e) ∙ same-self a))
 
-  told-key : (a b : Shape) → sort-or-function s f v a ≡ sort-or-function s f v b → shape-rank a ≡ shape-rank b
-  unfolding sort-or-function shape-rank
+  told-key : (a b : Shape) → kind-key s f v a ≡ kind-key s f v b → shape-rank a ≡ shape-rank b
+  unfolding kind-key shape-rank
   told-key sort-shape sort-shape e = refl
   told-key sort-shape (function-shape u) e = other-key (bytes s) (bytes f) sf e
   told-key sort-shape (variable-shape r) e = other-key (bytes s) (bytes v) sv e
@@ -230,36 +230,36 @@ unfolding formals
 formals-sound p v h = every-keep SoundVisible (λ (i : Item). in-parameter p (i .standing)) (v .items) h
 
 exported-keyed : (is : List Item) → Every SoundVisible is → Within (keyed "sort function origin") (each exported-lines is)
-unfolding each exported-lines origin-line keyed member words same pick sort-or-function shape-rank
+unfolding each exported-lines origin-line keyed member words same pick kind-key shape-rank
 exported-keyed [] h = tt
 exported-keyed (i ∷ is) h = (go (i .shape) (h .0 .kind), (refl, exported-keyed is (h .1)))
   where
     go : (s : Shape) → shape-rank s ≤ 1
-        → keyed "sort function origin" (item-line (sort-or-function "sort" "function" "variable" s) (i .name) [] s) ≡ true
+        → keyed "sort function origin" (item-line (kind-key "sort" "function" "variable" s) (i .name) [] s) ≡ true
     go sort-shape r = refl
     go (function-shape t) r = refl
     go (variable-shape v) r = absurd (omega arith)
 
 formals-keyed : (is : List Item) → Every SoundVisible is → Within (keyed "parameter-sort parameter-function origin") (each formal-lines is)
-unfolding each formal-lines origin-line keyed member words same pick sort-or-function shape-rank
+unfolding each formal-lines origin-line keyed member words same pick kind-key shape-rank
 formals-keyed [] h = tt
 formals-keyed (i ∷ is) h = (go (i .shape) (h .0 .kind), (refl, formals-keyed is (h .1)))
   where
     go : (s : Shape) → shape-rank s ≤ 1
         → keyed "parameter-sort parameter-function origin"
-        (item-line (sort-or-function "parameter-sort" "parameter-function" "variable" s) (i .name) [] s) ≡ true
+        (item-line (kind-key "parameter-sort" "parameter-function" "variable" s) (i .name) [] s) ≡ true
     go sort-shape r = refl
     go (function-shape t) r = refl
     go (variable-shape v) r = absurd (omega arith)
 
 hidden-keyed : (hidden : List Item) (k : ℕ) (is : List Item) → Within (keyed "hidden-sort hidden-function variable origin") (hidden-item-lines hidden k is)
-unfolding hidden-item-lines origin-line keyed member words same pick sort-or-function
+unfolding hidden-item-lines origin-line keyed member words same pick kind-key
 hidden-keyed hidden k [] = tt
 hidden-keyed hidden k (i ∷ is) = (go (i .shape), (refl, hidden-keyed hidden (k + 1) is))
   where
     go : (s : Shape)
         → keyed "hidden-sort hidden-function variable origin"
-        (item-line (sort-or-function "hidden-sort" "hidden-function" "variable" s) (numbered k) hidden s) ≡ true
+        (item-line (kind-key "hidden-sort" "hidden-function" "variable" s) (numbered k) hidden s) ≡ true
     go sort-shape = refl
     go (function-shape t) = refl
     go (variable-shape v) = refl
@@ -273,11 +273,11 @@ equations-keyed hidden (e ∷ es) = (refl, equations-keyed hidden es)
 hidden-outside : (ks : String) (hidden : List Item) (k : ℕ) (is : List Item) → member (bytes "hidden-sort") (words (bytes ks)) ≡ false
     → member (bytes "hidden-function") (words (bytes ks)) ≡ false → member (bytes "variable") (words (bytes ks)) ≡ false
     → StartsOutside (keyed ks) (hidden-item-lines hidden k is)
-unfolding hidden-item-lines keyed sort-or-function
+unfolding hidden-item-lines keyed kind-key
 hidden-outside ks hidden k [] s f v = tt
 hidden-outside ks hidden k (i ∷ is) s f v = go (i .shape)
   where
-    go : (h : Shape) → member (sort-or-function "hidden-sort" "hidden-function" "variable" h) (words (bytes ks)) ≡ false
+    go : (h : Shape) → member (kind-key "hidden-sort" "hidden-function" "variable" h) (words (bytes ks)) ≡ false
     go sort-shape = s
     go (function-shape t) = f
     go (variable-shape r) = v
@@ -437,8 +437,8 @@ separable k e h = record { key = within-by _ (bytes k) e; value = h .within }
 -- an item's first line, of whatever kind
 item-separable : (s f v : String) (called : List ℕ) (hidden : List Item) (shape : Shape) → all-pass (not-byte (byte "=")) (bytes s) ≡ true
     → all-pass (not-byte (byte "=")) (bytes f) ≡ true → all-pass (not-byte (byte "=")) (bytes v) ≡ true
-    → OneLine (called ++ shape-text hidden shape) → Separable (item-line (sort-or-function s f v shape) called hidden shape)
-unfolding sort-or-function
+    → OneLine (called ++ shape-text hidden shape) → Separable (item-line (kind-key s f v shape) called hidden shape)
+unfolding kind-key
 item-separable s f v called hidden sort-shape p q r h = record { key = within-by _ (bytes s) p; value = h .within }
 item-separable s f v called hidden (function-shape t) p q r h = record { key = within-by _ (bytes f) q; value = h .within }
 item-separable s f v called hidden (variable-shape u) p q r h = record { key = within-by _ (bytes v) r; value = h .within }

@@ -11,7 +11,7 @@ use Rattle.meaning.specs.Origins.{Shape, sort-shape, function-shape, variable-s
 use Rattle.meaning.specs.Normal.{Visible, Hidden, Normal}
 use Rattle.meaning.specs.Clauses.{formals}
 use Rattle.meaning.specs.Trials.{Every}
-use Rattle.meaning.specs.Listing.{Line, line, lines-text, origin-line, sort-or-function, exported-lines, formal-lines, parameter-lines, visible-lines, hidden-item-lines, equation-line, hidden-lines, listing-lines, visible-keys}
+use Rattle.meaning.specs.Listing.{Line, line, lines-text, origin-line, kind-key, exported-lines, formal-lines, parameter-lines, visible-lines, hidden-item-lines, equation-line, hidden-lines, listing-lines, visible-keys}
 use Rattle.meaning.specs.Reader.{listing-keys}
 use Rattle.listing_reader.specs.Places.{key-number}
 use Rattle.listing_reader.specs.Visible.{in-front}
@@ -31,8 +31,8 @@ module _ {A : Type 0} (P : A → Type 0) where
   every-made f h (x ∷ xs) = every-append (f x) (each f xs) (h x) (every-made f h xs)
 
 -- what holds of each key holds of an item's
-pub by-shape : (P : List ℕ → Type 0) (s f v : String) → P (bytes s) → P (bytes f) → P (bytes v) → (shape : Shape) → P (sort-or-function s f v shape)
-unfolding sort-or-function
+pub by-shape : (P : List ℕ → Type 0) (s f v : String) → P (bytes s) → P (bytes f) → P (bytes v) → (shape : Shape) → P (kind-key s f v shape)
+unfolding kind-key
 by-shape P s f v a b c sort-shape = a
 by-shape P s f v a b c (function-shape t) = b
 by-shape P s f v a b c (variable-shape r) = c
@@ -48,7 +48,7 @@ abbrev pub Known : Line → Type 0
 Known l = member (l .key) listing-keys ≡ true
 
 item-known : (s f v : String) → member (bytes s) listing-keys ≡ true → member (bytes f) listing-keys ≡ true → member (bytes v) listing-keys ≡ true
-    → (shape : Shape) → member (sort-or-function s f v shape) listing-keys ≡ true
+    → (shape : Shape) → member (kind-key s f v shape) listing-keys ≡ true
 item-known s f v = by-shape (λ k. member k listing-keys ≡ true) s f v
 
 origin-known : (o : Origin) → Known (origin-line o)

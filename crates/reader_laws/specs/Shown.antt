@@ -10,7 +10,7 @@ use Rattle.meaning.specs.Origins.{Shape, sort-shape, function-shape, variable-s
 use Rattle.meaning.specs.Normal.{Visible, Hidden, Normal}
 use Rattle.meaning.specs.Clauses.{formals}
 use Rattle.meaning.specs.Trials.{Every}
-use Rattle.meaning.specs.Listing.{Line, line, lines-text, origin-line, sort-or-function, exported-lines, formal-lines, is-exported, parameter-lines, visible-lines, hidden-item-lines, equation-line, hidden-lines, listing-lines, visible-keys, shown}
+use Rattle.meaning.specs.Listing.{Line, line, lines-text, origin-line, kind-key, exported-lines, formal-lines, is-exported, parameter-lines, visible-lines, hidden-item-lines, equation-line, hidden-lines, listing-lines, visible-keys, shown}
 use Rattle.listing_reader.specs.Places.{key-number}
 use Rattle.listing_reader.specs.Visible.{in-front, front-part}
 use Rattle.reader_laws.specs.Front.{leading, front-leads}
@@ -72,11 +72,11 @@ settled-each P f h (x ∷ xs) e rest s =
 
 -- an item that is a sort or a function has one of these two keys
 item-front : (s f : String) → Front-key (bytes s) → Front-key (bytes f) → (i : Item) → Sort-or-function i
-    → Front-key (sort-or-function s f "variable" (i .shape))
-unfolding Sort-or-function Declared-shape sort-or-function
+    → Front-key (kind-key s f "variable" (i .shape))
+unfolding Sort-or-function Declared-shape kind-key
 item-front s f a b i e = go (i .shape) e
   where
-    go : (shape : Shape) → Declared-shape shape → Front-key (sort-or-function s f "variable" shape)
+    go : (shape : Shape) → Declared-shape shape → Front-key (kind-key s f "variable" shape)
     go sort-shape e = a
     go (function-shape t) e = b
     go (variable-shape r) e = absurd e
@@ -135,7 +135,7 @@ nothing-left : Closed []
 unfolding leading shown
 nothing-left = record { leads = refl; shows = λ kept. refl }
 
-back-key : (shape : Shape) → Back-key (sort-or-function "hidden-sort" "hidden-function" "variable" shape)
+back-key : (shape : Shape) → Back-key (kind-key "hidden-sort" "hidden-function" "variable" shape)
 unfolding keys-opened
 back-key =
     by-shape Back-key "hidden-sort" "hidden-function" "variable"
