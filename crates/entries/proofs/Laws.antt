@@ -5,6 +5,7 @@ use mathlib.Core.Bool.{Bool, true, false}
 use mathlib.Core.List.{List, []}
 use Prim.Native.Nat.{ℕ}
 use Rattle.meaning.specs.Lists.{pick}
+use Rattle.meaning.specs.Grammar.{is}
 use Rattle.entries.specs.declared.Place.{Place}
 use Rattle.entries.specs.declared.Reading.{Reading}
 use Rattle.entries.specs.declared.Reading.the-variants.{Done, Refused}
@@ -87,7 +88,7 @@ step-quiet text = record { leaves = λ p t. refl }
 
 pub expect-quiet : (text : List ℕ) (k : ℕ) → Quiet (expect text k)
 unfolding expect
-expect-quiet text k = if-quiet (λ kind. lib.Dec.eqb kind k) (step text) unexpected (step-quiet text) unexpected-quiet
+expect-quiet text k = if-quiet (is k) (step text) unexpected (step-quiet text) unexpected-quiet
 
 -- what each answer hands to `search`
 pub ruleset laws = (then, then-still, quietly, stays, next-yes, next-no, still-yes, still-no, refuse-quiet, unexpected-quiet, step-quiet, expect-quiet)

@@ -14,6 +14,7 @@ use Rattle.entries.specs.Model.{Writer, out, onward, refuse, word, is-wo
 unfoldable pub still : Writer → Reading → Reading
 still w r = onward r [] w .answer
 
+-- a writer that leaves any tape as it is, with one answer for all
 pub record Quiet (w : Writer) : Type 0 where
   pub leaves : (p : Place) (t : List ℕ) → w p t ≡ out (w p [] .answer) t
 
