@@ -10,8 +10,7 @@ use Rattle.meaning.specs.Names.{Name}
 use Rattle.meaning.specs.Origins.{Item}
 use Rattle.names.specs.Word.{name-of}
 use Rattle.tables.specs.declared.Row.{Row}
-use Rattle.tables.specs.Rows.{item-of, row-at}
-use Rattle.tables.specs.RowLaws.{row-same}
+use Rattle.tables.specs.Rows.{word-section, words-from, item-of, row-at}
 use Rattle.forms.specs.declared.EquationRow.{EquationRow}
 use Rattle.forms.specs.Memory.{part, Same, Kept, KeptTwo}
 use Rattle.forms.specs.Forms.{names-at, items-at, equation-row-at}
@@ -69,6 +68,26 @@ pub kept-two-swap : (a e b f : ℕ) (w w′ : List ℕ) → KeptTwo a e b f w w�
 kept-two-swap a e b f w w′ k = record { size = k .size; kept = λ i p q. k .kept i q p }
 
 module _ (w w′ : List ℕ) where
+  words-from-same : (b c : ℕ) → Same b (b + c) w w′ → words-from w′ b c ≡ words-from w b c
+  unfolding words-from
+  words-from-same b zero p = refl
+  words-from-same b (suc c) p =
+      ap₂ (λ (x : ℕ) (xs : List ℕ). x ∷ xs) (p b (omega arith) (omega arith)) (words-from-same (suc b) c (λ i h l. p i (omega arith) (omega arith)))
+
+  pub row-same : (b : ℕ) → Same b (b + 15) w w′ → row-at w′ b ≡ row-at w b
+  unfolding row-at
+  row-same b p =
+      let g : (j : ℕ) → j < 15 → getD w′ (b + j) 0 ≡ getD w (b + j) 0 = λ j h. p (b + j) (omega arith) (omega arith) in
+      let g₀ : getD w′ b 0 ≡ getD w b 0 = p b (omega arith) (omega arith) in
+      let more = words-from-same (b + 6) 9 (λ i h l. p i (omega arith) (omega arith)) in
+      λ i. record {
+        standing = word-section (g₀ i);
+        name = g 1 (omega arith) i;
+        kind = g 2 (omega arith) i;
+        origin = record { home = g 3 (omega arith) i; section = word-section (g 4 (omega arith) i); place = g 5 (omega arith) i };
+        sorts = more i;
+      }
+
   pub names-same : (text : List ℕ) (b c : ℕ) → Same b (b + c) w w′ → names-at text w′ b c ≡ names-at text w b c
   unfolding names-at
   names-same text b zero p = refl
@@ -80,7 +99,7 @@ module _ (w w′ : List ℕ) where
   unfolding items-at
   items-same text tape b zero p = refl
   items-same text tape b (suc c) p =
-      ap₂ (λ (x : Item) (xs : List Item). x ∷ xs) (ap (item-of text tape) (row-same w w′ b (λ i h l. p i (omega arith) (omega arith))))
+      ap₂ (λ (x : Item) (xs : List Item). x ∷ xs) (ap (item-of text tape) (row-same b (λ i h l. p i (omega arith) (omega arith))))
       (items-same text tape (b + 16) c (λ i h l. p i (omega arith) (omega arith)))
 
   pub equation-row-same : (b : ℕ) → Same b (b + 6) w w′ → equation-row-at w′ b ≡ equation-row-at w b

@@ -1,0 +1,132 @@
+-- Laws of finding and placing an item, in the code's terms: the rows before i are none of them x.
+use mathlib.Core.Path.{_≡_, sym, ap₂, _∙_}
+use mathlib.Core.Logic.{inl}
+use Prim.Native.Nat.{ℕ, suc, _+_, _-_, _*_, _≤_, _<_}
+use mathlib.Core.Bool.{Bool, true, false}
+use mathlib.Core.List.{List, [], _∷_, _++_}
+use native.Mathlib.Omega.{arith}
+use native.Mathlib.Numerals.{add-one}
+use lib.ListN.{length}
+use lib.Seq.{sets}
+use borrow.Author.Needs.{needs}
+use Rattle.meaning.specs.Lists.{pick, any, before}
+use Rattle.meaning.specs.Origins.{Item, one-item}
+use Rattle.meaning.specs.Checks.{in-parameter}
+use Rattle.names.specs.Word.{name-of}
+use Rattle.tables.specs.declared.Row.{Row}
+use Rattle.tables.specs.Rows.{section-of, item-of, row-at, row-words}
+use Rattle.tables.specs.RowLaws.{row-back}
+use Rattle.forms.specs.Memory.{Kept}
+use Rattle.forms.specs.Forms.{items-at}
+use Rattle.forms.specs.FormLaws.{kept-all, kept-wider, kept-sets, kept-same, items-same, items-grow, length-items}
+use Rattle.translation.specs.declared.Mode.{Mode}
+use Rattle.absorb.specs.ListLaws.{before-within, found, none-found, union-found, union-new}
+use Rattle.absorb.specs.Absorb.{Placed, taken}
+use Rattle.absorb.specs.Turns.{Space}
+
+-- ---- `find_item`
+
+pub record Finding (test : Item → Bool) (text tape w : List ℕ) (b n i : ℕ) : Type 0 where
+  pub inside : i ≤ n
+  pub comes : before test (items-at text tape w b n) ≡ i + before test (items-at text tape w (b + i * 16) (n - i))
+
+module _ (test : Item → Bool) (text tape w : List ℕ) (b n : ℕ) where
+  pub find-start : Finding test text tape w b n 0
+  find-start =
+      let e : b ≡ b + 0 * 16 = omega arith in
+      let f : n ≡ n - 0 = omega arith in
+      let q : before test (items-at text tape w b n) ≡ before test (items-at text tape w (b + 0 * 16) (n - 0)) =
+      ap₂ (λ (i c : ℕ). before test (items-at text tape w i c)) e f in
+      record { inside = omega arith; comes = omega arith }
+
+  pub find-end : (i : ℕ) → n ≤ i → Finding test text tape w b n i → n ≡ before test (items-at text tape w b n)
+  unfolding before items-at
+  find-end i h inv =
+      let z : n - i ≡ 0 = omega arith in
+      let none : before test (items-at text tape w (b + i * 16) (n - i)) ≡ 0 = rw z in
+      omega (arith, inv .comes, inv .inside)
+
+  module _ (i : ℕ) (y : Row) (r : Bool) (h : i < n) (inv : Finding test text tape w b n i) (e : y ≡ row-at w (b + i * 16))
+      (f : r ≡ test (item-of text tape y)) where
+    here : before test (items-at text tape w (b + i * 16) (n - i)) ≡ pick r 0 (suc (before test (items-at text tape w (b + (i + 1) * 16) (n - (i + 1)))))
+    unfolding before items-at
+    here =
+        let s : n - i ≡ suc (n - (i + 1)) = omega arith in
+        let p : b + i * 16 + 16 ≡ b + (i + 1) * 16 = omega arith in
+        rw (s, p, ← e, ← f)
+
+    pub find-again : r ≡ false → Finding test text tape w b n (i + 1)
+    unfolding pick
+    find-again q = let more = rw q at here in record { inside = omega arith; comes = omega (arith, inv .comes, more) }
+
+    pub find-here : r ≡ true → i ≡ before test (items-at text tape w b n)
+    unfolding pick
+    find-here q = let none = rw q at here in omega (arith, inv .comes, none)
+
+-- ---- `place_item`
+
+module _ (text tape w : List ℕ) (t b n at : ℕ) (x : Row) (e : at ≡ before (one-item (item-of text tape x)) (items-at text tape w b n)) where
+  abbrev xs : List Item
+  xs = items-at text tape w b n
+
+  abbrev item : Item
+  item = item-of text tape x
+
+  pub place-found : at < n → Placed text tape w b n item at w
+  unfolding pick
+  place-found h =
+      let len : length xs ≡ n = length-items text tape w b n in
+      let there : any (one-item item) xs ≡ true = found (one-item item) xs (omega arith) in
+      record {
+        row = e;
+        items = rw there (sym (union-found one-item xs item there));
+        kept = kept-all (b + n * 16) (b + n * 16 + 16) w;
+      }
+
+  module _ (room : Space (length w) t b n x) (w′ : List ℕ) (l : w′ ≡ sets w (b + n * 16) (row-words x)) where
+    written : Kept (b + n * 16) (b + n * 16 + 16) w w′
+    unfolding row-words
+    written =
+        let nine = room .row .nine in
+        rw l (kept-wider (b + n * 16) (b + n * 16 + length (row-words x)) (b + n * 16) (b + n * 16 + 16) w (sets w (b + n * 16) (row-words x)) (omega arith) (omega arith)
+        (kept-sets (row-words x) w (b + n * 16)))
+
+    grown : items-at text tape w′ b (n + 1) ≡ xs ++ (item ∷ [])
+    grown =
+        let last : row-at w′ (b + n * 16) ≡ x = rw l (row-back w (b + n * 16) x (room .row) (room .room)) in
+        let first : items-at text tape w′ b n ≡ xs =
+        items-same w w′ text tape b n (kept-same (b + n * 16) (b + n * 16 + 16) b (b + n * 16) w w′ (inl (omega arith)) written) in
+        rw (add-one n, items-grow text tape w′ b n, first, last)
+
+    pub place-new : n ≤ at → Placed text tape w b n item n w′
+    unfolding pick
+    place-new h =
+        let len : length xs ≡ n = length-items text tape w b n in
+        let all : at ≤ length xs = rw e (before-within (one-item item) xs) in
+        let none : any (one-item item) xs ≡ false = none-found (one-item item) xs (omega arith) in
+        record { row = omega (arith, e); items = rw none (grown ∙ sym (union-new one-item xs item none)); kept = written }
+
+-- ---- `is_taken`
+
+module _ (text tape : List ℕ) (drop : Bool) (m : Mode) (x : Row) where
+  abbrev wanted : Bool
+  wanted = taken text drop (m .parameter) (item-of text tape x)
+
+  pub taken-all : drop ≡ false → true ≡ wanted
+  unfolding taken pick
+  taken-all h = rw h
+
+  module _ (h : drop ≡ true) (b : Bool) (e : b ≡ in-parameter (name-of text (m .parameter)) (section-of text (x .standing))) where
+    pub taken-not : b ≡ true → false ≡ wanted
+    unfolding taken pick item-of
+    taken-not q = rw (h, ← e, q)
+
+    pub taken-other : b ≡ false → true ≡ wanted
+    unfolding taken pick item-of
+    taken-other q = rw (h, ← e, q)
+
+pub ruleset finds = (find-start, find-end, find-again, find-here, needs)
+
+pub ruleset places = (place-found, place-new, needs)
+
+pub ruleset takes = (taken-all, taken-not, taken-other, needs)

@@ -1,0 +1,3 @@
+pub mod Finds
+pub mod Steps
+pub mod Loops

@@ -1,0 +1,213 @@
+-- Laws of the loop over a source: after k rows the table has n, and the notes up to k say where each went.
+use mathlib.Core.Path.{_≡_, refl, sym, ap, ap₂, subst, _∙_}
+use mathlib.Core.Logic.{inl, inr, ⊎-elim}
+use Prim.Native.Nat.{ℕ, _+_, _*_, _≤_, _<_}
+use mathlib.Core.Bool.{Bool, true, false, false≢true}
+use mathlib.Core.List.{List, [], _∷_, _++_, map, append-nil}
+use native.Mathlib.Omega.{arith}
+use native.Mathlib.Numerals.{add-one}
+use lib.Dec.{eqb}
+use lib.ListN.{length, getD}
+use borrow.Author.Needs.{needs}
+use borrow.Author.Tests.{eqb-true, eqb-false}
+use Rattle.meaning.specs.Lists.{keep, union}
+use Rattle.meaning.specs.Origins.{Item, one-item}
+use Rattle.tables.specs.Rows.{item-of, row-at}
+use Rattle.forms.specs.Memory.{part, KeptTwo}
+use Rattle.forms.specs.Forms.{items-at}
+use Rattle.forms.specs.FormLaws.{kept-two-same, kept-two-then, row-same, items-same, tape-same, items-grow, length-items, item-at}
+use Rattle.translation.specs.declared.Mode.{Mode}
+use Rattle.translation.specs.Translation.{moved-in}
+use Rattle.translation.specs.MovedLaws.{moved-apart}
+use Rattle.absorb.specs.ListLaws.{union-then, union-stays, map-keep-more, keep-taken, keep-left}
+use Rattle.absorb.specs.Absorb.{Absorbed, taken}
+use Rattle.absorb.specs.Turns.{Taken, TurnRoom, Turned, Room}
+
+kept-all : (a e b f : ℕ) (w : List ℕ) → KeptTwo a e b f w w
+kept-all a e b f w = record { size = refl; kept = λ i p q. refl }
+
+kept-wider : (a e b f a′ e′ b′ f′ : ℕ) (w w′ : List ℕ) → a′ ≤ a → e ≤ e′ → b′ ≤ b → f ≤ f′ → KeptTwo a e b f w w′ → KeptTwo a′ e′ b′ f′ w w′
+kept-wider a e b f a′ e′ b′ f′ w w′ h l m n k = record {
+  size = k .size;
+  kept = λ i p q. k .kept i (⊎-elim (λ u. inl (omega arith)) (λ u. inr (omega arith)) p) (⊎-elim (λ u. inl (omega arith)) (λ u. inr (omega arith)) q);
+}
+
+module _ (text w₀ : List ℕ) (t : ℕ) (m : Mode) (visible drop : Bool) (s ns d nd o : ℕ) where
+  abbrev tape : List ℕ
+  tape = part w₀ 0 t
+
+  -- a source item, whether it is taken, and what it becomes
+  abbrev old : ℕ → Item
+  old i = item-of text tape (row-at w₀ (s + i * 16))
+
+  abbrev wanted : Item → Bool
+  wanted = taken text drop (m .parameter)
+
+  abbrev new : Item → Item
+  new = moved-in text tape w₀ m visible
+
+  abbrev come : ℕ → List Item
+  come k = map new (keep wanted (items-at text tape w₀ s k))
+
+  pub record Absorbing (w : List ℕ) (n k : ℕ) : Type 0 where
+    pub inside : k ≤ ns
+    pub items : items-at text tape w d n ≡ union one-item (items-at text tape w₀ d nd) (come k)
+    pub grows : nd ≤ n
+    pub few : n ≤ nd + k
+    pub noted : (i : ℕ) → i < k → wanted (old i) ≡ true → getD w (o + i) 0 < n
+    pub notes : (i : ℕ) (z : Item) → i < k → wanted (old i) ≡ true → getD (items-at text tape w d n) (getD w (o + i) 0) z ≡ new (old i)
+    pub kept : KeptTwo (d + nd * 16) (d + (nd + ns) * 16) o (o + ns) w₀ w
+
+  pub absorb-start : Absorbing w₀ nd 0
+  unfolding items-at keep union
+  absorb-start = record {
+    inside = omega arith;
+    items = refl;
+    grows = omega arith;
+    few = omega arith;
+    noted = λ i h. absurd (omega arith);
+    notes = λ i z h. absurd (omega arith);
+    kept = kept-all (d + nd * 16) (d + (nd + ns) * 16) o (o + ns) w₀;
+  }
+
+  -- one row more
+  come-more : (k : ℕ) → come (k + 1) ≡ come k ++ map new (keep wanted (old k ∷ []))
+  come-more k = rw (add-one k, items-grow text tape w₀ s k) (map-keep-more wanted new (old k) (items-at text tape w₀ s k))
+
+  module _ (room : Room (length w₀) t m s ns d nd o) (w : List ℕ) (n k : ℕ) (inv : Absorbing w n k) where
+    pub absorb-room : k < ns → TurnRoom (length w) t k d n o
+    absorb-room h =
+        let size = inv .kept .size in
+        let few = inv .few in
+        record {
+          tape = omega (arith, room .tape-table, room .table);
+          few = omega (arith, room .few);
+          room = omega (arith, room .table);
+          word = omega (arith, room .note);
+          apart = ⊎-elim (λ u. inl (omega arith)) (λ u. inr (omega arith)) (room .table-note);
+        }
+
+    -- what lies apart from the table and from the note is as it was
+    tape-stays : part w 0 t ≡ tape
+    tape-stays =
+        tape-same w₀ w t (inv .kept .size)
+        (kept-two-same (d + nd * 16) (d + (nd + ns) * 16) o (o + ns) 0 t w₀ w (inl (omega (arith, room .tape-table))) (inl (room .tape-note)) (inv .kept))
+
+    source-stays : k < ns → row-at w (s + k * 16) ≡ row-at w₀ (s + k * 16)
+    source-stays h =
+        row-same w₀ w (s + k * 16)
+        (kept-two-same (d + nd * 16) (d + (nd + ns) * 16) o (o + ns) (s + k * 16) (s + k * 16 + 15) w₀ w
+        (⊎-elim (λ u. inl (omega arith)) (λ u. inr (omega arith)) (room .table-source))
+        (⊎-elim (λ u. inl (omega arith)) (λ u. inr (omega arith)) (room .note-source)) (inv .kept))
+
+    mode-stays : items-at text tape w (m .visible) (m .count) ≡ items-at text tape w₀ (m .visible) (m .count)
+    mode-stays =
+        items-same w₀ w text tape (m .visible) (m .count)
+        (kept-two-same (d + nd * 16) (d + (nd + ns) * 16) o (o + ns) (m .visible) (m .visible + m .count * 16) w₀ w
+        (⊎-elim (λ u. inl (omega arith)) (λ u. inr u) (room .table-mode)) (room .note-mode) (inv .kept))
+
+    -- ---- a row that is left out
+
+    left-out : (wanted (old k) ≡ false) → k < ns → Absorbing w n (k + 1)
+    left-out q h =
+        let few = inv .few in
+        record {
+          inside = omega arith;
+          items = inv .items
+              ∙ ap (union one-item (items-at text tape w₀ d nd)) (sym (come-more k ∙ ap (λ (r : List Item). come k ++ r) (keep-left wanted new (old k) q) ∙ append-nil (come k)));
+          grows = inv .grows;
+          few = omega arith;
+          noted = λ i l takes. inv .noted i (earlier i l takes) takes;
+          notes = λ i z l takes. inv .notes i z (earlier i l takes) takes;
+          kept = inv .kept;
+        }
+      where
+        earlier : (i : ℕ) → i < k + 1 → wanted (old i) ≡ true → i < k
+        earlier i l takes = by (eqb i k) refl
+          where
+            by : (b : Bool) → eqb i k ≡ b → i < k
+            by true e = absurd (false≢true (sym q ∙ ap (λ (j : ℕ). wanted (old j)) (sym (eqb-true i k e)) ∙ takes))
+            by false e = let other = eqb-false i k e in omega arith
+
+    -- ---- a row that is taken
+
+    module _ (w′ : List ℕ) (n′ : ℕ) (h : k < ns) (takes : wanted (old k) ≡ true) (x : Item) (same : x ≡ old k)
+        (tk : Taken text tape w m visible x d n (o + k) n′ w′) where
+      becomes : moved-in text tape w m visible x ≡ new (old k)
+      becomes = moved-apart text tape w₀ w m mode-stays visible x ∙ ap new same
+
+      items-now : items-at text tape w′ d n′ ≡ union one-item (items-at text tape w d n) (new (old k) ∷ [])
+      items-now = tk .items ∙ ap (λ (y : Item). union one-item (items-at text tape w d n) (y ∷ [])) becomes
+
+      note-stays : (i : ℕ) → i < k → getD w′ (o + i) 0 ≡ getD w (o + i) 0
+      note-stays i l =
+          let few = inv .few in
+          tk .kept .kept (o + i) (⊎-elim (λ u. inl (omega arith)) (λ u. inr (omega arith)) (room .table-note)) (inl (omega arith))
+
+      noted-now : (i : ℕ) → i < k + 1 → wanted (old i) ≡ true → (b : Bool) → eqb i k ≡ b → getD w′ (o + i) 0 < n′
+      noted-now i l q true e = let at : i ≡ k = eqb-true i k e in rw at (tk .noted)
+      noted-now i l q false e =
+          let other = eqb-false i k e in
+          let before : i < k = omega arith in
+          omega (arith, note-stays i before, inv .noted i before q, tk .grows)
+
+      notes-now : (i : ℕ) (z : Item) → i < k + 1 → wanted (old i) ≡ true → (b : Bool) → eqb i k ≡ b
+          → getD (items-at text tape w′ d n′) (getD w′ (o + i) 0) z ≡ new (old i)
+      notes-now i z l q true e = let at : i ≡ k = eqb-true i k e in rw at (tk .note z ∙ becomes)
+      notes-now i z l q false e =
+          let other = eqb-false i k e in
+          let before : i < k = omega arith in
+          let inside : getD w (o + i) 0 < length (items-at text tape w d n) = omega (arith, inv .noted i before q, length-items text tape w d n) in
+          ap₂ (λ (us : List Item) (j : ℕ). getD us j z) items-now (note-stays i before)
+          ∙ union-stays one-item z (items-at text tape w d n) (new (old k) ∷ []) (getD w (o + i) 0) inside ∙ inv .notes i z before q
+
+      taken-in : Absorbing w′ n′ (k + 1)
+      taken-in =
+          let few = inv .few in
+          let grows = inv .grows in
+          let more : come (k + 1) ≡ come k ++ (new (old k) ∷ []) = come-more k ∙ ap (λ (r : List Item). come k ++ r) (keep-taken wanted new (old k) takes) in
+          record {
+            inside = omega arith;
+            items = items-now ∙ ap (λ (us : List Item). union one-item us (new (old k) ∷ [])) (inv .items)
+                ∙ union-then one-item (items-at text tape w₀ d nd) (come k) (new (old k) ∷ []) ∙ ap (union one-item (items-at text tape w₀ d nd)) (sym more);
+            grows = omega (arith, tk .grows);
+            few = omega (arith, tk .few);
+            noted = λ i l q. noted-now i l q (eqb i k) refl;
+            notes = λ i z l q. notes-now i z l q (eqb i k) refl;
+            kept = kept-two-then (d + nd * 16) (d + (nd + ns) * 16) o (o + ns) w₀ w w′ (inv .kept)
+                (kept-wider (d + n * 16) (d + n * 16 + 16) (o + k) (o + k + 1) (d + nd * 16) (d + (nd + ns) * 16) o (o + ns) w w′
+                (omega arith) (omega arith) (omega arith) (omega arith) (tk .kept));
+          }
+
+    -- ---- either
+
+    pub absorb-again : (w′ : List ℕ) (n′ : ℕ) → k < ns → Turned text (part w 0 t) w m visible drop s k d n o n′ w′ → Absorbing w′ n′ (k + 1)
+    absorb-again w′ n′ h turned = by (wanted (old k)) refl
+      where
+        same : item-of text (part w 0 t) (row-at w (s + k * 16)) ≡ old k
+        same = ap₂ (item-of text) tape-stays (source-stays h)
+
+        by : (b : Bool) → wanted (old k) ≡ b → Absorbing w′ n′ (k + 1)
+        by true takes =
+            taken-in w′ n′ h takes (item-of text (part w 0 t) (row-at w (s + k * 16))) same
+            (subst (λ (u : List ℕ). Taken text u w m visible (item-of text (part w 0 t) (row-at w (s + k * 16))) d n (o + k) n′ w′) tape-stays
+            (turned .takes (ap wanted same ∙ takes)))
+        by false q =
+            let e : n′ ≡ n = turned .left (ap wanted same ∙ q) in
+            let f : w′ ≡ w = turned .stays (ap wanted same ∙ q) in
+            rw (e, f) (left-out q h)
+
+    pub absorb-end : ns ≤ k → Absorbed text tape w₀ m visible drop s ns d nd o n w
+    absorb-end h =
+        let all : k ≡ ns = omega (arith, inv .inside) in
+        let few = inv .few in
+        record {
+          items = inv .items ∙ ap (λ (j : ℕ). union one-item (items-at text tape w₀ d nd) (come j)) all;
+          grows = inv .grows;
+          few = omega arith;
+          noted = λ i x l q. inv .noted i (omega arith) (ap wanted (sym (item-at text tape w₀ s ns i x l)) ∙ q);
+          notes = λ i x l q. inv .notes i x (omega arith) (ap wanted (sym (item-at text tape w₀ s ns i x l)) ∙ q) ∙ ap new (sym (item-at text tape w₀ s ns i x l));
+          kept = inv .kept;
+        }
+
+pub ruleset loops = (absorb-start, absorb-room, absorb-again, absorb-end, needs)

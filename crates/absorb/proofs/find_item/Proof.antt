@@ -1,0 +1,34 @@
+-- `absorb::find_item` meets its contract.
+-- Assumes nothing.
+use Rattle.absorb.proofs.Finds.{Finding, finds}
+use Prim.Native.Nat.{_-_}
+use Rattle.meaning.specs.Origins.{one-item}
+use Rattle.tables.specs.Rows.{item-of}
+use Rattle.forms.specs.Memory.{part}
+use Rattle.absorb.proofs.find_item.Statement.{statement}
+use Rattle.absorb.proofs.find_item.Tie as tie
+
+abbrev Inv-loop : tie.InvT-loop
+Inv-loop text work t base n x i₀ i = Finding (one-item (item-of text (part work 0 t) x)) text (part work 0 t) work base n i
+
+abbrev μ-loop : tie.MeasureT-loop
+μ-loop text work t base n x i₀ i = n - i
+
+pub find-item-spec : {M : Type 1} → statement M
+find-item-spec =
+    tie.close
+    (tie.spec
+    Inv-loop
+    μ-loop
+    (λ c. search finds)  -- loop-holds
+    (λ c κs. search finds)  -- read-row-requires
+    (λ c. search finds)  -- sub-one-item
+    (λ c. search finds)  -- part-one-item-start
+    (λ c. search finds)  -- part-one-item-end
+    (λ c κs. search finds)  -- one-item-requires
+    (λ c. search finds)  -- returns
+    (λ c. search finds)  -- add-i
+    (λ c. search finds)  -- loop-less
+    (λ c. search finds)  -- loop-again
+    (λ c. search finds)  -- returns-2
+    )

@@ -1,0 +1,71 @@
+-- The room that absorbing asks for, and what one turn of it leaves.
+use mathlib.Core.Path.{_≡_}
+use Prim.Native.Nat.{ℕ, _+_, _*_, _≤_, _<_}
+use mathlib.Core.Bool.{Bool, true, false}
+use mathlib.Core.List.{List, [], _∷_}
+use lib.ListN.{getD}
+use Rattle.meaning.specs.Lists.{union}
+use Rattle.meaning.specs.Origins.{Item, one-item}
+use Rattle.tables.specs.declared.Row.{Row}
+use Rattle.tables.specs.Rows.{item-of, row-at}
+use Rattle.tables.specs.RowLaws.{IsRow}
+use Rattle.forms.specs.Memory.{KeptTwo}
+use Rattle.forms.specs.Forms.{items-at}
+use Rattle.forms.specs.FormLaws.{Apart}
+use Rattle.translation.specs.declared.Mode.{Mode}
+use Rattle.translation.specs.Translation.{moved-in}
+use Rattle.absorb.specs.Absorb.{taken}
+
+-- ---- room: for one row more behind n rows at b
+
+pub record Space (size t b n : ℕ) (x : Row) : Type 0 where
+  pub tape : t ≤ size
+  pub row : IsRow x
+  pub room : b + n * 16 + 16 ≤ size
+
+-- and for a word at a place apart from them
+pub record Place (size t d n place : ℕ) (x : Row) : Type 0 where
+  pub space : Space size t d n x
+  pub few : n < 65536
+  pub word : place < size
+  pub apart : Apart d (d + n * 16 + 16) place (place + 1)
+
+pub record TurnRoom (size t k d n o : ℕ) : Type 0 where
+  pub tape : t ≤ size
+  pub few : n < 65536
+  pub room : d + n * 16 + 16 ≤ size
+  pub word : o + k < size
+  pub apart : Apart d (d + n * 16 + 16) (o + k) (o + k + 1)
+
+-- for all rows of a source: the table and the note lie behind the tape, within the memory, apart from each other, from the source and from
+-- the table of the mode
+pub record Room (size t : ℕ) (m : Mode) (s ns d nd o : ℕ) : Type 0 where
+  pub tape-table : t ≤ d
+  pub tape-note : t ≤ o
+  pub table : d + (nd + ns) * 16 ≤ size
+  pub note : o + ns ≤ size
+  pub few : nd + ns ≤ 65536
+  pub table-note : Apart d (d + (nd + ns) * 16) o (o + ns)
+  pub table-source : Apart d (d + (nd + ns) * 16) s (s + ns * 16)
+  pub note-source : Apart o (o + ns) s (s + ns * 16)
+  pub table-mode : Apart d (d + (nd + ns) * 16) (m .visible) (m .visible + m .count * 16)
+  pub note-mode : Apart o (o + ns) (m .visible) (m .visible + m .count * 16)
+
+-- ---- one turn
+
+-- x absorbed into n rows at d, and noted at a place: r rows are there then
+pub record Taken (text tape w : List ℕ) (m : Mode) (visible : Bool) (x : Item) (d n place r : ℕ) (w′ : List ℕ) : Type 0 where
+  pub items : items-at text tape w′ d r ≡ union one-item (items-at text tape w d n) (moved-in text tape w m visible x ∷ [])
+  pub grows : n ≤ r
+  pub few : r ≤ n + 1
+  pub noted : getD w′ place 0 < r
+  pub note : (z : Item) → getD (items-at text tape w′ d r) (getD w′ place 0) z ≡ moved-in text tape w m visible x
+  pub kept : KeptTwo (d + n * 16) (d + n * 16 + 16) place (place + 1) w w′
+
+-- row k of the source, if it is taken
+pub record Turned (text tape w : List ℕ) (m : Mode) (visible drop : Bool) (s k d n o r : ℕ) (w′ : List ℕ) : Type 0 where
+  pub left : taken text drop (m .parameter) (item-of text tape (row-at w (s + k * 16))) ≡ false → r ≡ n
+  pub stays : taken text drop (m .parameter) (item-of text tape (row-at w (s + k * 16))) ≡ false → w′ ≡ w
+  pub takes :
+      taken text drop (m .parameter) (item-of text tape (row-at w (s + k * 16))) ≡ true
+      → Taken text tape w m visible (item-of text tape (row-at w (s + k * 16))) d n (o + k) r w′

@@ -1,0 +1,138 @@
+// Items of one table absorbed into another, all in one working memory: each is found there, or goes behind. A note says where each went.
+use tables::Row;
+use tables::entries::put_word;
+use tables::rows::read_row;
+use tables::rows::write_row;
+use tables::sorts::one_item;
+use translation::Mode;
+use translation::formals::in_parameter;
+use translation::rows::moved_row;
+ghost use mathlib.Core.Path.{_≡_};
+ghost use Prim.Native.Nat.{_+_, _≤_};
+ghost use lib.ListN.{length};
+ghost use Rattle.meaning.specs.Lists.{before};
+ghost use Rattle.meaning.specs.Origins.{one-item};
+ghost use Rattle.tables.specs.Rows.{item-of};
+ghost use Rattle.forms.specs.Memory.{part};
+ghost use Rattle.forms.specs.Forms.{items-at};
+ghost use Rattle.absorb.specs.Absorb.{Placed, Absorbed, taken};
+ghost use Rattle.absorb.specs.Turns.{Space, Place, Taken, TurnRoom, Turned, Room};
+
+// The first of n rows that is one with x; n if there is none.
+pub fn find_item(text: &[u8], work: &[u32], t: usize, base: u32, n: u32, x: Row) -> u32
+    requires { ⌜ t ≤ length (now work) ⌝ }
+    ensures { λ r. ⌜ r ≡ before (one-item (item-of (now (text .entry)) (part (now (work .entry)) 0 t) x)) (items-at (now (text .entry)) (part (now (work .entry)) 0 t) (now (work .entry)) base n) ⌝ }
+{
+    let mut i = 0;
+    while i < n {
+        let y = read_row(work, base, i);
+        if one_item(text, &work[0..t], x, y) {
+            return i;
+        }
+        i += 1;
+    }
+    n
+}
+
+// The row of x, which goes behind the n rows if it is none of them.
+pub fn place_item(text: &[u8], work: &mut [u32], t: usize, base: u32, n: u32, x: Row) -> u32
+    requires { ⌜ Space (length (now work)) t base n x ⌝ }
+    ensures { λ r. ⌜ Placed (now (text .entry)) (part (now (work .entry)) 0 t) (now (work .entry)) base n (item-of (now (text .entry)) (part (now (work .entry)) 0 t) x) r (now (work .exit)) ⌝ }
+{
+    let at = find_item(text, work, t, base, n, x);
+    if at < n {
+        return at;
+    }
+    write_row(work, base, n, x);
+    n
+}
+
+// Is the row taken? Where `drop` says so, those that stand in the parameter are left out.
+fn is_taken(text: &[u8], tape: &[u32], drop: bool, m: Mode, row: Row) -> bool
+    ensures { λ r. ⌜ r ≡ taken (now (text .entry)) drop (m .parameter) (item-of (now (text .entry)) (now (tape .entry)) row) ⌝ }
+{
+    if drop {
+        let p = m.parameter;
+        let standing = row.standing;
+        if in_parameter(text, p, standing) {
+            return false;
+        }
+        return true;
+    }
+    true
+}
+
+// The row, moved, into the table at d, which has n rows; where it went is noted at `place`. The number of rows after.
+fn take_row(
+    text: &[u8],
+    work: &mut [u32],
+    t: usize,
+    m: Mode,
+    visible: bool,
+    row: Row,
+    d: u32,
+    n: u32,
+    place: usize,
+) -> u32
+    requires { ⌜ Place (length (now work)) t d n place row ⌝ }
+    ensures { λ r. ⌜ Taken (now (text .entry)) (part (now (work .entry)) 0 t) (now (work .entry)) m visible (item-of (now (text .entry)) (part (now (work .entry)) 0 t) row) d n place r (now (work .exit)) ⌝ }
+{
+    let moved = moved_row(text, work, t, m, visible, row);
+    let at = place_item(text, work, t, d, n, moved);
+    put_word(work, place, at);
+    if at < n {
+        return n;
+    }
+    n + 1
+}
+
+// Row k of the source at s into the table at d, which has n rows. The number of rows after.
+fn absorb_row(
+    text: &[u8],
+    work: &mut [u32],
+    t: usize,
+    m: Mode,
+    visible: bool,
+    drop: bool,
+    s: u32,
+    k: u32,
+    d: u32,
+    n: u32,
+    o: u32,
+) -> u32
+    requires { ⌜ TurnRoom (length (now work)) t k d n o ⌝ }
+    ensures { λ r. ⌜ Turned (now (text .entry)) (part (now (work .entry)) 0 t) (now (work .entry)) m visible drop s k d n o r (now (work .exit)) ⌝ }
+{
+    let row = read_row(work, s, k);
+    if is_taken(text, &work[0..t], drop, m, row) {
+        let place = o as usize + k as usize;
+        return take_row(text, work, t, m, visible, row, d, n, place);
+    }
+    n
+}
+
+// Every row of the source at s into the table at d, which has nd rows: moved through the mode, noted from o on. The number of rows after.
+pub fn absorb_items(
+    text: &[u8],
+    work: &mut [u32],
+    t: usize,
+    m: Mode,
+    visible: bool,
+    drop: bool,
+    s: u32,
+    ns: u32,
+    d: u32,
+    nd: u32,
+    o: u32,
+) -> u32
+    requires { ⌜ Room (length (now work)) t m s ns d nd o ⌝ }
+    ensures { λ r. ⌜ Absorbed (now (text .entry)) (part (now (work .entry)) 0 t) (now (work .entry)) m visible drop s ns d nd o r (now (work .exit)) ⌝ }
+{
+    let mut n = nd;
+    let mut k = 0;
+    while k < ns {
+        n = absorb_row(text, work, t, m, visible, drop, s, k, d, n, o);
+        k += 1;
+    }
+    n
+}

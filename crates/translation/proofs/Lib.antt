@@ -1,0 +1,3 @@
+pub mod FormalItems
+pub mod NewNames
+pub mod MovedRows

@@ -1,0 +1,36 @@
+-- `translation::formals::is_formal_function` meets its contract.
+-- Assumes nothing.
+use Rattle.translation.proofs.FormalItems.{asks, Asking}
+use Prim.Native.Nat.{_-_}
+use Rattle.names.specs.Word.{name-of}
+use Rattle.tables.specs.Rows.{shape-of}
+use Rattle.forms.specs.Memory.{part}
+use Rattle.translation.specs.Moved.{formal-function}
+use Rattle.translation.proofs.formals.is_formal_function.Statement.{statement}
+use Rattle.translation.proofs.formals.is_formal_function.Tie as tie
+
+abbrev Inv-loop : tie.InvT-loop
+Inv-loop text work t row visible count p i₀ i =
+    Asking (formal-function (name-of text p) (name-of text (row .name)) (shape-of text (part work 0 t) (row .kind) (row .sorts))) text (part work 0 t) work visible count i
+
+abbrev μ-loop : tie.MeasureT-loop
+μ-loop text work t row visible count p i₀ i = count - i
+
+pub is-formal-function-spec : {M : Type 1} → statement M
+is-formal-function-spec =
+    tie.close
+    (tie.spec
+    Inv-loop
+    μ-loop
+    (λ c. search asks)  -- loop-holds
+    (λ c κs. search asks)  -- read-row-requires
+    (λ c. search asks)  -- sub-is-such-function
+    (λ c. search asks)  -- part-is-such-function-start
+    (λ c. search asks)  -- part-is-such-function-end
+    (λ c κs. search asks)  -- is-such-function-requires
+    (λ c. search asks)  -- returns
+    (λ c. search asks)  -- add-i
+    (λ c. search asks)  -- loop-less
+    (λ c. search asks)  -- loop-again
+    (λ c. search asks)  -- returns-2
+    )

@@ -1,0 +1,136 @@
+-- Laws of moving: what each kind of mode does, and that what lies apart from a mode's table does not matter.
+use mathlib.Core.Path.{_≡_, refl, ap, ap₂}
+use Prim.Native.Nat.{ℕ}
+use mathlib.Core.Bool.{Bool, true, false}
+use mathlib.Core.List.{List, [], _∷_, map}
+use native.Mathlib.Omega.{arith}
+use borrow.Author.Tests.{eq-eqb, ne-eqb}
+use Rattle.meaning.specs.Lists.{pick}
+use Rattle.meaning.specs.Names.{Name}
+use Rattle.meaning.specs.Origins.{Sort, visible-sort, hidden-sort, FunctionType, Shape, sort-shape, function-shape, variable-shape, Item}
+use Rattle.meaning.specs.Syntax.{Pair}
+use Rattle.meaning.specs.Normal.{Visible, move-sort, move-type, move-shape, move-name, move-item, move-hidden-item}
+use Rattle.meaning.specs.Clauses.{renaming, is-formal-sort, new-sort, new-function}
+use Rattle.names.specs.Word.{name-of}
+use Rattle.forms.specs.Forms.{items-at}
+use Rattle.translation.specs.declared.Mode.{Mode}
+use Rattle.translation.specs.Translation.{pairs-at, formals-at, mode-formals, sort-name, function-name, moved, moved-hidden, moved-in}
+use Rattle.translation.specs.Moved.{is-formal}
+
+-- ---- new names that are the old ones
+
+module _ (σ : Name → Name) (φ : Name → FunctionType → Name) (s : (a : Name) → σ a ≡ a) (f : (a : Name) (t : FunctionType) → φ a t ≡ a) where
+  sort-kept : (x : Sort) → move-sort σ φ x ≡ x
+  unfolding move-sort
+  sort-kept (visible-sort a) = ap visible-sort (s a)
+  sort-kept (hidden-sort o) = refl
+
+  sorts-kept : (xs : List Sort) → map (move-sort σ φ) xs ≡ xs
+  sorts-kept [] = refl
+  sorts-kept (x ∷ xs) = ap₂ (λ (y : Sort) (ys : List Sort). y ∷ ys) (sort-kept x) (sorts-kept xs)
+
+  shape-kept : (x : Shape) → move-shape σ φ x ≡ x
+  unfolding move-shape move-type
+  shape-kept sort-shape = refl
+  shape-kept (function-shape t) = rw (sorts-kept (t .inputs), sort-kept (t .output))
+  shape-kept (variable-shape x) = ap variable-shape (sort-kept x)
+
+  name-kept : (a : Name) (x : Shape) → move-name σ φ a x ≡ a
+  unfolding move-name
+  name-kept a sort-shape = s a
+  name-kept a (function-shape t) = f a t
+  name-kept a (variable-shape x) = refl
+
+  item-kept : (i : Item) → move-item σ φ i ≡ i
+  unfolding move-item
+  item-kept i = rw (name-kept (i .name) (i .shape), shape-kept (i .shape))
+
+  hidden-kept : (i : Item) → move-hidden-item σ φ i ≡ i
+  unfolding move-hidden-item
+  hidden-kept i = rw (shape-kept (i .shape))
+
+-- ---- a mode of kind 0
+
+module _ (text tape w : List ℕ) (m : Mode) (h : m .kind ≡ 0) where
+  pub sort-name-same : (a : Name) → sort-name text tape w m a ≡ a
+  unfolding sort-name pick
+  sort-name-same a = rw (eq-eqb (m .kind) 0 h)
+
+  pub function-name-same : (a : Name) (t : FunctionType) → function-name text tape w m a t ≡ a
+  unfolding function-name pick
+  function-name-same a t = rw (eq-eqb (m .kind) 0 h)
+
+  pub moved-same : (visible : Bool) (i : Item) → moved-in text tape w m visible i ≡ i
+  unfolding moved-in moved moved-hidden pick
+  moved-same true i = item-kept (sort-name text tape w m) (function-name text tape w m) sort-name-same function-name-same i
+  moved-same false i = hidden-kept (sort-name text tape w m) (function-name text tape w m) sort-name-same function-name-same i
+
+-- ---- a mode of kind 1 is a renaming
+
+module _ (text tape w : List ℕ) (m : Mode) (h : m .kind ≡ 1) where
+  pub sort-name-renamed : sort-name text tape w m ≡ renaming (pairs-at text tape (m .pairs))
+  unfolding sort-name pick
+  sort-name-renamed = λ i a. one a i
+    where
+      one : (a : Name) → sort-name text tape w m a ≡ renaming (pairs-at text tape (m .pairs)) a
+      one a = rw (ne-eqb (m .kind) 0 (λ u. omega arith), eq-eqb (m .kind) 1 h)
+
+  pub function-name-renamed : function-name text tape w m ≡ (λ f t. renaming (pairs-at text tape (m .pairs)) f)
+  unfolding function-name pick
+  function-name-renamed = λ i f t. one f t i
+    where
+      one : (f : Name) (t : FunctionType) → function-name text tape w m f t ≡ renaming (pairs-at text tape (m .pairs)) f
+      one f t = rw (ne-eqb (m .kind) 0 (λ u. omega arith), eq-eqb (m .kind) 1 h)
+
+-- ---- a mode of kind 2 binds the formal items, whatever the two modules are
+
+module _ (text tape w : List ℕ) (m : Mode) (h : m .kind ≡ 2) (whole actual : Visible) where
+  abbrev bound-sort : Name → Name
+  bound-sort = new-sort (mode-formals text tape w m) (pairs-at text tape (m .pairs)) whole actual
+
+  abbrev bound-function : Name → FunctionType → Name
+  bound-function = new-function (mode-formals text tape w m) (pairs-at text tape (m .pairs)) whole actual
+
+  pub sort-name-bound : sort-name text tape w m ≡ bound-sort
+  unfolding sort-name new-sort is-formal-sort pick
+  sort-name-bound = λ i a. one a i
+    where
+      one : (a : Name) → sort-name text tape w m a ≡ bound-sort a
+      one a = rw (ne-eqb (m .kind) 0 (λ u. omega arith), ne-eqb (m .kind) 1 (λ u. omega arith))
+
+  pub function-name-bound : function-name text tape w m ≡ bound-function
+  unfolding function-name new-function pick
+  function-name-bound = λ i f t. one f t i
+    where
+      one : (f : Name) (t : FunctionType) → function-name text tape w m f t ≡ bound-function f t
+      one f t = rw (ne-eqb (m .kind) 0 (λ u. omega arith), ne-eqb (m .kind) 1 (λ u. omega arith))
+
+-- a formal sort is one whatever the pairs and the two modules are
+pub is-formal-any : (formal : List Item) (rs : List Pair) (whole actual : Visible) (a : Name) → is-formal-sort formal rs whole actual a ≡ is-formal formal a
+unfolding is-formal-sort is-formal
+is-formal-any formal rs whole actual a = refl
+
+-- ---- memories in which the mode's table is the same
+
+module _ (text tape w w′ : List ℕ) (m : Mode) (e : items-at text tape w′ (m .visible) (m .count) ≡ items-at text tape w (m .visible) (m .count)) where
+  formals-apart : (p : Name) → formals-at text tape w′ (m .visible) (m .count) p ≡ formals-at text tape w (m .visible) (m .count) p
+  unfolding formals-at
+  formals-apart p = rw e
+
+  pub sort-name-apart : sort-name text tape w′ m ≡ sort-name text tape w m
+  unfolding sort-name
+  sort-name-apart = λ i a. one a i
+    where
+      one : (a : Name) → sort-name text tape w′ m a ≡ sort-name text tape w m a
+      one a = rw (formals-apart (name-of text (m .parameter)))
+
+  pub function-name-apart : function-name text tape w′ m ≡ function-name text tape w m
+  unfolding function-name
+  function-name-apart = λ i a t. one a t i
+    where
+      one : (a : Name) (t : FunctionType) → function-name text tape w′ m a t ≡ function-name text tape w m a t
+      one a t = rw (formals-apart (name-of text (m .parameter)))
+
+  pub moved-apart : (visible : Bool) (i : Item) → moved-in text tape w′ m visible i ≡ moved-in text tape w m visible i
+  unfolding moved-in moved moved-hidden
+  moved-apart visible i = rw (sort-name-apart, function-name-apart)
