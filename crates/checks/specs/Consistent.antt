@@ -1,0 +1,110 @@
+-- The checks in their order, and what they leave of the memory: its order table alone changes.
+use mathlib.Core.Path.{_≡_, refl, sym, ap, ap₂, _∙_}
+use mathlib.Core.Bool.{Bool, true, false, _&&_}
+use mathlib.Core.List.{List, [], _∷_, _++_, append-nil}
+use Prim.Native.Nat.{ℕ, zero, suc, _+_, _*_, _^_, _≤_, _<_}
+use native.Mathlib.Omega.{arith}
+use lib.Dec.{leb}
+use Rattle.meaning.specs.Lists.{pick}
+use Rattle.meaning.specs.Names.{Name}
+use Rattle.meaning.specs.Numbers.{clashing, overloading, bad-parameter, no-room}
+use Rattle.meaning.specs.Origins.{Item}
+use Rattle.meaning.specs.Normal.{Visible}
+use Rattle.meaning.specs.Checks.{Check, _>>_, unless, fits, consistent}
+use Rattle.names.specs.Word.{name-of}
+use Rattle.tables.specs.Rows.{item-of, row-at}
+use Rattle.forms.specs.declared.Verdict.{Verdict}
+use Rattle.forms.specs.declared.Verdict.the-variants.{Fine, Stop}
+use Rattle.forms.specs.Memory.{part, Kept}
+use Rattle.forms.specs.Forms.{names-at, items-at}
+use Rattle.forms.specs.FormLaws.{Apart}
+use Rattle.forms.specs.Verdicts.{told}
+use Rattle.checks.specs.declared.Test.the-variants.{Sorts, Functions, Overloading}
+use Rattle.checks.specs.Clashes.{wrong, clash-name, repeated-name}
+
+-- ---- room
+
+-- three numbers, each within its limit
+unfoldable pub within : ℕ → ℕ → ℕ → ℕ → ℕ → ℕ → Verdict
+within a a-limit b b-limit c c-limit = pick (leb a a-limit && leb b b-limit && leb c c-limit) Fine (Stop no-room 0)
+
+-- the verdict on them stands for the meaning's
+pub within-told : (text : List ℕ) (a a-limit b b-limit c c-limit : ℕ)
+    → told text (within a a-limit b b-limit c c-limit) ≡ fits (leb a a-limit && leb b b-limit && leb c c-limit)
+unfolding told within fits pick name-of
+within-told text a a-limit b b-limit c c-limit = go (leb a a-limit && leb b b-limit && leb c c-limit)
+  where
+    go : (enough : Bool) → told text (pick enough Fine (Stop no-room 0)) ≡ fits enough
+    go true = refl
+    go false = refl
+
+-- ---- clashes and overloading
+
+unfoldable pub overloading-check : List Item → Check
+overloading-check items = unless overloading (clash-name Overloading items)
+
+unfoldable pub functions-check : List Item → Check
+functions-check items = unless clashing (clash-name Functions items) >> overloading-check items
+
+unfoldable pub items-check : List Item → Check
+items-check items = unless clashing (clash-name Sorts items) >> functions-check items
+
+unfoldable pub names-check : List Name → List Item → Check
+names-check parameters items = unless bad-parameter (repeated-name parameters) >> items-check items
+
+-- the checks one after the other are the meaning's
+pub checks-consistent : (v : Visible) (own : List Item) → names-check (v .parameters) (v .items ++ own) ≡ consistent v own
+unfolding names-check items-check functions-check overloading-check clash-name repeated-name wrong consistent
+checks-consistent v own = refl
+
+-- ---- where things lie
+
+-- the tape ends at t; the order table of the n rows at b has n words from p on
+pub record RowsLaid (size t b n p : ℕ) : Type 0 where
+  pub tape : t ≤ p
+  pub rows : Apart p (p + n) b (b + n * 16)
+  pub place : b < 2 ^ 31
+  pub room : p + n ≤ size
+
+-- and that of the np parameters at q stands in the same place: the part has np + n words
+pub record Laid (size t q np b n p : ℕ) : Type 0 where
+  pub tape : t ≤ p
+  pub parameters : Apart p (p + (np + n)) q (q + np)
+  pub rows : Apart p (p + (np + n)) b (b + n * 16)
+  pub place : b < 2 ^ 31
+  pub room : p + (np + n) ≤ size
+
+-- ---- what comes of the checks
+
+pub record ItemsChecked (text w w′ : List ℕ) (t b n p : ℕ) (r : Verdict) : Type 0 where
+  pub verdict : told text r ≡ items-check (items-at text (part w 0 t) w b n)
+  pub kept : Kept p (p + n) w w′
+
+pub record Checked (text w w′ : List ℕ) (t q np b n p : ℕ) (r : Verdict) : Type 0 where
+  pub verdict : told text r ≡ consistent (record { parameters = names-at text w q np; items = items-at text (part w 0 t) w b n }) []
+  pub kept : Kept p (p + (np + n)) w w′
+
+-- ---- visible rows, and own hidden ones behind them
+
+items-split : (text tape w : List ℕ) (b v m : ℕ) → items-at text tape w b (v + m) ≡ items-at text tape w b v ++ items-at text tape w (b + v * 16) m
+unfolding items-at
+items-split text tape w b zero m =
+    let e : b ≡ b + 0 * 16 = omega arith in
+    let c : 0 + m ≡ m = omega arith in
+    ap₂ (λ (i k : ℕ). items-at text tape w i k) e c
+items-split text tape w b (suc v) m =
+    let e : b + 16 + v * 16 ≡ b + suc v * 16 = omega arith in
+    let c : suc v + m ≡ suc (v + m) = omega arith in
+    ap (items-at text tape w b) c
+    ∙ ap (item-of text tape (row-at w b) ∷_)
+    (items-split text tape w (b + 16) v m ∙ ap (λ (i : ℕ). items-at text tape w (b + 16) v ++ items-at text tape w i m) e)
+
+-- v visible rows and m of M's own behind them
+pub checked-own : (text w w′ : List ℕ) (t q np b v m p : ℕ) (r : Verdict) → Checked text w w′ t q np b (v + m) p r
+    → told text r ≡ consistent (record { parameters = names-at text w q np; items = items-at text (part w 0 t) w b v }) (items-at text (part w 0 t) w (b + v * 16) m)
+checked-own text w w′ t q np b v m p r c =
+    let names = names-at text w q np in
+    let tape = part w 0 t in
+    c .verdict ∙ sym (checks-consistent (record { parameters = names; items = items-at text tape w b (v + m) }) [])
+    ∙ ap (names-check names) (append-nil (items-at text tape w b (v + m)) ∙ items-split text tape w b v m)
+    ∙ checks-consistent (record { parameters = names; items = items-at text tape w b v }) (items-at text tape w (b + v * 16) m)

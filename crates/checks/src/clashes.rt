@@ -1,0 +1,80 @@
+// The least name at which two are at odds, sought pair by pair in an order table.
+use super::Found;
+use super::Test;
+use super::pairs::at_odds;
+use super::pairs::same_called;
+use order::name_in;
+use order::number_in;
+use tables::Row;
+use tables::entries::same_word;
+use tables::rows::read_row;
+ghost use mathlib.Core.Path.{_≡_};
+ghost use Prim.Native.Nat.{_+_, _*_};
+ghost use lib.ListN.{getD};
+ghost use Rattle.tables.specs.Rows.{row-at};
+ghost use Rattle.forms.specs.Forms.{names-at, items-at};
+ghost use Rattle.order.specs.Order.{InOrder};
+ghost use Rattle.checks.specs.Clashes.{named, clash-name, repeated-name};
+
+// The row that is i-th in order.
+fn row_by(w: &[u32], b: u32, p: u32, i: u32) -> Row
+    ensures { λ r. ⌜ r ≡ row-at (now (w .entry)) (b + getD (now (w .entry)) (p + i) 0 * 16) ⌝ }
+{
+    let k = number_in(w, p, i);
+    read_row(w, b, k)
+}
+
+// The least name of two of the n items at b that are at odds. Items of one name stand side by side in the order table, so that a row is
+// tested against no more than those of its name.
+pub fn find_clash(text: &[u8], tape: &[u32], w: &[u32], b: u32, n: u32, p: u32, test: Test) -> Found
+    requires { ⌜ InOrder (now text) (now w) (b + 1) 16 p n ⌝ }
+    ensures { λ r. ⌜ named (now (text .entry)) r ≡ clash-name test (items-at (now (text .entry)) (now (tape .entry)) (now (w .entry)) b n) ⌝ }
+{
+    let mut i = 0;
+    'outer: while i < n {
+        let x = row_by(w, b, p, i);
+        let mut j = i + 1;
+        while j < n {
+            let y = row_by(w, b, p, j);
+            if same_called(text, x, y) {
+                if at_odds(text, tape, test, x, y) {
+                    break 'outer;
+                }
+                j += 1;
+            } else {
+                j = n;
+            }
+        }
+        i += 1;
+    }
+    if i < n {
+        let x = row_by(w, b, p, i);
+        return Found::At(x.name);
+    }
+    Found::Nothing
+}
+
+// The word of the name that is i-th in order, of names side by side.
+fn name_by(w: &[u32], b: u32, p: u32, i: u32) -> u32
+    ensures { λ r. ⌜ r ≡ getD (now (w .entry)) (b + getD (now (w .entry)) (p + i) 0 * 1) 0 ⌝ }
+{
+    let k = number_in(w, p, i);
+    name_in(w, b, 1, k)
+}
+
+// The least of the n names at b that stands there twice: in the order table the two are neighbours.
+pub fn find_repeated(text: &[u8], w: &[u32], b: u32, n: u32, p: u32) -> Found
+    requires { ⌜ InOrder (now text) (now w) b 1 p n ⌝ }
+    ensures { λ r. ⌜ named (now (text .entry)) r ≡ repeated-name (names-at (now (text .entry)) (now (w .entry)) b n) ⌝ }
+{
+    let mut i = 1;
+    while i < n {
+        let x = name_by(w, b, p, i - 1);
+        let y = name_by(w, b, p, i);
+        if same_word(text, x, y) {
+            return Found::At(x);
+        }
+        i += 1;
+    }
+    Found::Nothing
+}

@@ -1,0 +1,160 @@
+// Tests on two items that have one name.
+use super::Test;
+use tables::Row;
+use tables::Section;
+use tables::declarations::same_origin;
+use tables::entries::same_word;
+use tables::sorts::same_shape;
+use tables::sorts::same_sort;
+use tables::sorts::same_sorts;
+ghost use mathlib.Core.Path.{_≡_};
+ghost use Prim.Native.Nat.{_-_, min};
+ghost use Rattle.meaning.specs.Checks.{other-origin, other-output, in-one-parameter, both-in-one};
+ghost use Rattle.meaning.specs.Names.{same};
+ghost use Rattle.names.specs.Word.{name-of};
+ghost use Rattle.tables.specs.Rows.{section-of, shape-of, item-of};
+ghost use Rattle.checks.specs.Clashes.{two-sorts, two-functions, two-overloaded, overloaded-types, but-name};
+
+// Have a and b one name?
+pub fn same_called(text: &[u8], a: Row, b: Row) -> bool
+    ensures { λ r. ⌜ r ≡ same (name-of (now (text .entry)) (a .name)) (name-of (now (text .entry)) (b .name)) ⌝ }
+{
+    let x = a.name;
+    let y = b.name;
+    same_word(text, x, y)
+}
+
+fn other_origin(text: &[u8], tape: &[u32], a: Row, b: Row) -> bool
+    ensures { λ r. ⌜ r ≡ other-origin (item-of (now (text .entry)) (now (tape .entry)) a) (item-of (now (text .entry)) (now (tape .entry)) b) ⌝ }
+{
+    let o = a.origin;
+    let p = b.origin;
+    if same_origin(text, tape, o, p) {
+        return false;
+    }
+    true
+}
+
+// Two sorts of different origins?
+fn two_sorts(text: &[u8], tape: &[u32], a: Row, b: Row) -> bool
+    ensures { λ r. ⌜ r ≡ two-sorts (item-of (now (text .entry)) (now (tape .entry)) a) (item-of (now (text .entry)) (now (tape .entry)) b) ⌝ }
+{
+    let k = a.kind;
+    let l = b.kind;
+    if k != 0 {
+        return false;
+    }
+    if l != 0 {
+        return false;
+    }
+    other_origin(text, tape, a, b)
+}
+
+// Two functions of one type and different origins?
+fn two_functions(text: &[u8], tape: &[u32], a: Row, b: Row) -> bool
+    ensures { λ r. ⌜ r ≡ two-functions (item-of (now (text .entry)) (now (tape .entry)) a) (item-of (now (text .entry)) (now (tape .entry)) b) ⌝ }
+{
+    let k = a.kind;
+    if k < 2 {
+        return false;
+    }
+    if same_shape(text, tape, a, b) {
+        return other_origin(text, tape, a, b);
+    }
+    false
+}
+
+// How many of the nine sorts of a row are a function's inputs.
+fn inputs_of(kind: u32) -> usize
+    ensures { λ r. ⌜ r ≡ min (kind - 2) 9 ⌝ }
+{
+    if kind < 2 {
+        return 0;
+    }
+    if 11 < kind {
+        return 9;
+    }
+    (kind - 2) as usize
+}
+
+// Have the functions of the kinds k and l and of the sorts a and b equal inputs, and different outputs?
+fn other_type(text: &[u8], tape: &[u32], k: u32, a: [u32; 9], l: u32, b: [u32; 9]) -> bool
+    ensures { λ r. ⌜ r ≡ overloaded-types (now (text .entry)) (now (tape .entry)) k a l b ⌝ }
+{
+    let n = inputs_of(k);
+    let m = inputs_of(l);
+    if n != m {
+        return false;
+    }
+    if same_sort(text, tape, a[8], b[8]) {
+        return false;
+    }
+    same_sorts(text, tape, a, b, n)
+}
+
+fn other_output(text: &[u8], tape: &[u32], k: u32, a: [u32; 9], l: u32, b: [u32; 9]) -> bool
+    ensures { λ r. ⌜ r ≡ other-output (shape-of (now (text .entry)) (now (tape .entry)) k a) (shape-of (now (text .entry)) (now (tape .entry)) l b) ⌝ }
+{
+    if k < 2 {
+        return false;
+    }
+    if l < 2 {
+        return false;
+    }
+    other_type(text, tape, k, a, l, b)
+}
+
+fn in_one_parameter(text: &[u8], a: Section, b: Section) -> bool
+    ensures { λ r. ⌜ r ≡ in-one-parameter (section-of (now (text .entry)) a) (section-of (now (text .entry)) b) ⌝ }
+{
+    match a {
+        Section::Export => false,
+        Section::Hidden => false,
+        Section::Parameter(p) => match b {
+            Section::Export => false,
+            Section::Hidden => false,
+            Section::Parameter(q) => same_word(text, p, q),
+        },
+    }
+}
+
+// Functions of one parameter?
+fn both_in_one(text: &[u8], tape: &[u32], a: Row, b: Row) -> bool
+    ensures { λ r. ⌜ r ≡ both-in-one (item-of (now (text .entry)) (now (tape .entry)) a) (item-of (now (text .entry)) (now (tape .entry)) b) ⌝ }
+{
+    let k = a.kind;
+    let l = b.kind;
+    if k < 2 {
+        return false;
+    }
+    if l < 2 {
+        return false;
+    }
+    let s = a.standing;
+    let t = b.standing;
+    in_one_parameter(text, s, t)
+}
+
+fn overloading(text: &[u8], tape: &[u32], a: Row, b: Row) -> bool
+    ensures { λ r. ⌜ r ≡ two-overloaded (item-of (now (text .entry)) (now (tape .entry)) a) (item-of (now (text .entry)) (now (tape .entry)) b) ⌝ }
+{
+    let k = a.kind;
+    let l = b.kind;
+    let s = a.sorts;
+    let t = b.sorts;
+    if other_output(text, tape, k, s, l, t) {
+        return true;
+    }
+    both_in_one(text, tape, a, b)
+}
+
+// Are a and b at odds, if they have one name?
+pub fn at_odds(text: &[u8], tape: &[u32], test: Test, a: Row, b: Row) -> bool
+    ensures { λ r. ⌜ r ≡ but-name test (item-of (now (text .entry)) (now (tape .entry)) a) (item-of (now (text .entry)) (now (tape .entry)) b) ⌝ }
+{
+    match test {
+        Test::Sorts => two_sorts(text, tape, a, b),
+        Test::Functions => two_functions(text, tape, a, b),
+        Test::Overloading => overloading(text, tape, a, b),
+    }
+}
