@@ -1,0 +1,16 @@
+-- `declarations::sorts::declares_seen` meets its contract.
+-- Assumes nothing.
+use Rattle.declarations.proofs.Cases.{cases}
+use borrow.Author.Needs.{needs}
+use Rattle.declarations.proofs.sorts.declares_seen.Statement.{statement}
+use Rattle.declarations.proofs.sorts.declares_seen.Tie as tie
+
+pub declares-seen-spec : {M : Type 1} → statement M
+declares-seen-spec =
+    tie.close
+    (tie.spec
+    (λ c κs. search needs)  -- first-named-requires
+    (λ c. search cases)  -- returns
+    (λ c κs. search needs)  -- first-named-requires-2
+    (λ c. search cases)  -- returns-2
+    )

@@ -1,0 +1,32 @@
+-- `declarations::sorts::has_row` meets its contract.
+-- Assumes nothing.
+use borrow.Author.Needs.{needs}
+use mathlib.Core.Path.{_≡_}
+use Prim.Native.Nat.{_-_}
+use Rattle.names.specs.Word.{name-of}
+use Rattle.declarations.specs.Scans.{found}
+use Rattle.declarations.specs.Sorts.{is-row}
+use Rattle.declarations.proofs.Cases.{cases}
+use Rattle.declarations.proofs.sorts.has_row.Statement.{statement}
+use Rattle.declarations.proofs.sorts.has_row.Tie as tie
+
+abbrev Inv-loop : tie.InvT-loop
+Inv-loop text work b n kind w i₀ i = found (is-row text work b kind (name-of text w)) 0 n ≡ found (is-row text work b kind (name-of text w)) i (n - i)
+
+abbrev μ-loop : tie.MeasureT-loop
+μ-loop text work b n kind w i₀ i = n - i
+
+pub has-row-spec : {M : Type 1} → statement M
+has-row-spec =
+    tie.close
+    (tie.spec
+    Inv-loop
+    μ-loop
+    (λ c. search cases)  -- loop-holds
+    (λ c κs. search needs)  -- is-row-requires
+    (λ c. search cases)  -- returns
+    (λ c. search needs)  -- add-i
+    (λ c. search needs)  -- loop-less
+    (λ c. search cases)  -- loop-again
+    (λ c. search cases)  -- returns-2
+    )

@@ -1,0 +1,13 @@
+pub mod Scans
+pub mod Once
+pub mod Sorts
+pub mod Checked
+pub mod Items
+pub mod RowNames
+pub mod Spelled
+pub mod DeclarationLaws
+pub mod ItemLaws
+pub mod CheckLaws
+pub mod VariableLaws
+pub mod OnceLaws
+pub mod UnionLaws

@@ -1,0 +1,343 @@
+-- 9 by places is the meaning's (meaning/specs/Evaluate.antt, step 2): each declaration is held against those before it in its section.
+use mathlib.Core.Path.{_≡_, refl, sym, ap, ap₂, subst, _∙_}
+use mathlib.Core.Bool.{Bool, true, false}
+use mathlib.Core.Option.{Option, some}
+use mathlib.Core.List.{List, [], _∷_, _++_, map, append-assoc}
+use Prim.Native.Nat.{ℕ, suc, _+_, _-_, _<_, _≤_}
+use native.Mathlib.Nat.{add-zero}
+use native.Mathlib.Omega.{arith}
+use borrow.Author.Tests.{le-ltb, eq-eqb, ne-eqb}
+use lib.Dec.{eqb}
+use lib.ListN.{length, length-append}
+use Rattle.meaning.specs.Lists.{pick, any, each, repeated}
+use Rattle.meaning.specs.Names.{Name, same, member}
+use Rattle.meaning.specs.Numbers.{declared-twice}
+use Rattle.meaning.specs.Syntax.{Function, Signature, Parameter, Module}
+use Rattle.meaning.specs.Origins.{Declared, declared-sort, declared-function, same-declared}
+use Rattle.meaning.specs.Checks.{Check, fine, stop, _>>_, unless}
+use Rattle.meaning.specs.Evaluate.{same-function, name-of-function, once-in, once-in-parameters, declared-once}
+use Rattle.tape.specs.Tape.{Entry, entry, flat-function, flat-signature, flat-parameter, flat-import, flat-group, flat-equation, flat-module}
+use Rattle.tables.specs.Entries.{role-at, name-at, is-function-role, is-parameter-role, last-with, declared-at}
+use Rattle.declarations.specs.Scans.{found, walked}
+use Rattle.declarations.specs.Once.{is-declaring, repeats, section-start, is-repeat, once-at}
+use Rattle.declarations.specs.Spelled.{Spells, All, all-append, all-map, all-type, all-signature, all-parameters, all-imports, all-groups, all-equations, spells-front, spells-behind, last-over}
+use Rattle.declarations.specs.ItemLaws.{Few, FewEach, FewInputs, FunctionAt, function-at, function-long, type-entries}
+use Rattle.declarations.specs.CheckLaws.{then-fine, then-then, walked-append}
+use Rattle.declarations.specs.VariableLaws.{either-way, found-last, told-at, refused-then}
+
+any-member : (n : Name) (ns : List Name) → any (same n) ns ≡ member n ns
+unfolding any member
+any-member n [] = refl
+any-member n (x ∷ xs) = ap (λ (b : Bool). pick (same n x) true b) (any-member n xs)
+
+told-then : (k : ℕ) (n : Name) (b : Bool) (c : Check) → (told-at b k n >> c) ≡ pick b (stop k n) c
+unfolding told-at _>>_ pick
+told-then k n true c = refl
+told-then k n false c = refl
+
+name-picked : (b : Bool) (f : Function) (o : Option Function) → pick b (some (f .name)) (name-of-function o) ≡ name-of-function (pick b (some f) o)
+unfolding name-of-function pick
+name-picked true f o = refl
+name-picked false f o = refl
+
+module _ (text tape : List ℕ) (a : ℕ) where
+  abbrev walk : ℕ → List Entry → Check
+  walk i es = walked (once-at text tape a) i (length es)
+
+  walk-quiet : (es : List Entry) (i : ℕ) → All (λ (r : ℕ). 9 ≤ r) es → Spells text tape i es → walk i es ≡ fine tt
+  unfolding walked once-at is-declaring _>>_ pick
+  walk-quiet [] i h k = refl
+  walk-quiet (e ∷ es) i h k = rw (k .0, le-ltb (e .role) 2 (let l = h .0 in omega arith), le-ltb (e .role) 9 (h .0)) (walk-quiet es (suc i) (h .1) (k .2))
+
+  -- ---- what stands before a place in its section: things of A with the role r
+
+  module _ (A : Type 0) (r : ℕ) (decl : A → Declared) (e : A → A → Bool) (agreed : (x y : A) → same-declared (decl x) (decl y) ≡ e x y) (start : ℕ) where
+    abbrev Before : ℕ → List A → Type 0
+    Before i seen = (j : ℕ) (x : A) → role-at tape j ≡ r → declared-at text tape j ≡ decl x → found (repeats text tape j) start (i - start) ≡ any (e x) seen
+
+    before-none : Before start []
+    unfolding found any
+    before-none j x f g = let z : start - start ≡ 0 = omega arith in rw z
+
+    before-more : (i j : ℕ) → start ≤ i → found (repeats text tape j) start (suc i - start) ≡ pick (found (repeats text tape j) start (i - start)) true (repeats text tape j i)
+    before-more i j h =
+        let z : suc i - start ≡ suc (i - start) = omega arith in
+        let y : start + (i - start) ≡ i = omega arith in
+        rw z (rw y at (found-last (repeats text tape j) (i - start) start))
+
+    before-same : (i : ℕ) (y : A) (seen : List A) → start ≤ i → role-at tape i ≡ r → declared-at text tape i ≡ decl y → Before i seen → Before (suc i) (y ∷ seen)
+    unfolding repeats any pick
+    before-same i y seen h p q b j x f g =
+        before-more i j h ∙ rw (b j x f g, f, p, eq-eqb r r refl, g, q, agreed x y) (either-way (any (e x) seen) (e x y))
+
+    before-other : (i : ℕ) (seen : List A) → start ≤ i → (role-at tape i ≡ r → ⊥) → Before i seen → Before (suc i) seen
+    unfolding repeats pick
+    before-other i seen h p b j x f g =
+        before-more i j h ∙ rw (b j x f g, f, ne-eqb r (role-at tape i) (λ q. p (sym q))) (go (any (e x) seen))
+      where
+        go : (c : Bool) → pick c true false ≡ c
+        go true = refl
+        go false = refl
+
+    before-run : (es : List Entry) (i : ℕ) (seen : List A) → start ≤ i → All (λ (x : ℕ). x ≡ r → ⊥) es → Spells text tape i es → Before i seen → Before (i + length es) seen
+    before-run [] i seen h l k b = rw (add-zero i) b
+    before-run (x ∷ es) i seen h l k b =
+        let z : i + suc (length es) ≡ suc i + length es = omega arith in
+        rw z (before-run es (suc i) seen (omega arith) (l .1) (k .2) (before-other i seen h (λ q. l .0 (sym (k .0) ∙ q)) b))
+
+    once-told : (i : ℕ) (x : A) (n : Name) (seen : List A) → is-declaring r ≡ true → role-at tape i ≡ r → section-start tape a i ≡ start → declared-at text tape i ≡ decl x
+        → name-at text tape i ≡ n → Before i seen → once-at text tape a i ≡ told-at (any (e x) seen) declared-twice n
+    unfolding once-at is-repeat told-at pick
+    once-told i x n seen d p q g f b = rw (q, b i x p g, p, d, f)
+
+-- ---- sorts and functions as declarations
+
+sort-agreed : (x y : Name) → same-declared (declared-sort x) (declared-sort y) ≡ same x y
+unfolding same-declared
+sort-agreed x y = refl
+
+abbrev as-declared : Function → Declared
+as-declared f = declared-function (f .name) (f .inputs) (f .output)
+
+function-agreed : (x y : Function) → same-declared (as-declared x) (as-declared y) ≡ same-function x y
+unfolding same-declared same-function
+function-agreed x y = refl
+
+sort-declared : (text tape : List ℕ) (i r : ℕ) (n : Name) → role-at tape i ≡ r → is-function-role r ≡ false → eqb r 17 ≡ false → name-at text tape i ≡ n → declared-at text tape i ≡ declared-sort n
+unfolding declared-at pick
+sort-declared text tape i r n e f g h = rw (e, f, g, h)
+
+function-declared : (text tape : List ℕ) (i r : ℕ) (f : Function) → role-at tape i ≡ r → is-function-role r ≡ true → FunctionAt text tape i f → declared-at text tape i ≡ as-declared f
+unfolding declared-at pick
+function-declared text tape i r f e g k = rw (e, g, k .arity, k .name, k .inputs, k .output)
+
+module _ (tape : List ℕ) (a i r : ℕ) (e : role-at tape i ≡ r) where
+  start-parameter : (p : ℕ) → is-parameter-role r ≡ true → last-with 2 tape i ≡ p → section-start tape a i ≡ p
+  unfolding section-start pick
+  start-parameter p f g = rw (e, f, g)
+
+  start-module : is-parameter-role r ≡ false → section-start tape a i ≡ a
+  unfolding section-start pick
+  start-module f = rw (e, f)
+
+-- ---- a section with the roles q and r, which begins at start: its entries from lo up to hi
+
+module _ (text tape : List ℕ) (a start q r : ℕ) (low : r < 9) (apart : q ≡ r → ⊥) (declaring-q : is-declaring q ≡ true) (declaring-r : is-declaring r ≡ true)
+    (sort-q : is-function-role q ≡ false) (other-q : eqb q 17 ≡ false) (function-r : is-function-role r ≡ true) (lo hi : ℕ)
+    (start-q : (i : ℕ) → lo ≤ i → i < hi → role-at tape i ≡ q → section-start tape a i ≡ start)
+    (start-r : (i : ℕ) → lo ≤ i → i < hi → role-at tape i ≡ r → section-start tape a i ≡ start) (from : start ≤ lo) where
+  abbrev Sorts : ℕ → List Name → Type 0
+  Sorts i seen = Before text tape a Name q declared-sort same sort-agreed start i seen
+
+  abbrev Functions : ℕ → List Function → Type 0
+  Functions i seen = Before text tape a Function r as-declared same-function function-agreed start i seen
+
+  sorts-once : (ns : List Name) (i : ℕ) (seen : List Name) → lo ≤ i → i + length (map (entry q) ns) ≤ hi → Sorts i seen → Spells text tape i (map (entry q) ns)
+      → walk text tape a i (map (entry q) ns) ≡ unless declared-twice (repeated same seen ns)
+  unfolding walked repeated unless
+  sorts-once [] i seen h l b k = refl
+  sorts-once (n ∷ ns) i seen h l b k =
+      let d = sort-declared text tape i q n (k .0) sort-q other-q (k .1) in
+      ap₂ (λ (x y : Check). x >> y)
+      (once-told text tape a Name q declared-sort same sort-agreed start i n n seen declaring-q (k .0) (start-q i h (omega arith) (k .0)) d (k .1) b)
+      (sorts-once ns (suc i) (n ∷ seen) (omega arith) (omega arith) (before-same text tape a Name q declared-sort same sort-agreed start i n seen (omega arith) (k .0) d b) (k .2))
+      ∙ refused-then declared-twice n (any (same n) seen) (repeated same (n ∷ seen) ns)
+
+  function-once : (f : Function) (i : ℕ) (seen : List Function) → lo ≤ i → i < hi → length (f .inputs) ≤ 8 → Functions i seen → Spells text tape i (flat-function r f)
+      → walk text tape a i (flat-function r f) ≡ told-at (any (same-function f) seen) declared-twice (f .name)
+  unfolding walked flat-function
+  function-once f i seen h l n b k =
+      let d = function-declared text tape i r f (k .0) function-r (function-at text tape r f i n k) in
+      ap₂ (λ (x y : Check). x >> y)
+      (once-told text tape a Function r as-declared same-function function-agreed start i f (f .name) seen declaring-r (k .0) (start-r i h l (k .0)) d (k .1) b)
+      (walk-quiet text tape a (type-entries f) (suc i) (all-type (λ (x : ℕ). 9 ≤ x) (omega arith) (omega arith) f) (k .2))
+      ∙ then-fine (told-at (any (same-function f) seen) declared-twice (f .name))
+
+  function-behind : (f : Function) (i : ℕ) (seen : List Function) → lo ≤ i → length (f .inputs) ≤ 8 → Functions i seen → Spells text tape i (flat-function r f)
+      → Functions (i + length (flat-function r f)) (f ∷ seen)
+  unfolding flat-function
+  function-behind f i seen h n b k =
+      let d = function-declared text tape i r f (k .0) function-r (function-at text tape r f i n k) in
+      let z : suc i + length (type-entries f) ≡ i + suc (length (type-entries f)) = omega arith in
+      subst (λ (j : ℕ). Functions j (f ∷ seen)) z
+      (before-run text tape a Function r as-declared same-function function-agreed start (type-entries f) (suc i) (f ∷ seen) (omega arith)
+      (all-type (λ (x : ℕ). x ≡ r → ⊥) (λ x. omega arith) (λ x. omega arith) f) (k .2)
+      (before-same text tape a Function r as-declared same-function function-agreed start i f seen (omega arith) (k .0) d b))
+
+  functions-once : (fs : List Function) (i : ℕ) (seen : List Function) → lo ≤ i → i + length (each (flat-function r) fs) ≤ hi → Few fs → Functions i seen
+      → Spells text tape i (each (flat-function r) fs)
+      → walk text tape a i (each (flat-function r) fs) ≡ unless declared-twice (name-of-function (repeated same-function seen fs))
+  unfolding walked each repeated unless name-of-function
+  functions-once [] i seen h l n b k = refl
+  functions-once (f ∷ fs) i seen h l n b k =
+      let rest = each (flat-function r) fs in
+      let size = length-append (flat-function r f) rest in
+      let one = spells-front text tape (flat-function r f) rest i k in
+      walked-append (once-at text tape a) (flat-function r f) rest i
+      ∙ ap₂ (λ (x y : Check). x >> y)
+      (function-once f i seen h (omega (arith, size, function-long r f)) (n .0) b one)
+      (functions-once fs (i + length (flat-function r f)) (f ∷ seen) (omega arith) (omega (arith, size)) (n .1) (function-behind f i seen h (n .0) b one)
+      (spells-behind text tape (flat-function r f) rest i k))
+      ∙ refused-then declared-twice (f .name) (any (same-function f) seen) (name-of-function (repeated same-function (f ∷ seen) fs))
+      ∙ ap (unless declared-twice) (name-picked (any (same-function f) seen) f (repeated same-function (f ∷ seen) fs))
+
+  signature-once : (g : Signature) (i : ℕ) → lo ≤ i → i + length (flat-signature q r g) ≤ hi → Few (g .functions) → Sorts i [] → Functions i [] → Spells text tape i (flat-signature q r g)
+      → walk text tape a i (flat-signature q r g) ≡ once-in g
+  unfolding flat-signature once-in
+  signature-once g i h l n b c k =
+      let es = map (entry q) (g .sorts) in
+      let fs = each (flat-function r) (g .functions) in
+      let size = length-append es fs in
+      let front = spells-front text tape es fs i k in
+      walked-append (once-at text tape a) es fs i
+      ∙ ap₂ (λ (x y : Check). x >> y)
+      (sorts-once (g .sorts) i [] h (omega (arith, size)) b front)
+      (functions-once (g .functions) (i + length es) [] (omega arith) (omega (arith, size)) n
+      (before-run text tape a Function r as-declared same-function function-agreed start es i [] (omega arith) (all-map (λ (x : ℕ). x ≡ r → ⊥) q apart (g .sorts)) front c)
+      (spells-behind text tape es fs i k))
+
+-- ---- the module
+
+module _ (text tape : List ℕ) (a : ℕ) where
+  -- the parameters' names before place i
+  abbrev Parameters : ℕ → List Name → Type 0
+  Parameters i seen = Before text tape a Name 2 declared-sort same sort-agreed a i seen
+
+  parameter-once : (p : Parameter) (i : ℕ) (seen : List Name) → a ≤ i → Few (p .signature .functions) → Parameters i seen → Spells text tape i (flat-parameter p)
+      → walk text tape a i (flat-parameter p) ≡ (told-at (member (p .name) seen) declared-twice (p .name) >> once-in (p .signature))
+  unfolding walked flat-parameter is-declaring is-function-role is-parameter-role pick
+  parameter-once p i seen h n b k =
+      let es = flat-signature 3 4 (p .signature) in
+      let last : (x : ℕ) → suc i ≤ x → x < suc i + length es → last-with 2 tape x ≡ i = λ x j l.
+      let z : i + (x - i) ≡ x = omega arith in
+      rw z at (last-over text tape 2 i es (k .0) (all-signature (λ (y : ℕ). 3 ≤ y) 3 4 (omega arith) (omega arith) (omega arith) (omega arith) (p .signature)) (k .2) (x - i) (omega arith)) in
+      let other : (r : ℕ) → (2 ≡ r → ⊥) → role-at tape i ≡ r → ⊥ = λ r u e. u (sym (k .0) ∙ e) in
+      ap₂ (λ (x y : Check). x >> y)
+      (once-told text tape a Name 2 declared-sort same sort-agreed a i (p .name) (p .name) seen refl (k .0) (start-module tape a i 2 (k .0) refl)
+      (sort-declared text tape i 2 (p .name) (k .0) refl refl (k .1)) (k .1) b
+      ∙ ap (λ (x : Bool). told-at x declared-twice (p .name)) (any-member (p .name) seen))
+      (signature-once text tape a i 3 4 (omega arith) (λ x. omega arith) refl refl refl refl refl (suc i) (suc i + length es)
+      (λ x j l e. start-parameter tape a x 3 e i refl (last x j l))
+      (λ x j l e. start-parameter tape a x 4 e i refl (last x j l)) (omega arith)
+      (p .signature) (suc i) (omega arith) (omega arith) n
+      (before-other text tape a Name 3 declared-sort same sort-agreed i i [] (omega arith) (other 3 (λ x. omega arith)) (before-none text tape a Name 3 declared-sort same sort-agreed i))
+      (before-other text tape a Function 4 as-declared same-function function-agreed i i [] (omega arith) (other 4 (λ x. omega arith)) (before-none text tape a Function 4 as-declared same-function function-agreed i))
+      (k .2))
+
+  parameter-behind : (p : Parameter) (i : ℕ) (seen : List Name) → a ≤ i → Parameters i seen → Spells text tape i (flat-parameter p) → Parameters (i + length (flat-parameter p)) (p .name ∷ seen)
+  unfolding flat-parameter is-function-role pick
+  parameter-behind p i seen h b k =
+      let es = flat-signature 3 4 (p .signature) in
+      let z : suc i + length es ≡ i + suc (length es) = omega arith in
+      subst (λ (j : ℕ). Parameters j (p .name ∷ seen)) z
+      (before-run text tape a Name 2 declared-sort same sort-agreed a es (suc i) (p .name ∷ seen) (omega arith)
+      (all-signature (λ (x : ℕ). x ≡ 2 → ⊥) 3 4 (λ x. omega arith) (λ x. omega arith) (λ x. omega arith) (λ x. omega arith) (p .signature)) (k .2)
+      (before-same text tape a Name 2 declared-sort same sort-agreed a i (p .name) seen h (k .0) (sort-declared text tape i 2 (p .name) (k .0) refl refl (k .1)) b))
+
+  parameters-once : (ps : List Parameter) (i : ℕ) (seen : List Name) → a ≤ i → FewEach ps → Parameters i seen → Spells text tape i (each flat-parameter ps)
+      → walk text tape a i (each flat-parameter ps) ≡ once-in-parameters seen ps
+  unfolding walked each once-in-parameters
+  parameters-once [] i seen h n b k = refl
+  parameters-once (p ∷ ps) i seen h n b k =
+      let rest = each flat-parameter ps in
+      let one = spells-front text tape (flat-parameter p) rest i k in
+      walked-append (once-at text tape a) (flat-parameter p) rest i
+      ∙ ap₂ (λ (x y : Check). x >> y) (parameter-once p i seen h (n .0) b one)
+      (parameters-once ps (i + length (flat-parameter p)) (p .name ∷ seen) (omega arith) (n .1) (parameter-behind p i seen h b one) (spells-behind text tape (flat-parameter p) rest i k))
+      ∙ then-then (told-at (member (p .name) seen) declared-twice (p .name)) (once-in (p .signature)) (once-in-parameters (p .name ∷ seen) ps)
+      ∙ told-then declared-twice (p .name) (member (p .name) seen) (once-in (p .signature) >> once-in-parameters (p .name ∷ seen) ps)
+
+  -- exports, or the hidden section: none of its roles stands before it
+  section-once : (q r : ℕ) → r < 9 → (q ≡ r → ⊥) → is-declaring q ≡ true → is-declaring r ≡ true → is-function-role q ≡ false → eqb q 17 ≡ false → is-function-role r ≡ true
+      → is-parameter-role q ≡ false → is-parameter-role r ≡ false → (es : List Entry) → All (λ (x : ℕ). x ≡ q → ⊥) es → All (λ (x : ℕ). x ≡ r → ⊥) es → Spells text tape a es
+      → (g : Signature) → Few (g .functions) → Spells text tape (a + length es) (flat-signature q r g) → walk text tape a (a + length es) (flat-signature q r g) ≡ once-in g
+  section-once q r low apart dq dr sq oq fr pq pr es aq ar k g n l =
+      let i = a + length es in
+      signature-once text tape a a q r low apart dq dr sq oq fr i (i + length (flat-signature q r g))
+      (λ x j y e. start-module tape a x q e pq) (λ x j y e. start-module tape a x r e pr) (omega arith) g i (omega arith) (omega arith) n
+      (before-run text tape a Name q declared-sort same sort-agreed a es a [] (omega arith) aq k (before-none text tape a Name q declared-sort same sort-agreed a))
+      (before-run text tape a Function r as-declared same-function function-agreed a es a [] (omega arith) ar k (before-none text tape a Function r as-declared same-function function-agreed a))
+      l
+
+  module _ (m : Module) where
+    -- up to the exports, and up to the hidden section
+    abbrev to-exports : List Entry
+    to-exports = entry 1 (m .name) ∷ each flat-parameter (m .parameters)
+
+    abbrev exports-on : List Entry
+    exports-on = flat-signature 5 6 (m .exports) ++ each flat-import (m .imports)
+
+    abbrev hidden-on : List Entry
+    hidden-on = flat-signature 7 8 (m .hidden) ++ (each flat-group (m .groups) ++ each flat-equation (m .equations))
+
+    parts : flat-module m ≡ (to-exports ++ exports-on) ++ hidden-on
+    unfolding flat-module
+    parts = simp append-assoc
+
+    others-first : (r : ℕ) → 4 < r → r < 9 → All (λ (x : ℕ). x ≡ r → ⊥) to-exports
+    others-first r h l =
+        ((λ x. omega arith), all-parameters (λ (x : ℕ). x ≡ r → ⊥) (λ x. omega arith) (λ x. omega arith) (λ x. omega arith) (λ x. omega arith) (λ x. omega arith) (m .parameters))
+
+    others-second : (r : ℕ) → 6 < r → r < 9 → All (λ (x : ℕ). x ≡ r → ⊥) (to-exports ++ exports-on)
+    others-second r h l =
+        all-append P to-exports exports-on (others-first r (omega arith) l)
+        (all-append P (flat-signature 5 6 (m .exports)) (each flat-import (m .imports))
+        (all-signature P 5 6 (λ x. omega arith) (λ x. omega arith) (λ x. omega arith) (λ x. omega arith) (m .exports))
+        (all-imports P (λ y j k x. omega arith) (m .imports)))
+      where
+        P : ℕ → Type 0
+        P x = x ≡ r → ⊥
+
+    first-once : FewEach (m .parameters) → Spells text tape a to-exports → walk text tape a a to-exports ≡ once-in-parameters [] (m .parameters)
+    unfolding walked once-at is-declaring _>>_ pick
+    first-once n k =
+        rw (k .0)
+        (parameters-once (m .parameters) (suc a) [] (omega arith) n
+        (before-other text tape a Name 2 declared-sort same sort-agreed a a [] (omega arith) (λ e. let z = sym (k .0) ∙ e in omega arith) (before-none text tape a Name 2 declared-sort same sort-agreed a))
+        (k .2))
+
+    second-once : Few (m .exports .functions) → Spells text tape a (to-exports ++ exports-on) → walk text tape a (a + length to-exports) exports-on ≡ once-in (m .exports)
+    unfolding is-declaring is-function-role is-parameter-role pick
+    second-once n k =
+        let es = flat-signature 5 6 (m .exports) in
+        let fs = each flat-import (m .imports) in
+        let i = a + length to-exports in
+        let l = spells-behind text tape to-exports exports-on a k in
+        walked-append (once-at text tape a) es fs i
+        ∙ ap₂ (λ (x y : Check). x >> y)
+        (section-once 5 6 (omega arith) (λ x. omega arith) refl refl refl refl refl refl refl to-exports (others-first 5 (omega arith) (omega arith)) (others-first 6 (omega arith) (omega arith))
+        (spells-front text tape to-exports exports-on a k) (m .exports) n (spells-front text tape es fs i l))
+        (walk-quiet text tape a fs (i + length es) (all-imports (λ (x : ℕ). 9 ≤ x) (λ x y z. omega arith) (m .imports)) (spells-behind text tape es fs i l))
+        ∙ then-fine (once-in (m .exports))
+
+    third-once : Few (m .hidden .functions) → Spells text tape a ((to-exports ++ exports-on) ++ hidden-on)
+        → walk text tape a (a + length (to-exports ++ exports-on)) hidden-on ≡ once-in (m .hidden)
+    unfolding is-declaring is-function-role is-parameter-role pick
+    third-once n k =
+        let es = flat-signature 7 8 (m .hidden) in
+        let gs = each flat-group (m .groups) in
+        let hs = each flat-equation (m .equations) in
+        let i = a + length (to-exports ++ exports-on) in
+        let l = spells-behind text tape (to-exports ++ exports-on) hidden-on a k in
+        walked-append (once-at text tape a) es (gs ++ hs) i
+        ∙ ap₂ (λ (x y : Check). x >> y)
+        (section-once 7 8 (omega arith) (λ x. omega arith) refl refl refl refl refl refl refl (to-exports ++ exports-on) (others-second 7 (omega arith) (omega arith)) (others-second 8 (omega arith) (omega arith))
+        (spells-front text tape (to-exports ++ exports-on) hidden-on a k) (m .hidden) n (spells-front text tape es (gs ++ hs) i l))
+        (walk-quiet text tape a (gs ++ hs) (i + length es)
+        (all-append (λ (x : ℕ). 9 ≤ x) gs hs (all-groups (λ (x : ℕ). 9 ≤ x) (omega arith) (omega arith) (m .groups)) (all-equations (λ (x : ℕ). 9 ≤ x) (λ x y. omega arith) (m .equations)))
+        (spells-behind text tape es (gs ++ hs) i l))
+        ∙ then-fine (once-in (m .hidden))
+
+    -- 9 by places is the meaning's
+    pub once-by-places : FewInputs m → Spells text tape a (flat-module m) → walked (once-at text tape a) a (length (flat-module m)) ≡ declared-once m
+    unfolding declared-once
+    once-by-places n k =
+        let j : Spells text tape a ((to-exports ++ exports-on) ++ hidden-on) = subst (Spells text tape a) parts k in
+        let front = spells-front text tape (to-exports ++ exports-on) hidden-on a j in
+        ap (walk text tape a a) parts
+        ∙ walked-append (once-at text tape a) (to-exports ++ exports-on) hidden-on a
+        ∙ ap₂ (λ (x y : Check). x >> y)
+        (walked-append (once-at text tape a) to-exports exports-on a
+        ∙ ap₂ (λ (x y : Check). x >> y) (first-once (n .parameters) (spells-front text tape to-exports exports-on a front)) (second-once (n .exports) front))
+        (third-once (n .hidden) j)
+        ∙ then-then (once-in-parameters [] (m .parameters)) (once-in (m .exports)) (once-in (m .hidden))

@@ -1,0 +1,224 @@
+-- 12 by places and rows is the meaning's (meaning/specs/Own.antt): each variable is held against those before it and against the constants.
+use mathlib.Core.Path.{_≡_, refl, sym, ap, subst, _∙_}
+use mathlib.Core.Bool.{Bool, true, false, _||_}
+use mathlib.Core.Option.{Option, some}
+use mathlib.Core.List.{List, [], _∷_, _++_, map, map-append, append-nil, append-assoc}
+use Prim.Native.Nat.{ℕ, zero, suc, _+_, _-_, _≤_}
+use native.Mathlib.Nat.{add-zero}
+use native.Mathlib.Omega.{arith}
+use borrow.Author.Tests.{ne-eqb}
+use lib.ListN.{length}
+use Rattle.meaning.specs.Lists.{pick, keep, each}
+use Rattle.meaning.specs.Names.{Name, same, member}
+use Rattle.meaning.specs.Numbers.{bad-variable}
+use Rattle.meaning.specs.Syntax.{VariableGroup, Variable, Module, group-variables, variables-of}
+use Rattle.meaning.specs.Origins.{Item}
+use Rattle.meaning.specs.Normal.{Visible, names-in}
+use Rattle.meaning.specs.Checks.{Check, fine, stop, _>>_, unless}
+use Rattle.meaning.specs.Own.{wrong-variable, is-constant, constants}
+use Rattle.tape.specs.Tape.{Entry, entry, flat-parameter, flat-signature, flat-import, flat-group, flat-equation, flat-module}
+use Rattle.tables.specs.Entries.{role-at, name-at}
+use Rattle.forms.specs.Forms.{items-at}
+use Rattle.declarations.specs.Scans.{found, walked}
+use Rattle.declarations.specs.Sorts.{is-named}
+use Rattle.declarations.specs.Checked.{wrong-at, variable-at}
+use Rattle.declarations.specs.RowNames.{constants-found}
+use Rattle.declarations.specs.Spelled.{Spells, All, all-append, all-parameters, all-signature, all-imports, all-equations, spells-front, spells-behind, first-found}
+use Rattle.declarations.specs.DeclarationLaws.{Stands, member-append}
+use Rattle.declarations.specs.ItemLaws.{group-entries}
+use Rattle.declarations.specs.declared.Own.{Own}
+
+-- ---- lists and choices
+
+keep-append : {A : Type 0} (p : A → Bool) (xs ys : List A) → keep p (xs ++ ys) ≡ keep p xs ++ keep p ys
+unfolding keep pick
+keep-append p [] ys = refl
+keep-append p (x ∷ xs) ys = rw (keep-append p xs ys) (go (p x))
+  where
+    go : (b : Bool) → pick b (x ∷ (keep p xs ++ keep p ys)) (keep p xs ++ keep p ys) ≡ pick b (x ∷ keep p xs) (keep p xs) ++ keep p ys
+    go true = refl
+    go false = refl
+
+constants-append : (xs ys : List Item) → constants (xs ++ ys) ≡ constants xs ++ constants ys
+unfolding constants names-in
+constants-append xs ys =
+    ap (map (λ (i : Item). i .name)) (keep-append (λ (i : Item). is-constant (i .shape)) xs ys)
+    ∙ map-append (λ (i : Item). i .name) (keep (λ (i : Item). is-constant (i .shape)) xs) (keep (λ (i : Item). is-constant (i .shape)) ys)
+
+either : (a b : Bool) → pick a true b ≡ (a || b)
+unfolding pick
+either true b = refl
+either false b = refl
+
+pub either-way : (a b : Bool) → pick a true b ≡ pick b true a
+unfolding pick
+either-way true true = refl
+either-way true false = refl
+either-way false true = refl
+either-way false false = refl
+
+-- the refusal k of n where the test passes
+unfoldable pub told-at : Bool → ℕ → Name → Check
+told-at b k n = pick b (stop k n) (fine tt)
+
+pub refused-then : (k : ℕ) (n : Name) (b : Bool) (o : Option Name) → _≡_ {A = Check} (told-at b k n >> unless k o) (unless k (pick b (some n) o))
+unfolding told-at unless pick _>>_
+refused-then k n true o = refl
+refused-then k n false o = refl
+
+pub found-last : (p : ℕ → Bool) (c i : ℕ) → found p i (suc c) ≡ pick (found p i c) true (p (i + c))
+unfolding found pick
+found-last p zero i = rw (add-zero i) (go (p i))
+  where
+    go : (b : Bool) → pick b true false ≡ b
+    go true = refl
+    go false = refl
+found-last p (suc c) i = let z : i + suc c ≡ suc i + c = omega arith in rw z (go (p i) (found-last p c (suc i)))
+  where
+    go : (b : Bool) → found p (suc i) (suc c) ≡ pick (found p (suc i) c) true (p (suc i + c))
+        → pick b true (found p (suc i) (suc c)) ≡ pick (pick b true (found p (suc i) c)) true (p (suc i + c))
+    go true h = refl
+    go false h = h
+
+-- ---- the variables before a place
+
+module _ (text tape : List ℕ) (own : Own) where
+  -- the names of the variables before place i
+  abbrev Before : ℕ → List Name → Type 0
+  Before i seen = (n : Name) → found (is-named text tape 17 n) (own .from) (i - own .from) ≡ member n seen
+
+  before-more : (i : ℕ) (n : Name) → own .from ≤ i
+      → found (is-named text tape 17 n) (own .from) (suc i - own .from) ≡ pick (found (is-named text tape 17 n) (own .from) (i - own .from)) true (is-named text tape 17 n i)
+  before-more i n h =
+      let z : suc i - own .from ≡ suc (i - own .from) = omega arith in
+      let y : own .from + (i - own .from) ≡ i = omega arith in
+      rw z (rw y at (found-last (is-named text tape 17 n) (i - own .from) (own .from)))
+
+  before-variable : (i : ℕ) (x : Name) (seen : List Name) → own .from ≤ i → role-at tape i ≡ 17 → name-at text tape i ≡ x → Before i seen → Before (suc i) (x ∷ seen)
+  unfolding is-named member pick
+  before-variable i x seen h e f k n = before-more i n h ∙ rw (k n, e, f) (either-way (member n seen) (same n x))
+
+  before-other : (i : ℕ) (seen : List Name) → own .from ≤ i → (role-at tape i ≡ 17 → ⊥) → Before i seen → Before (suc i) seen
+  unfolding is-named pick
+  before-other i seen h q k n = before-more i n h ∙ rw (k n, ne-eqb (role-at tape i) 17 q) (go (member n seen))
+    where
+      go : (b : Bool) → pick b true false ≡ b
+      go true = refl
+      go false = refl
+
+  before-none : Before (own .from) []
+  unfolding found member
+  before-none n = let z : own .from - own .from ≡ 0 = omega arith in rw z
+
+  before-run : (es : List Entry) (i : ℕ) (seen : List Name) → own .from ≤ i → All (λ (r : ℕ). r ≡ 17 → ⊥) es → Spells text tape i es → Before i seen → Before (i + length es) seen
+  before-run [] i seen h l k b = rw (add-zero i) b
+  before-run (e ∷ es) i seen h l k b =
+      let z : i + suc (length es) ≡ suc i + length es = omega arith in
+      rw z (before-run es (suc i) seen (omega arith) (l .1) (k .2) (before-other i seen h (λ q. l .0 (sym (k .0) ∙ q)) b))
+
+-- ---- the walk
+
+module _ (text tape w : List ℕ) (own : Own) (m : Module) (v : Visible) (s : Stands text tape w own m v) (b c : ℕ) (hs : List Item) (hidden : items-at text tape w b c ≡ hs) where
+  abbrev walk : ℕ → List Entry → Check
+  walk i es = walked (variable-at text tape w own b c) i (length es)
+
+  -- the constants in reach
+  abbrev in-reach : List Name
+  in-reach = constants (v .items ++ hs)
+
+  wrong-told : (i : ℕ) (n : Name) (seen : List Name) → own .from ≤ i → name-at text tape i ≡ n → Before text tape own i seen → wrong-at text tape w own b c i ≡ (member n seen || member n in-reach)
+  unfolding wrong-at
+  wrong-told i n seen h e k =
+      let z : own .from + (i - own .from) ≡ i = omega arith in
+      rw (
+        e,
+        first-found text tape (is-named text tape 17 n) (i - own .from) (own .from) i z,
+        k n,
+        constants-found text tape w (own .rows) (own .count) n,
+        s .rows,
+        constants-found text tape w b c n,
+        hidden,
+        constants-append (v .items) hs,
+        member-append n (constants (v .items)),
+      )
+      (either (member n seen) _)
+
+  walk-other : (e : Entry) (es : List Entry) (i : ℕ) → (e .role ≡ 17 → ⊥) → Spells text tape i (e ∷ es) → walk i (e ∷ es) ≡ walk (suc i) es
+  unfolding walked variable-at _>>_ pick
+  walk-other e es i q k = rw (k .0, ne-eqb (e .role) 17 q)
+
+  walk-run : (es fs : List Entry) (i : ℕ) → All (λ (r : ℕ). r ≡ 17 → ⊥) es → Spells text tape i (es ++ fs) → walk i (es ++ fs) ≡ walk (i + length es) fs
+  walk-run [] fs i l k = rw (add-zero i)
+  walk-run (e ∷ es) fs i l k =
+      let z : i + suc (length es) ≡ suc i + length es = omega arith in
+      rw z (walk-other e (es ++ fs) i (l .0) k ∙ walk-run es fs (suc i) (l .1) (k .2))
+
+  walk-variable : (n : Name) (es : List Entry) (i : ℕ) (seen : List Name) → own .from ≤ i → Before text tape own i seen → Spells text tape i (entry 17 n ∷ es)
+      → walk i (entry 17 n ∷ es) ≡ (told-at (member n seen || member n in-reach) bad-variable n >> walk (suc i) es)
+  unfolding walked variable-at told-at pick
+  walk-variable n es i seen h l k = rw (k .0, wrong-told i n seen h (k .1) l, k .1)
+
+  -- the variables that share the sort a, and what follows them
+  group-right : (ns : List Name) (a : Name) (es : List Entry) (vs : List Variable) (i : ℕ) (seen : List Name) → own .from ≤ i → Before text tape own i seen
+      → Spells text tape i (group-entries ns a ++ es)
+      → ((j : ℕ) (seen′ : List Name) → own .from ≤ j → Before text tape own j seen′ → Spells text tape j es → walk j es ≡ unless bad-variable (wrong-variable in-reach seen′ vs))
+      → walk i (group-entries ns a ++ es) ≡ unless bad-variable (wrong-variable in-reach seen (map (λ (x : Name). record { name = x; sort = a }) ns ++ vs))
+  unfolding wrong-variable
+  group-right [] a es vs i seen h l k rest =
+      walk-other (entry 18 a) es i (λ q. omega arith) k
+      ∙ rest (suc i) seen (omega arith) (before-other text tape own i seen h (λ q. let z = sym (k .0) ∙ q in omega arith) l) (k .2)
+  group-right (n ∷ ns) a es vs i seen h l k rest =
+      walk-variable n (group-entries ns a ++ es) i seen h l k
+      ∙ ap (λ (x : Check). told-at (member n seen || member n in-reach) bad-variable n >> x)
+      (group-right ns a es vs (suc i) (n ∷ seen) (omega arith) (before-variable text tape own i n seen h (k .0) (k .1) l) (k .2) rest)
+      ∙ refused-then bad-variable n (member n seen || member n in-reach) (wrong-variable in-reach (n ∷ seen) (map (λ (x : Name). record { name = x; sort = a }) ns ++ vs))
+
+  groups-right : (gs : List VariableGroup) (es : List Entry) → All (λ (r : ℕ). r ≡ 17 → ⊥) es → (i : ℕ) (seen : List Name) → own .from ≤ i → Before text tape own i seen
+      → Spells text tape i (each flat-group gs ++ es) → walk i (each flat-group gs ++ es) ≡ unless bad-variable (wrong-variable in-reach seen (each group-variables gs))
+  unfolding each flat-group group-variables wrong-variable unless walked
+  groups-right [] es q i seen h l k = ap (walk i) (sym (append-nil es)) ∙ walk-run es [] i q (rw (append-nil es) k)
+  groups-right (g ∷ gs) es q i seen h l k =
+      let e = append-assoc (group-entries (g .names) (g .sort)) (each flat-group gs) es in
+      ap (walk i) e
+      ∙ group-right (g .names) (g .sort) (each flat-group gs ++ es) (each group-variables gs) i seen h l (subst (Spells text tape i) e k) (λ j seen′ x y z. groups-right gs es q j seen′ x y z)
+
+  -- ---- the module
+
+  abbrev front : List Entry
+  front =
+      entry 1 (m .name)
+      ∷ (each flat-parameter (m .parameters) ++ (flat-signature 5 6 (m .exports) ++ (each flat-import (m .imports) ++ flat-signature 7 8 (m .hidden))))
+
+  front-other : All (λ (r : ℕ). r ≡ 17 → ⊥) front
+  front-other = (
+    (λ q. omega arith),
+    all-append P (each flat-parameter (m .parameters)) (flat-signature 5 6 (m .exports) ++ (each flat-import (m .imports) ++ flat-signature 7 8 (m .hidden)))
+        (all-parameters P (λ q. omega arith) (λ q. omega arith) (λ q. omega arith) (λ q. omega arith) (λ q. omega arith) (m .parameters))
+        (all-append P (flat-signature 5 6 (m .exports)) (each flat-import (m .imports) ++ flat-signature 7 8 (m .hidden))
+        (all-signature P 5 6 (λ q. omega arith) (λ q. omega arith) (λ q. omega arith) (λ q. omega arith) (m .exports))
+        (all-append P (each flat-import (m .imports)) (flat-signature 7 8 (m .hidden)) (all-imports P (λ r h l q. omega arith) (m .imports))
+        (all-signature P 7 8 (λ q. omega arith) (λ q. omega arith) (λ q. omega arith) (λ q. omega arith) (m .hidden)))),
+  )
+    where
+      P : ℕ → Type 0
+      P r = r ≡ 17 → ⊥
+
+  module-parts : flat-module m ≡ front ++ (each flat-group (m .groups) ++ each flat-equation (m .equations))
+  unfolding flat-module
+  module-parts = simp append-assoc
+
+  module-right : walk (own .from) (flat-module m) ≡ unless bad-variable (wrong-variable in-reach [] (variables-of m))
+  unfolding variables-of
+  module-right =
+      let rest = each flat-group (m .groups) ++ each flat-equation (m .equations) in
+      let k : Spells text tape (own .from) (front ++ rest) = subst (Spells text tape (own .from)) module-parts (s .entries) in
+      let i = own .from + length front in
+      let seen = before-run text tape own front (own .from) [] (omega arith) front-other (spells-front text tape front rest (own .from) k) (before-none text tape own) in
+      ap (walk (own .from)) module-parts
+      ∙ walk-run front rest (own .from) front-other k
+      ∙ groups-right (m .groups) (each flat-equation (m .equations)) (all-equations (λ (r : ℕ). r ≡ 17 → ⊥) (λ r h q. omega arith) (m .equations)) i [] (omega arith) seen
+      (spells-behind text tape front rest (own .from) k)
+
+  -- 12 by places and rows is the meaning's
+  pub variables-told : walked (variable-at text tape w own b c) (own .from) (own .end - own .from) ≡ unless bad-variable (wrong-variable (constants (v .items ++ hs)) [] (variables-of m))
+  variables-told = let z : own .end - own .from ≡ length (flat-module m) = omega (arith, s .end) in rw z module-right

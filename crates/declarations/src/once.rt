@@ -1,0 +1,87 @@
+// 9: a parameter's name, or a sort or a function (with its type) of one section, that is declared a second time.
+use forms::Verdict;
+use tables::declarations::same_declared;
+use tables::entries::is_parameter_role;
+use tables::entries::last_with;
+use tables::entries::name_at;
+use tables::entries::role_at;
+ghost use mathlib.Core.Path.{_≡_};
+ghost use Prim.Native.Nat.{_-_};
+ghost use Rattle.forms.specs.Verdicts.{told};
+ghost use Rattle.declarations.specs.Scans.{found, walked};
+ghost use Rattle.declarations.specs.Once.{is-declaring, repeats, section-start, once-at};
+
+// Does an entry with the role declare a parameter, a sort or a function?
+fn is_declaring(role: u32) -> bool
+    ensures { λ r. ⌜ r ≡ is-declaring role ⌝ }
+{
+    if role < 2 {
+        return false;
+    }
+    role < 9
+}
+
+// Says the declaration at i what the one at j says, with the same role?
+fn repeats(text: &[u8], tape: &[u32], i: u32, j: u32) -> bool
+    ensures { λ r. ⌜ r ≡ repeats (now (text .entry)) (now (tape .entry)) i j ⌝ }
+{
+    if role_at(tape, i as usize) == role_at(tape, j as usize) {
+        return same_declared(text, tape, i, j);
+    }
+    false
+}
+
+// Where the section of the declaration at i begins: with its parameter, or else with the module's entries, at a.
+fn section_start(tape: &[u32], a: u32, i: u32) -> u32
+    ensures { λ r. ⌜ r ≡ section-start (now (tape .entry)) a i ⌝ }
+{
+    let role = role_at(tape, i as usize);
+    if is_parameter_role(role) {
+        return last_with(tape, 2, i as usize) as u32;
+    }
+    a
+}
+
+// Does the declaration at i repeat one from `start` on?
+fn is_repeat(text: &[u8], tape: &[u32], start: u32, i: u32) -> bool
+    ensures { λ r. ⌜ r ≡ found (repeats (now (text .entry)) (now (tape .entry)) i) start (i - start) ⌝ }
+{
+    let mut j = start;
+    while j < i {
+        if repeats(text, tape, i, j) {
+            return true;
+        }
+        j += 1;
+    }
+    false
+}
+
+fn once_at(text: &[u8], tape: &[u32], a: u32, i: u32) -> Verdict
+    ensures { λ r. ⌜ told (now (text .entry)) r ≡ once-at (now (text .entry)) (now (tape .entry)) a i ⌝ }
+{
+    let role = role_at(tape, i as usize);
+    if is_declaring(role) {
+        let start = section_start(tape, a, i);
+        if is_repeat(text, tape, start, i) {
+            return Verdict::Stop(9, name_at(tape, i as usize));
+        }
+        return Verdict::Fine;
+    }
+    Verdict::Fine
+}
+
+// The entries from a up to e: told at the first that repeats another.
+pub fn declared_once(text: &[u8], tape: &[u32], a: u32, e: u32) -> Verdict
+    ensures { λ r. ⌜ told (now (text .entry)) r ≡ walked (once-at (now (text .entry)) (now (tape .entry)) a) a (e - a) ⌝ }
+{
+    let mut i = a;
+    while i < e {
+        match once_at(text, tape, a, i) {
+            Verdict::Stop(k, w) => return Verdict::Stop(k, w),
+            Verdict::Fine => {
+                i += 1;
+            }
+        }
+    }
+    Verdict::Fine
+}

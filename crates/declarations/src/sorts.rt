@@ -1,0 +1,142 @@
+// What sort a module's text means by a name.
+use super::Own;
+use tables::entries::name_at;
+use tables::entries::role_at;
+use tables::entries::same_word;
+use tables::entries::word_at;
+ghost use mathlib.Core.Path.{_≡_};
+ghost use Prim.Native.Nat.{_+_, _-_, _*_, _≤_, _<_};
+ghost use lib.ListN.{length, getD};
+ghost use Rattle.names.specs.Word.{name-of};
+ghost use Rattle.tables.specs.Rows.{sort-of};
+ghost use Rattle.tables.specs.Entries.{name-at};
+ghost use Rattle.forms.specs.Memory.{part};
+ghost use Rattle.declarations.specs.Scans.{found, first-of};
+ghost use Rattle.declarations.specs.Sorts.{is-named, is-row, declares-seen, hidden-place, is-seen, is-inside, resolved-in, Ready};
+
+// Has the entry at i the role and the name w?
+fn is_named(text: &[u8], tape: &[u32], role: u32, w: u32, i: u32) -> bool
+    ensures { λ r. ⌜ r ≡ is-named (now (text .entry)) (now (tape .entry)) role (name-of (now (text .entry)) w) i ⌝ }
+{
+    if role_at(tape, i as usize) == role {
+        return same_word(text, w, name_at(tape, i as usize));
+    }
+    false
+}
+
+// The first entry from a up to e with the role and the name w; e if there is none.
+pub fn first_named(text: &[u8], tape: &[u32], role: u32, w: u32, a: u32, e: u32) -> u32
+    ensures { λ r. ⌜ r ≡ first-of (is-named (now (text .entry)) (now (tape .entry)) role (name-of (now (text .entry)) w)) a (e - a) ⌝ }
+{
+    let mut i = a;
+    while i < e {
+        if is_named(text, tape, role, w, i) {
+            return i;
+        }
+        i += 1;
+    }
+    i
+}
+
+// Word k of row i of the table that starts at b.
+fn row_word(work: &[u32], b: u32, i: u32, k: u32) -> u32
+    ensures { λ r. ⌜ r ≡ getD (now (work .entry)) (b + i * 16 + k) 0 ⌝ }
+{
+    word_at(work, b as usize + i as usize * 16 + k as usize)
+}
+
+// Is row i of the kind, and called w?
+fn is_row(text: &[u8], work: &[u32], b: u32, kind: u32, w: u32, i: u32) -> bool
+    ensures { λ r. ⌜ r ≡ is-row (now (text .entry)) (now (work .entry)) b kind (name-of (now (text .entry)) w) i ⌝ }
+{
+    if row_word(work, b, i, 2) == kind {
+        return same_word(text, w, row_word(work, b, i, 1));
+    }
+    false
+}
+
+// Is one of the n rows from b on of the kind, and called w?
+pub fn has_row(text: &[u8], work: &[u32], b: u32, n: u32, kind: u32, w: u32) -> bool
+    ensures { λ r. ⌜ r ≡ found (is-row (now (text .entry)) (now (work .entry)) b kind (name-of (now (text .entry)) w)) 0 n ⌝ }
+{
+    let mut i = 0;
+    while i < n {
+        if is_row(text, work, b, kind, w, i) {
+            return true;
+        }
+        i += 1;
+    }
+    false
+}
+
+// Does a parameter or the exports declare a sort called w?
+fn declares_seen(text: &[u8], tape: &[u32], own: Own, w: u32) -> bool
+    ensures { λ r. ⌜ r ≡ declares-seen (now (text .entry)) (now (tape .entry)) own (name-of (now (text .entry)) w) ⌝ }
+{
+    let from = own.from;
+    let end = own.end;
+    if first_named(text, tape, 3, w, from, end) < end {
+        return true;
+    }
+    first_named(text, tape, 5, w, from, end) < end
+}
+
+// Where the hidden sort called w is declared; not before the end of the entries if it is not.
+fn hidden_place(text: &[u8], tape: &[u32], own: Own, w: u32) -> u32
+    ensures { λ r. ⌜ r ≡ hidden-place (now (text .entry)) (now (tape .entry)) own (name-of (now (text .entry)) w) ⌝ }
+{
+    let from = own.from;
+    let end = own.end;
+    first_named(text, tape, 7, w, from, end)
+}
+
+// Is a visible sort called w?
+pub fn is_seen(text: &[u8], work: &[u32], t: usize, own: Own, w: u32) -> bool
+    requires { ⌜ Ready (now work) t own ⌝ }
+    ensures { λ r. ⌜ r ≡ is-seen (now (text .entry)) (part (now (work .entry)) 0 t) (now (work .entry)) own (name-of (now (text .entry)) w) ⌝ }
+{
+    let rows = own.rows;
+    let count = own.count;
+    if has_row(text, work, rows, count, 0, w) {
+        return true;
+    }
+    declares_seen(text, &work[0..t], own, w)
+}
+
+// Is a visible sort or the module's hidden sort called w?
+pub fn is_inside(text: &[u8], work: &[u32], t: usize, own: Own, w: u32) -> bool
+    requires { ⌜ Ready (now work) t own ⌝ }
+    ensures { λ r. ⌜ r ≡ is-inside (now (text .entry)) (part (now (work .entry)) 0 t) (now (work .entry)) own (name-of (now (text .entry)) w) ⌝ }
+{
+    if is_seen(text, work, t, own, w) {
+        return true;
+    }
+    let end = own.end;
+    hidden_place(text, &work[0..t], own, w) < end
+}
+
+// The sort that the module's text means by w, as a word.
+fn sort_word(text: &[u8], work: &[u32], t: usize, own: Own, w: u32) -> u32
+    requires { ⌜ Ready (now work) t own ⌝ }
+    requires { ⌜ w < 2147483648 ⌝ }
+    ensures { λ r. ⌜ sort-of (now (text .entry)) (part (now (work .entry)) 0 t) r ≡ resolved-in (now (text .entry)) (part (now (work .entry)) 0 t) (now (work .entry)) own (name-of (now (text .entry)) w) ⌝ }
+{
+    if is_seen(text, work, t, own, w) {
+        return w * 2;
+    }
+    let end = own.end;
+    let d = hidden_place(text, &work[0..t], own, w);
+    if d < end {
+        return d * 2 + 1;
+    }
+    w * 2
+}
+
+// The sort that stands at place i of the tape, as a word.
+pub fn sort_at(text: &[u8], work: &[u32], t: usize, own: Own, i: usize) -> u32
+    requires { ⌜ Ready (now work) t own ⌝ }
+    ensures { λ r. ⌜ sort-of (now (text .entry)) (part (now (work .entry)) 0 t) r ≡ resolved-in (now (text .entry)) (part (now (work .entry)) 0 t) (now (work .entry)) own (name-at (now (text .entry)) (part (now (work .entry)) 0 t) i) ⌝ }
+{
+    let w = word_at(&work[0..t], i) / 32;
+    sort_word(text, work, t, own, w)
+}
