@@ -1,0 +1,3 @@
+pub mod Seeks
+pub mod Cases
+pub mod Passes

@@ -1,0 +1,199 @@
+-- One law for each way through the typer of equations, in the code's terms.
+use mathlib.Core.Path.{_≡_, refl, sym, ap, _∙_}
+use mathlib.Core.Bool.{Bool, true, false}
+use mathlib.Core.List.{List, [], _∷_}
+use Prim.Native.Nat.{ℕ, zero, suc, _+_, _-_, _*_, _<_, _≤_}
+use native.Mathlib.Numerals.{sub-one}
+use native.Mathlib.Omega.{arith}
+use lib.Dec.{eqb}
+use lib.ListN.{length, set}
+use lib.Seq.{sets}
+use borrow.Author.Needs.{needs}
+use borrow.Author.Tests.{eq-eqb, ne-eqb, lt-ltb, le-ltb}
+use Rattle.meaning.specs.Lists.{pick}
+use Rattle.meaning.specs.Origins.{same-sort}
+use Rattle.tables.specs.Entries.{role-at, word-at}
+use Rattle.tables.specs.Rows.{sort-of}
+use Rattle.forms.specs.declared.EquationRow.{EquationRow}
+use Rattle.typing.specs.declared.Known.{Known}
+use Rattle.typing.specs.declared.Module.{Module}
+use Rattle.typing.specs.declared.Equated.the-variants.{All, Stop}
+use Rattle.typing.specs.declared.Answer.{Answer}
+use Rattle.typing.specs.declared.Answer.the-variants.{Sorted, Ill}
+use Rattle.typing.specs.declared.Passed.{Passed}
+use Rattle.typing.specs.declared.Passed.the-variants.{Counted, Wrong}
+use Rattle.typing.specs.Typing.{Out, out, tape-in, term-at}
+use Rattle.typing.specs.Equations.{Pass, passed, right-checked, right-at, left-checked, sides-at, begins-at, after-sides, sides-from, after-conclusion, equation-at, equation-words, span, row-of, stored, after-equation, turn-at, told, after-turn, equations-from}
+
+-- ---- two sides; r is the answer to the term that was typed
+
+module _ (text : List ℕ) (k : Known) (i q : ℕ) (w : List ℕ) (r : Answer) (u : List ℕ) (e : out r u ≡ term-at text k (k .tape) i q w) where
+  pub right-ill : (s : ℕ) → r ≡ Ill → out Ill u ≡ right-at text k s i q w
+  unfolding right-at right-checked
+  right-ill s h = rw (← e, h)
+
+  module _ (s s′ next free : ℕ) (h : r ≡ Sorted s′ next free) (b : Bool) (g : b ≡ same-sort (sort-of text (tape-in k u) s) (sort-of text (tape-in k u) s′)) where
+    pub right-one : b ≡ true → out (Sorted s next free) u ≡ right-at text k s i q w
+    unfolding right-at right-checked pick
+    right-one f = rw (← e, h, ← g, f)
+
+    pub right-other : b ≡ false → out Ill u ≡ right-at text k s i q w
+    unfolding right-at right-checked pick
+    right-other f = rw (← e, h, ← g, f)
+
+  pub left-ill : r ≡ Ill → out Ill u ≡ sides-at text k i q w
+  unfolding sides-at left-checked
+  left-ill h = rw (← e, h)
+
+  pub left-well : (o : Out) (s next free : ℕ) → r ≡ Sorted s next free → o ≡ right-at text k s next free u → o ≡ sides-at text k i q w
+  unfolding sides-at left-checked
+  left-well o s next free h t = rw (← e, h) t
+
+-- ---- where a term begins
+
+module _ (tape : List ℕ) (i end : ℕ) where
+  pub begins-past : end ≤ i → false ≡ begins-at tape i end
+  unfolding begins-at pick
+  begins-past h = rw (le-ltb i end h)
+
+  module _ (h : i < end) (role : ℕ) (e : role ≡ role-at tape i) where
+    pub begins-alone : role ≡ 20 → true ≡ begins-at tape i end
+    unfolding begins-at pick
+    begins-alone g = rw (lt-ltb i end h, ← e, eq-eqb role 20 g)
+
+    pub begins-head : (role ≡ 20 → ⊥) → eqb role 21 ≡ begins-at tape i end
+    unfolding begins-at pick
+    begins-head g = rw (lt-ltb i end h, ← e, ne-eqb role 20 g)
+
+-- ---- the sides of an equation; b tells whether a term begins at i
+
+module _ (text : List ℕ) (k : Known) (role end i q n : ℕ) (w : List ℕ) where
+  pub pass-full : (left : ℕ) → left ≡ 0 → passed Wrong w ≡ sides-from text k role end left i q n w
+  unfolding sides-from
+  pass-full left h = rw h
+
+  module _ (b : Bool) (e : b ≡ begins-at (tape-in k w) i end) where
+    pub pass-end : (left : ℕ) → (left ≡ 0 → ⊥) → b ≡ false → passed (Counted n i q) w ≡ sides-from text k role end left i q n w
+    unfolding sides-from pick
+    pass-end zero z h = absurd (z refl)
+    pass-end (suc left) z h = rw (← e, h)
+
+    module _ (h : b ≡ true) (r : Answer) (u : List ℕ) (f : out r u ≡ sides-at text k i q w) where
+      pub pass-ill : (left : ℕ) → (left ≡ 0 → ⊥) → r ≡ Ill → passed Wrong u ≡ sides-from text k role end left i q n w
+      unfolding sides-from after-sides pick
+      pass-ill zero z g = absurd (z refl)
+      pass-ill (suc left) z g = rw (← e, h, ← f, g)
+
+      module _ (s next free : ℕ) (g : r ≡ Sorted s next free) where
+        pub pass-past : (left : ℕ) → (left ≡ 0 → ⊥) → k .tape ≤ next → passed Wrong u ≡ sides-from text k role end left i q n w
+        unfolding sides-from after-sides pick
+        pass-past zero z c = absurd (z refl)
+        pass-past (suc left) z c = rw (← e, h, ← f, g, le-ltb next (k .tape) c)
+
+        module _ (c : next < k .tape) (mark : ℕ) (d : mark ≡ role-at (tape-in k u) next) where
+          pub pass-kept : (left : ℕ) (o : Pass) → (left ≡ 0 → ⊥) → mark ≡ role → o ≡ sides-from text k role end (left - 1) (next + 1) free (n + 1) u
+              → o ≡ sides-from text k role end left i q n w
+          unfolding sides-from after-sides pick
+          pass-kept zero o z m t = absurd (z refl)
+          pass-kept (suc left) o z m t = rw (← e, h, ← f, g, lt-ltb next (k .tape) c, ← d, eq-eqb mark role m) (rw sub-one at t)
+
+          pub pass-dropped : (left : ℕ) (o : Pass) → (left ≡ 0 → ⊥) → (mark ≡ role → ⊥) → o ≡ sides-from text k role end (left - 1) (next + 1) q n u
+              → o ≡ sides-from text k role end left i q n w
+          unfolding sides-from after-sides pick
+          pass-dropped zero o z m t = absurd (z refl)
+          pass-dropped (suc left) o z m t = rw (← e, h, ← f, g, lt-ltb next (k .tape) c, ← d, ne-eqb mark role m) (rw sub-one at t)
+
+-- ---- an equation
+
+module _ (text : List ℕ) (k : Known) (end i q : ℕ) (w : List ℕ) (r : Passed) (u : List ℕ) (e : passed r u ≡ sides-from text k 24 end (k .tape) (i + 1) q 0 w) where
+  pub equation-wrong : r ≡ Wrong → passed Wrong u ≡ equation-at text k end i q w
+  unfolding equation-at after-conclusion
+  equation-wrong h = rw (← e, h)
+
+  pub equation-on : (o : Pass) (n next free : ℕ) → r ≡ Counted n next free → o ≡ sides-from text k 23 end (k .tape) (i + 1) free 0 u → o ≡ equation-at text k end i q w
+  unfolding equation-at after-conclusion
+  equation-on o n next free h t = rw (← e, h) t
+
+-- ---- an equation's row
+
+pub span-none : (a b : ℕ) → a < b → 0 ≡ span a b
+unfolding span pick
+span-none a b h = let e : a - b ≡ 0 = omega arith in rw e
+
+pub span-told : (a b d : ℕ) → b ≤ a → d ≡ a - b → d < 4294967295 → d ≡ span a b
+unfolding span pick
+span-told a b d h e f = rw (← e, lt-ltb d 4294967295 f)
+
+pub span-over : (a b d : ℕ) → b ≤ a → d ≡ a - b → 4294967295 ≤ d → 0 ≡ span a b
+unfolding span pick
+span-over a b d h e f = rw (← e, le-ltb d 4294967295 f)
+
+pub row-told : (m : Module) (position tag conditions q free start count : ℕ) → start ≡ span q (m .nodes) → count ≡ span free q
+    → _≡_ {A = EquationRow} (record { home = m .home; position = position; tag = tag; conditions = conditions; start = start; count = count }) (row-of m position tag conditions q free)
+unfolding row-of
+row-told m position tag conditions q free start count e f = rw (e, f)
+
+pub three-written : (w w₁ w₂ w₃ : List ℕ) (b x y z : ℕ) → w₁ ≡ set w b x → w₂ ≡ set w₁ (b + 1) y → w₃ ≡ set w₂ (b + 2) z → w₃ ≡ sets w b (x ∷ y ∷ z ∷ [])
+three-written w w₁ w₂ w₃ b x y z e f g =
+    let h : b + 1 ≡ suc b = omega arith in
+    let i : b + 2 ≡ suc (suc b) = omega arith in
+    rw (g, f, e, h, i)
+
+pub equation-written : (w u v : List ℕ) (b : ℕ) (r : EquationRow) → u ≡ sets w b (r .home ∷ r .position ∷ r .tag ∷ []) → v ≡ sets u (b + 3) (r .conditions ∷ r .start ∷ r .count ∷ [])
+    → v ≡ sets w b (equation-words r)
+unfolding equation-words
+equation-written w u v b r e f = let h : b + 3 ≡ suc (suc (suc b)) = omega arith in rw (f, e, h)
+
+pub row-stored : (k : Known) (m : Module) (position i q n free : ℕ) (w u : List ℕ) (tag : ℕ) (row : EquationRow) → tag ≡ word-at (tape-in k w) i
+    → row ≡ row-of m position tag n q free → u ≡ sets w (m .rows + position * 8) (equation-words row) → u ≡ stored k m position i q n free w
+unfolding stored
+row-stored k m position i q n free w u tag row e f g = rw (← e, ← f) g
+
+module _ (text : List ℕ) (k : Known) (m : Module) (position i q : ℕ) (w : List ℕ) (r : Passed) (u : List ℕ) (e : passed r u ≡ equation-at text k (m .end) i q w) where
+  pub turn-wrong : r ≡ Wrong → passed Wrong u ≡ turn-at text k m position i q w
+  unfolding turn-at after-equation
+  turn-wrong h = rw (← e, h)
+
+  pub turn-done : (n next free : ℕ) (v : List ℕ) → r ≡ Counted n next free → v ≡ stored k m position i q n free u → passed (Counted n next free) v ≡ turn-at text k m position i q w
+  unfolding turn-at after-equation
+  turn-done n next free v h f = rw (← e, h, f)
+
+-- ---- the equations of a module: what is wanted is what is wanted from here
+
+pub record Onward (text : List ℕ) (k : Known) (m : Module) (i₀ q₀ : ℕ) (w₀ : List ℕ) (left position i q : ℕ) (w : List ℕ) : Type 0 where
+  pub size : length w ≡ length w₀
+  pub few : position + left ≤ 65536
+  pub rest : equations-from text k m (k .tape) 0 i₀ q₀ w₀ ≡ equations-from text k m left position i q w
+
+module _ (text : List ℕ) (k : Known) (m : Module) (i₀ q₀ : ℕ) (w₀ : List ℕ) where
+  pub onward-start : k .tape ≤ 65536 → Onward text k m i₀ q₀ w₀ (k .tape) 0 i₀ q₀ w₀
+  onward-start h = record { size = refl; few = omega arith; rest = refl }
+
+  module _ (left position i q : ℕ) (w : List ℕ) (inv : Onward text k m i₀ q₀ w₀ left position i q w) where
+    pub onward-none : left ≤ 0 → told (All position q) w ≡ equations-from text k m (k .tape) 0 i₀ q₀ w₀
+    unfolding equations-from
+    onward-none h = let z : left ≡ 0 = omega arith in sym (inv .rest ∙ rw z)
+
+    pub onward-end : 0 < left → m .end ≤ i → told (All position q) w ≡ equations-from text k m (k .tape) 0 i₀ q₀ w₀
+    unfolding equations-from pick
+    onward-end h g = let z : left ≡ suc (left - 1) = omega arith in sym (inv .rest ∙ rw (z, le-ltb i (m .end) g))
+
+    module _ (h : 0 < left) (g : i < m .end) (r : Passed) (u : List ℕ) (e : passed r u ≡ turn-at text k m position i q w) where
+      pub onward-stop : (tag : ℕ) → r ≡ Wrong → tag ≡ word-at (tape-in k w) i → told (Stop tag) u ≡ equations-from text k m (k .tape) 0 i₀ q₀ w₀
+      unfolding equations-from after-turn pick
+      onward-stop tag f t = let z : left ≡ suc (left - 1) = omega arith in sym (inv .rest ∙ rw (z, lt-ltb i (m .end) g, ← e, f, ← t))
+
+      pub onward-again : (n next free : ℕ) → length u ≡ length w → r ≡ Counted n next free → Onward text k m i₀ q₀ w₀ (left - 1) (position + 1) next free u
+      unfolding equations-from after-turn pick
+      onward-again n next free s f =
+          let z : left ≡ suc (left - 1) = omega arith in
+          record {
+            size = s ∙ inv .size;
+            few = omega (arith, inv .few);
+            rest = inv .rest ∙ ap (λ (c : ℕ). equations-from text k m c position i q w) z ∙ rw (lt-ltb i (m .end) g, ← e, f);
+          }
+
+-- what the answers of the typer of equations hand to `search`
+pub ruleset passes = (right-ill, right-one, right-other, left-ill, left-well, begins-past, begins-alone, begins-head, pass-full, pass-end, pass-ill, pass-past, pass-kept, pass-dropped, equation-wrong, equation-on, span-none, span-told, span-over, row-told, three-written, equation-written, row-stored, turn-wrong, turn-done, needs)
+
+pub ruleset onward = (onward-start, onward-none, onward-end, onward-stop, onward-again, needs)

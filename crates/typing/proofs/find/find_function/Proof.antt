@@ -1,0 +1,38 @@
+-- `typing::find::find_function` meets its contract.
+-- Assumes nothing.
+use mathlib.Core.List.{map}
+use Prim.Native.Nat.{_-_}
+use lib.ListN.{take}
+use Rattle.names.specs.Word.{name-of}
+use Rattle.tables.specs.Rows.{sort-of}
+use Rattle.forms.specs.Memory.{part}
+use Rattle.typing.specs.Known.{function-called}
+use Rattle.typing.proofs.Seeks.{Seeking, seeks}
+use Rattle.typing.proofs.find.find_function.Statement.{statement}
+use Rattle.typing.proofs.find.find_function.Tie as tie
+
+abbrev Inv-loop : tie.InvT-loop
+Inv-loop text work t b n w sorts count i₀ i =
+    Seeking (function-called (name-of text w) (map (sort-of text (part work 0 t)) (take count sorts))) text (part work 0 t) work b n i
+
+abbrev μ-loop : tie.MeasureT-loop
+μ-loop text work t b n w sorts count i₀ i = n - i
+
+pub find-function-spec : {M : Type 1} → statement M
+find-function-spec =
+    tie.close
+    (tie.spec
+    Inv-loop
+    μ-loop
+    (λ c. search seeks)  -- loop-holds
+    (λ c κs. search seeks)  -- read-row-requires
+    (λ c. search seeks)  -- sub-is-such-function
+    (λ c. search seeks)  -- part-is-such-function-start
+    (λ c. search seeks)  -- part-is-such-function-end
+    (λ c κs. search seeks)  -- is-such-function-requires
+    (λ c. search seeks)  -- returns
+    (λ c. search seeks)  -- add-i
+    (λ c. search seeks)  -- loop-less
+    (λ c. search seeks)  -- loop-again
+    (λ c. search seeks)  -- returns-2
+    )

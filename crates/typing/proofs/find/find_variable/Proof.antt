@@ -1,0 +1,34 @@
+-- `typing::find::find_variable` meets its contract.
+-- Assumes nothing.
+use Prim.Native.Nat.{_-_}
+use Rattle.names.specs.Word.{name-of}
+use Rattle.forms.specs.Memory.{part}
+use Rattle.typing.specs.Known.{variable-called}
+use Rattle.typing.proofs.Seeks.{Seeking, seeks}
+use Rattle.typing.proofs.find.find_variable.Statement.{statement}
+use Rattle.typing.proofs.find.find_variable.Tie as tie
+
+abbrev Inv-loop : tie.InvT-loop
+Inv-loop text work t b n w i₀ i = Seeking (variable-called (name-of text w)) text (part work 0 t) work b n i
+
+abbrev μ-loop : tie.MeasureT-loop
+μ-loop text work t b n w i₀ i = n - i
+
+pub find-variable-spec : {M : Type 1} → statement M
+find-variable-spec =
+    tie.close
+    (tie.spec
+    Inv-loop
+    μ-loop
+    (λ c. search seeks)  -- loop-holds
+    (λ c κs. search seeks)  -- read-row-requires
+    (λ c. search seeks)  -- sub-is-such-variable
+    (λ c. search seeks)  -- part-is-such-variable-start
+    (λ c. search seeks)  -- part-is-such-variable-end
+    (λ c κs. search seeks)  -- is-such-variable-requires
+    (λ c. search seeks)  -- returns
+    (λ c. search seeks)  -- add-i
+    (λ c. search seeks)  -- loop-less
+    (λ c. search seeks)  -- loop-again
+    (λ c. search seeks)  -- returns-2
+    )

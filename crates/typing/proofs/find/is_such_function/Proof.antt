@@ -1,0 +1,16 @@
+-- `typing::find::is_such_function` meets its contract.
+-- Assumes nothing.
+use Rattle.typing.proofs.Seeks.{tests}
+use borrow.Author.Needs.{needs}
+use Rattle.typing.proofs.find.is_such_function.Statement.{statement}
+use Rattle.typing.proofs.find.is_such_function.Tie as tie
+
+pub is-such-function-spec : {M : Type 1} → statement M
+is-such-function-spec =
+    tie.close
+    (tie.spec
+    (λ c κs. search needs)  -- same-word-requires
+    (λ c κs. search needs)  -- takes-requires
+    (λ c. search tests)  -- returns
+    (λ c. search tests)  -- returns-2
+    )

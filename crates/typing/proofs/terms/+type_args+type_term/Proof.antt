@@ -1,0 +1,103 @@
+-- The cycle of calls {type_args, type_term} meets its contracts. Twenty for each level that is left, and one for each argument.
+-- Assumes nothing.
+use Rattle.typing.proofs.Cases.{cases}
+use Prim.Native.Nat.{ℕ, _+_, _*_, _<_}
+use borrow.Fn.Kinds.{In}
+use borrow.Fn.PlainCycle.{Measures, is, falls, and}
+use Rattle.typing.proofs.terms.type_args.Reads as type-args
+use Rattle.typing.proofs.terms.type_args.Kinds as type-args-kinds
+use Rattle.typing.proofs.terms.+type_args+type_term.Lts-type_args as type-args-lts
+use Rattle.typing.proofs.terms.type_term.Reads as type-term
+use Rattle.typing.proofs.terms.type_term.Kinds as type-term-kinds
+use Rattle.typing.proofs.terms.+type_args+type_term.Lts-type_term as type-term-lts
+use Rattle.tables.proofs.entries.role_at.Reads as role-at-reads
+use Rattle.typing.proofs.terms.type_alone.Reads as type-alone-reads
+use Rattle.typing.proofs.terms.type_applied.Reads as type-applied-reads
+use Rattle.typing.proofs.terms.+type_args+type_term.{statement}
+use Rattle.typing.proofs.terms.+type_args+type_term.Tie.{close}
+
+abbrev μ-type-args : Measures 2 type-args-kinds.ps ℕ
+μ-type-args κs a = a .1 .1 .1 .0 * 20 + a .1 .1 .1 .1 .1 .1 .0 + 1
+
+abbrev μ-type-term : Measures 2 type-term-kinds.ps ℕ
+μ-type-term κs a = a .1 .1 .1 .1 .1 .0 * 20
+
+abbrev type-args-at : ℕ → In 2 type-args-kinds.ps
+type-args-at t = and 2 type-args-kinds.ps (is 2 type-args-kinds.ps μ-type-args t) type-args.Pre
+
+abbrev type-args-below : ℕ → In 2 type-args-kinds.ps
+type-args-below t =
+    and 2 type-args-kinds.ps (falls 2 type-args-kinds.ps _<_ μ-type-args t) type-args.Pre
+
+abbrev type-term-at : ℕ → In 2 type-term-kinds.ps
+type-term-at t = and 2 type-term-kinds.ps (is 2 type-term-kinds.ps μ-type-term t) type-term.Pre
+
+abbrev type-term-below : ℕ → In 2 type-term-kinds.ps
+type-term-below t =
+    and 2 type-term-kinds.ps (falls 2 type-term-kinds.ps _<_ μ-type-term t) type-term.Pre
+
+pub +type-args+type-term-spec : {M : Type 1} → statement M
++type-args+type-term-spec = close μ-type-args μ-type-term (λ t. type-args-lts.spec (
+  role-at-reads.Asked,
+  role-at-reads.Learnt,
+  type-applied-reads.Asked,
+  type-applied-reads.Learnt,
+  type-term-below t,
+  type-term.Post,
+  type-args-below t,
+  type-args.Post,
+)
+    (type-args-at t)
+    type-args.Post
+    (λ c. search cases)  -- type-args-sub-role-at
+    (λ c. search cases)  -- type-args-part-role-at-start
+    (λ c. search cases)  -- type-args-part-role-at-end
+    (λ c κs. search cases)  -- type-args-role-at-requires
+    (λ c. search cases)  -- type-args-add-type-applied
+    (λ c κs. search cases)  -- type-args-type-applied-requires
+    (λ c. search cases)  -- type-args-same-length
+    (λ c. search cases)  -- type-args-returns
+    (λ c. search cases)  -- type-args-same-length-2
+    (λ c. search cases)  -- type-args-returns-2
+    (λ c κs. search cases)  -- type-args-type-term-requires
+    (λ c. search cases)  -- type-args-enum-told
+    (λ c. search cases)  -- type-args-enum-known-a
+    (λ c. search cases)  -- type-args-mul-more
+    (λ c. search cases)  -- type-args-array-write-more
+    (λ c. search cases)  -- type-args-sub-type-args
+    (λ c. search cases)  -- type-args-add-type-args
+    (λ c κs. search cases)  -- type-args-type-args-requires
+    (λ c. search cases)  -- type-args-same-length-3
+    (λ c. search cases)  -- type-args-returns-3
+    (λ c. search cases)  -- type-args-same-length-4
+    (λ c. search cases)  -- type-args-returns-4
+    (λ c. search cases)  -- type-args-returns-5
+    )
+    λ t. type-term-lts.spec (
+      role-at-reads.Asked,
+      role-at-reads.Learnt,
+      type-alone-reads.Asked,
+      type-alone-reads.Learnt,
+      type-args-below t,
+      type-args.Post,
+    )
+    (type-term-at t)
+    type-term.Post
+    (λ c. search cases)  -- type-term-returns
+    (λ c. search cases)  -- type-term-sub-role-at
+    (λ c. search cases)  -- type-term-part-role-at-start
+    (λ c. search cases)  -- type-term-part-role-at-end
+    (λ c κs. search cases)  -- type-term-role-at-requires
+    (λ c κs. search cases)  -- type-term-type-alone-requires
+    (λ c. search cases)  -- type-term-same-length
+    (λ c. search cases)  -- type-term-returns-2
+    (λ c. search cases)  -- type-term-sub-type-args
+    (λ c. search cases)  -- type-term-add-type-args
+    (λ c. search cases)  -- type-term-add-type-args-2
+    (λ c κs. search cases)  -- type-term-type-args-requires
+    (λ c. search cases)  -- type-term-same-length-2
+    (λ c. search cases)  -- type-term-returns-3
+    (λ c. search cases)  -- type-term-same-length-3
+    (λ c. search cases)  -- type-term-returns-4
+    (λ c. search cases)  -- type-term-returns-5
+    (λ c. search cases)  -- type-term-returns-6

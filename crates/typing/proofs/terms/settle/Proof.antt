@@ -1,0 +1,16 @@
+use Rattle.typing.proofs.Cases.{cases}
+use borrow.Author.Needs.{needs}
+use Rattle.typing.proofs.terms.settle.Statement.{statement}
+use Rattle.typing.proofs.terms.settle.Tie as tie
+
+pub settle-spec : {M : Type 1} → statement M
+settle-spec =
+    tie.close
+    (tie.spec
+    (λ c κs. search needs)  -- read-row-requires
+    (λ c κs. search needs)  -- node-word-requires
+    (λ c κs. search needs)  -- put-word-requires
+    (λ c. search needs)  -- array-read-t19
+    (λ c. search needs)  -- same-length
+    (λ c. search cases)  -- returns
+    )

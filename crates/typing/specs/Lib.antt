@@ -1,0 +1,9 @@
+pub mod Known
+pub mod Typing
+pub mod Meant
+pub mod Equations
+pub mod Sides
+pub mod Chosen
+pub mod Equated
+pub mod Rows
+pub mod Listed

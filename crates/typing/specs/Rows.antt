@@ -1,0 +1,130 @@
+-- What the equations of a module typed in memory mean: the first that the meaning refuses is told by its tag; and else each has its row,
+-- and its nodes stand where the row says.
+use mathlib.Core.Path.{_≡_, refl, sym, ap, _∙_, subst}
+use mathlib.Core.Bool.{false}
+use mathlib.Core.Option.{Option, none, some}
+use mathlib.Core.List.{List, [], _∷_, map}
+use Prim.Native.Nat.{ℕ, _+_, _-_, _*_, _<_, _≤_}
+use native.Mathlib.Omega.{arith}
+use borrow.Author.Tests.{lt-ltb}
+use lib.ListN.{length, getD}
+use lib.Seq.{sets}
+use Rattle.meaning.specs.Lists.{pick, each}
+use Rattle.meaning.specs.Syntax.{Equation, conditions-of}
+use Rattle.meaning.specs.Origins.{ResolvedSides, ResolvedEquation}
+use Rattle.meaning.specs.Checks.{Outcome, fine, stop}
+use Rattle.meaning.specs.Typing.{typed-sides, typed-conditions, made-equation}
+use Rattle.meaning.specs.Names.{Name}
+use Rattle.names.specs.Word.{name-of}
+use Rattle.tape.specs.Tape as on-tape
+use Rattle.tables.specs.Entries.{word-at, name-at}
+use Rattle.forms.specs.Memory.{Kept}
+use Rattle.forms.specs.FormLaws.{kept-sets}
+use Rattle.forms.specs.Forms.{flat-equation}
+use Rattle.typing.specs.declared.Known.{Known}
+use Rattle.typing.specs.declared.Module.{Module}
+use Rattle.typing.specs.declared.Passed.{Passed}
+use Rattle.typing.specs.declared.Passed.the-variants.{Counted, Wrong}
+use Rattle.typing.specs.Typing.{tape-in, items-in}
+use Rattle.typing.specs.Equations.{Pass, begins-at, equation-at, equation-words, span, row-of, stored, after-equation, turn-at}
+use Rattle.typing.specs.Meant.{Spells, Layout, node-here, tape-stays, sets-kept}
+use Rattle.typing.specs.Chosen.{Stand, stand-stays, stand-sets}
+use Rattle.typing.specs.Equated.{WellEquation, AgreeEquation, equation-entries, equation-typed}
+
+module _ (text : List ℕ) (k : Known) (w₀ : List ℕ) (m : Module) where
+  -- the row at b is that of the equation r, and its words stand among the nodes
+  pub record RowStands (r : ResolvedEquation) (b : ℕ) (w : List ℕ) : Type 0 where
+    pub tag : ℕ
+    pub start : ℕ
+    pub words : List ℕ
+    pub row : Stand b (r .home ∷ r .position ∷ tag ∷ length (r .conditions) ∷ start ∷ length words ∷ []) w
+    pub tagged : name-of text tag ≡ r .tag
+    pub stand : Stand (m .nodes + start) words w
+    pub nodes : map (node-here text k w₀) words ≡ flat-equation r
+
+  -- a turn of the loop leaves the equation's row and nodes, and all below its row as it was
+  pub record WellTurn (r : ResolvedEquation) (position i size q q₀ e₀ : ℕ) (w : List ℕ) (o : Pass) : Type 0 where
+    pub free : ℕ
+    pub answer : o .answer ≡ Counted (length (r .conditions)) (i + size) free
+    pub kept : Kept q₀ e₀ w₀ (o .memory)
+    pub after : q ≤ free
+    pub room : free ≤ q + (size + size)
+    pub row : RowStands r (m .rows + position * 8) (o .memory)
+    pub within : m .nodes + row .start + length (row .words) ≤ free
+    pub tape : tape-in k (o .memory) ≡ tape-in k w₀
+    pub below : (j : ℕ) → j < m .rows + position * 8 → getD (o .memory) j 0 ≡ getD w j 0
+    pub between : (j : ℕ) → m .rows + position * 8 + 6 ≤ j → j < q → getD (o .memory) j 0 ≡ getD w j 0
+
+  abbrev pub AgreeTurn : Outcome ResolvedEquation → ℕ → ℕ → ℕ → ℕ → ℕ → ℕ → List ℕ → Pass → Type 0
+  AgreeTurn (stop number name) position i size q q₀ e₀ w o = o .answer ≡ Wrong
+  AgreeTurn (fine r) position i size q q₀ e₀ w o = WellTurn r position i size q q₀ e₀ w o
+
+  span-is : (a b : ℕ) → a - b < 4294967295 → span a b ≡ a - b
+  unfolding span pick
+  span-is a b h = rw (lt-ltb (a - b) 4294967295 h)
+
+  module _ (q₀ e₀ : ℕ) (l : Layout text k w₀ q₀ e₀) (size-of-memory : e₀ < 4294967295) where
+    wrong-turn : (position i q : ℕ) (r : Passed) (w : List ℕ) → r ≡ Wrong → after-equation k m position i q r w .answer ≡ Wrong
+    unfolding after-equation
+    wrong-turn position i q r w h = rw h
+
+    -- rows stand in front of the nodes
+    stored-turn : (r : ResolvedEquation) (position i size q : ℕ) (w : List ℕ) (o : Pass) → WellEquation text k w₀ r i size q q₀ e₀ w o → q₀ ≤ m .rows
+        → m .rows + position * 8 + 6 ≤ m .nodes → m .nodes ≤ q → q + (size + size) ≤ e₀ → r .home ≡ m .home → r .position ≡ position → name-at text (tape-in k w₀) i ≡ r .tag
+        → WellTurn r position i size q q₀ e₀ w (after-equation k m position i q (o .answer) (o .memory))
+    unfolding after-equation stored equation-words row-of
+    stored-turn r position i size q w o h x y z v e f g =
+        let b = m .rows + position * 8 in
+        let u = o .memory in
+        let s₁ : span q (m .nodes) ≡ q - m .nodes = span-is q (m .nodes) (omega (arith, size-of-memory)) in
+        let s₂ : span (q + length (h .words)) q ≡ length (h .words) = span-is (q + length (h .words)) q (omega (arith, h .room, size-of-memory)) ∙ omega arith in
+        let tag = word-at (tape-in k u) i in
+        let vs = m .home ∷ position ∷ tag ∷ length (r .conditions) ∷ span q (m .nodes) ∷ span (q + length (h .words)) q ∷ [] in
+        let wanted : vs ≡ (r .home ∷ r .position ∷ tag ∷ length (r .conditions) ∷ (q - m .nodes) ∷ length (h .words) ∷ []) = λ z. sym e z ∷ sym f z ∷ tag ∷ length (r .conditions) ∷ s₁ z ∷ s₂ z ∷ [] in
+        let fr = kept-sets vs u b in
+        let there : m .nodes + (q - m .nodes) ≡ q = omega arith in
+        rw (h .answer)
+        (record {
+          free = q + length (h .words);
+          answer = refl;
+          kept = sets-kept text k w₀ q₀ e₀ l u (h .kept) b vs (omega arith) (omega (arith, h .room));
+          after = omega arith;
+          room = omega (arith, h .room);
+          row = record {
+            tag = tag;
+            start = q - m .nodes;
+            words = h .words;
+            row = subst (λ (xs : List ℕ). Stand b xs (sets u b vs)) wanted (stand-sets vs b u (omega (arith, h .kept .size, l .inside)));
+            tagged = ap (λ (t : List ℕ). name-at text t i) (tape-stays text k w₀ q₀ e₀ l u (h .kept)) ∙ g;
+            stand = rw there (stand-stays (h .words) q u (sets u b vs) (λ j a d. fr .above j (omega arith)) (h .stand));
+            nodes = h .nodes;
+          };
+          within = omega arith;
+          tape = tape-stays text k w₀ q₀ e₀ l (sets u b vs) (sets-kept text k w₀ q₀ e₀ l u (h .kept) b vs (omega arith) (omega (arith, h .room)));
+          below = λ j a. fr .below j a ∙ h .below j (omega arith);
+          between = λ j a d. fr .above j (omega arith) ∙ h .below j d;
+        })
+
+    turn-made : (c : Option ResolvedSides) (ks : Option (List ResolvedSides)) (tag : Name) (position i size q : ℕ) (w : List ℕ) (o : Pass)
+        → AgreeEquation text k w₀ (made-equation (m .home) position tag c ks) i size q q₀ e₀ w o → q₀ ≤ m .rows → m .rows + position * 8 + 6 ≤ m .nodes → m .nodes ≤ q
+        → q + (size + size) ≤ e₀ → name-at text (tape-in k w₀) i ≡ tag
+        → AgreeTurn (made-equation (m .home) position tag c ks) position i size q q₀ e₀ w (after-equation k m position i q (o .answer) (o .memory))
+    unfolding made-equation
+    turn-made none ks tag position i size q w o h x y z v g = wrong-turn position i q (o .answer) (o .memory) h
+    turn-made (some c) none tag position i size q w o h x y z v g = wrong-turn position i q (o .answer) (o .memory) h
+    turn-made (some c) (some ks) tag position i size q w o h x y z v g =
+        stored-turn (record { home = m .home; position = position; tag = tag; conclusion = c; conditions = ks }) position i size q w o h x y z v refl refl g
+
+    -- one turn of the loop over a module's equations
+    pub turn-typed : (e : Equation) (position i q : ℕ) (w : List ℕ) → i < k .tape → Spells text k w₀ i (on-tape.flat-equation e) → Kept q₀ e₀ w₀ w
+        → q₀ ≤ m .rows → m .rows + position * 8 + 6 ≤ m .nodes → m .nodes ≤ q
+        → q + (length (on-tape.flat-equation e) + length (on-tape.flat-equation e)) ≤ e₀ → i + length (on-tape.flat-equation e) ≤ m .end
+        → begins-at (tape-in k w₀) (i + length (on-tape.flat-equation e)) (m .end) ≡ false
+        → AgreeTurn (made-equation (m .home) position (e .tag) (typed-sides (items-in text k w₀) (e .conclusion)) (typed-conditions (items-in text k w₀) (conditions-of e)))
+        position i (length (on-tape.flat-equation e)) q q₀ e₀ w (turn-at text k m position i q w)
+    unfolding turn-at
+    turn-typed e position i q w h s kept x y z v a f =
+        turn-made (typed-sides (items-in text k w₀) (e .conclusion)) (typed-conditions (items-in text k w₀) (conditions-of e)) (e .tag) position i
+        (length (on-tape.flat-equation e)) q w (equation-at text k (m .end) i q w)
+        (equation-typed text k w₀ q₀ e₀ l (m .end) (m .home) position e i q w h s kept (omega arith) v a f) x y z v
+        ((rw (equation-entries e) at s) .2)

@@ -1,0 +1,100 @@
+-- Typing in memory, as the code goes: the entries of a term from i on, and its nodes from place q on. A node is written behind its
+-- arguments' nodes, at the place kept for it in front of them.
+use Prim.Native.Nat.{ℕ, zero, suc, _+_, _-_, _*_}
+use mathlib.Core.List.{List, map}
+use lib.Dec.{eqb, ltb}
+use lib.ListN.{length, getD, set, take, replicate}
+use Rattle.meaning.specs.Lists.{pick, before}
+use Rattle.meaning.specs.Origins.{Item}
+use Rattle.tape.specs.Tape.{alone-role, head-role, close-role}
+use Rattle.tables.specs.Entries.{role-at, name-at}
+use Rattle.tables.specs.Rows.{sort-of, row-at}
+use Rattle.forms.specs.Memory.{part}
+use Rattle.forms.specs.Forms.{items-at}
+use Rattle.typing.specs.declared.Known.{Known}
+use Rattle.typing.specs.declared.Answer.{Answer}
+use Rattle.typing.specs.declared.Answer.the-variants.{Sorted, Ill}
+use Rattle.typing.specs.Known.{variable-called, function-called}
+
+-- the answer, and the memory as it is then
+pub record Out : Type 0 where
+  pub answer : Answer
+  pub memory : List ℕ
+
+abbrev pub out : Answer → List ℕ → Out
+out r w = record { answer = r; memory = w }
+
+-- the tape, and the known items
+abbrev pub tape-in : Known → List ℕ → List ℕ
+tape-in k w = part w 0 (k .tape)
+
+abbrev pub items-in : List ℕ → Known → List ℕ → List Item
+items-in text k w = items-at text (tape-in k w) w (k .base) (k .count)
+
+-- the node of a row and a number of arguments
+unfoldable pub node-word : Known → ℕ → ℕ → ℕ
+node-word k row n = pick (ltb row (k .visible)) (row * 32 + n) ((k .hidden + (row - k .visible)) * 32 + 16 + n)
+
+-- the node at q is of the item of a row
+unfoldable pub settled : Known → ℕ → ℕ → ℕ → ℕ → ℕ → List ℕ → Out
+settled k q row n next free w = out (Sorted (getD (row-at w (k .base + row * 16) .sorts) 8 0) next free) (set w q (node-word k row n))
+
+-- the row that is found, or none
+unfoldable pub resolved : Known → ℕ → ℕ → ℕ → ℕ → ℕ → List ℕ → Out
+resolved k q row n next free w = pick (ltb row (k .count)) (settled k q row n next free w) (out Ill w)
+
+abbrev pub no-sorts : List ℕ
+no-sorts = replicate 9 0
+
+-- the row of the name at i: a variable, and a function that takes the first n sorts
+unfoldable pub variable-row : List ℕ → Known → ℕ → List ℕ → ℕ
+variable-row text k i w = before (variable-called (name-at text (tape-in k w) i)) (items-in text k w)
+
+unfoldable pub function-row : List ℕ → Known → ℕ → List ℕ → ℕ → List ℕ → ℕ
+function-row text k i sorts n w =
+    before (function-called (name-at text (tape-in k w) i) (map (sort-of text (tape-in k w)) (take n sorts))) (items-in text k w)
+
+-- the name at i whose arguments have the first n sorts; what follows stands at `next`, and `free` is the place behind their nodes
+unfoldable pub applied-at : List ℕ → Known → ℕ → ℕ → ℕ → List ℕ → ℕ → ℕ → List ℕ → Out
+applied-at text k i q n sorts next free w = resolved k q (function-row text k i sorts n w) n next free w
+
+-- the name at i with no argument: a variable, or else a constant
+unfoldable pub alone-at : List ℕ → Known → ℕ → ℕ → List ℕ → Out
+alone-at text k i q w =
+    let v = variable-row text k i w in
+    let constant = applied-at text k i q 0 no-sorts (i + 1) (q + 1) w in
+    pick (ltb v (k .count)) (settled k q v 0 (i + 1) (q + 1) w) constant
+
+-- after an argument: its sort is put behind the others
+unfoldable pub further : (ℕ → ℕ → ℕ → List ℕ → List ℕ → Out) → ℕ → List ℕ → Answer → List ℕ → Out
+further more n sorts Ill w = out Ill w
+further more n sorts (Sorted s next free) w = more next free (n + 1) (set sorts n s) w
+
+-- the entry at i closes the arguments, where it is on the tape
+unfoldable pub at-close : Known → ℕ → List ℕ → Out → Out → Out
+at-close k i w closed onward = pick (ltb i (k .tape)) (pick (eqb (role-at (tape-in k w) i) close-role) closed onward) (out Ill w)
+
+-- the arguments from i on, at most `left`, each typed by `term`, up to what closes them; n sorts are there
+unfoldable pub args-by : Known → (ℕ → ℕ → List ℕ → Out) → (ℕ → List ℕ → ℕ → ℕ → List ℕ → Out) → ℕ → ℕ → ℕ → ℕ → List ℕ → List ℕ → Out
+args-by k term apply zero i q n sorts w = at-close k i w (apply n sorts (i + 1) q w) (out Ill w)
+args-by k term apply (suc left) i q n sorts w =
+    let o = term i q w in
+    let more = further (args-by k term apply left) n sorts (o .answer) (o .memory) in
+    at-close k i w (apply n sorts (i + 1) q w) more
+
+-- the term at i, whose arguments are typed by `args`
+unfoldable pub term-by : List ℕ → Known → (ℕ → ℕ → List ℕ → Out) → ℕ → ℕ → List ℕ → Out
+term-by text k args i q w =
+    let role = role-at (tape-in k w) i in
+    let a = args i q w in
+    let t = pick (eqb role alone-role) (alone-at text k i q w) (pick (eqb role head-role) a (out Ill w)) in
+    pick (ltb i (k .tape)) (pick (ltb q (length w)) t (out Ill w)) (out Ill w)
+
+-- the term at i, down to a depth
+unfoldable pub term-at : List ℕ → Known → ℕ → ℕ → ℕ → List ℕ → Out
+term-at text k zero i q w = out Ill w
+term-at text k (suc depth) i q w =
+    term-by text k (λ j p v. args-by k (term-at text k depth) (applied-at text k j p) 9 (j + 1) (p + 1) 0 no-sorts v) i q w
+
+abbrev pub args-at : List ℕ → Known → ℕ → ℕ → ℕ → ℕ → ℕ → ℕ → ℕ → List ℕ → List ℕ → Out
+args-at text k depth head place left i q n sorts w = args-by k (term-at text k depth) (applied-at text k head place) left i q n sorts w

@@ -1,0 +1,301 @@
+// The typer of equations: two sides have one sort; the conclusion's nodes are written, and then the conditions'.
+use super::Answer;
+use super::Equated;
+use super::Known;
+use super::Module;
+use super::Passed;
+use super::terms::type_term;
+use forms::EquationRow;
+use tables::entries::name_at;
+use tables::entries::put_word;
+use tables::entries::role_at;
+use tables::sorts::same_sort;
+ghost use mathlib.Core.Path.{_≡_};
+ghost use mathlib.Core.List.{[], _∷_};
+ghost use Prim.Native.Nat.{_+_, _*_, _^_, _≤_, _<_};
+ghost use lib.ListN.{length};
+ghost use lib.Seq.{sets};
+ghost use Rattle.typing.specs.Typing.{out};
+ghost use Rattle.typing.specs.Equations.{right-at, sides-at, passed, begins-at, sides-from, equation-at, equation-words, span, row-of, stored, turn-at, told, equations-from};
+
+// The right side, at i; the left one has the sort s.
+fn type_right(text: &[u8], work: &mut [u32], k: Known, s: u32, i: usize, q: usize) -> Answer
+    requires { ⌜ (k .tape ≤ length (now work)) × (k .count ≤ 65536) × (k .hidden ≤ 65536) ⌝ }
+    ensures { λ r. ⌜ out r (now (work .exit)) ≡ right-at (now (text .entry)) k s i q (now (work .entry)) ⌝ }
+{
+    let t = k.tape;
+    let a = type_term(text, work, k, i, q, t);
+    match a {
+        Answer::Ill => Answer::Ill,
+        Answer::Sorted { sort, next, free } => {
+            if same_sort(text, &work[0..t], s, sort) {
+                return Answer::Sorted {
+                    sort: s,
+                    next,
+                    free,
+                };
+            }
+            Answer::Ill
+        }
+    }
+}
+
+// The two sides at i.
+fn type_sides(text: &[u8], work: &mut [u32], k: Known, i: usize, q: usize) -> Answer
+    requires { ⌜ (k .tape ≤ length (now work)) × (k .count ≤ 65536) × (k .hidden ≤ 65536) ⌝ }
+    ensures { λ r. ⌜ out r (now (work .exit)) ≡ sides-at (now (text .entry)) k i q (now (work .entry)) ⌝ }
+{
+    let t = k.tape;
+    let a = type_term(text, work, k, i, q, t);
+    match a {
+        Answer::Ill => Answer::Ill,
+        Answer::Sorted { sort, next, free } => type_right(text, work, k, sort, next, free),
+    }
+}
+
+// Does a term begin at i, before the end?
+fn begins_at(tape: &[u32], i: usize, end: usize) -> bool
+    ensures { λ r. ⌜ r ≡ begins-at (now (tape .entry)) i end ⌝ }
+{
+    if i < end {
+        let role = role_at(tape, i);
+        if role == 20 {
+            return true;
+        }
+        return role == 21;
+    }
+    false
+}
+
+// The sides from i on, n of them kept so far: those whose entry has the role.
+fn type_marked(
+    text: &[u8],
+    work: &mut [u32],
+    k: Known,
+    role: u32,
+    end: usize,
+    left: usize,
+    i: usize,
+    q: usize,
+    n: u32,
+) -> Passed
+    requires { ⌜ (k .tape ≤ length (now work)) × (k .count ≤ 65536) × (k .hidden ≤ 65536) × (n + left ≤ 65536) ⌝ }
+    ensures { λ r. ⌜ passed r (now (work .exit)) ≡ sides-from (now (text .entry)) k role end left i q n (now (work .entry)) ⌝ }
+{
+    if left == 0 {
+        return Passed::Wrong;
+    }
+    let t = k.tape;
+    if begins_at(&work[0..t], i, end) {
+        let a = type_sides(text, work, k, i, q);
+        match a {
+            Answer::Ill => Passed::Wrong,
+            Answer::Sorted {
+                sort: _,
+                next,
+                free,
+            } => {
+                if next < t {
+                    let mark = role_at(&work[0..t], next);
+                    if mark == role {
+                        return type_marked(
+                            text,
+                            work,
+                            k,
+                            role,
+                            end,
+                            left - 1,
+                            next + 1,
+                            free,
+                            n + 1,
+                        );
+                    }
+                    return type_marked(text, work, k, role, end, left - 1, next + 1, q, n);
+                }
+                Passed::Wrong
+            }
+        }
+    } else {
+        Passed::Counted {
+            count: n,
+            next: i,
+            free: q,
+        }
+    }
+}
+
+// The equation whose tag is at i, before the end: its conditions are counted.
+pub fn type_equation(
+    text: &[u8],
+    work: &mut [u32],
+    k: Known,
+    end: usize,
+    i: usize,
+    q: usize,
+) -> Passed
+    requires { ⌜ (k .tape ≤ length (now work)) × (k .tape ≤ 65536) × (i < k .tape) × (k .count ≤ 65536) × (k .hidden ≤ 65536) ⌝ }
+    ensures { λ r. ⌜ passed r (now (work .exit)) ≡ equation-at (now (text .entry)) k end i q (now (work .entry)) ⌝ }
+{
+    let t = k.tape;
+    let c = type_marked(text, work, k, 24, end, t, i + 1, q, 0);
+    match c {
+        Passed::Wrong => Passed::Wrong,
+        Passed::Counted {
+            count: _,
+            next: _,
+            free,
+        } => { type_marked(text, work, k, 23, end, t, i + 1, free, 0) }
+    }
+}
+
+// Three words, stored from b on.
+fn write_three(work: &mut [u32], b: usize, x: u32, y: u32, z: u32)
+    requires { ⌜ b < 2 ^ 40 ⌝ }
+    ensures { λ r. ⌜ now (work .exit) ≡ sets (now (work .entry)) b (x ∷ (y ∷ (z ∷ []))) ⌝ }
+{
+    put_word(work, b, x);
+    put_word(work, b + 1, y);
+    put_word(work, b + 2, z);
+}
+
+// The row of an equation, stored from b on.
+fn write_equation(work: &mut [u32], b: usize, row: EquationRow)
+    requires { ⌜ b < 2 ^ 39 ⌝ }
+    ensures { λ r. ⌜ now (work .exit) ≡ sets (now (work .entry)) b (equation-words row) ⌝ }
+{
+    write_three(work, b, row.home, row.position, row.tag);
+    write_three(work, b + 3, row.conditions, row.start, row.count);
+}
+
+// a - b as a word.
+fn span(a: usize, b: usize) -> u32
+    ensures { λ r. ⌜ r ≡ span a b ⌝ }
+{
+    if a < b {
+        return 0;
+    }
+    let d = a - b;
+    if d < 4294967295 {
+        return d as u32;
+    }
+    0
+}
+
+// The row of the equation with the tag, whose nodes stand from q up to `free`.
+fn equation_row(
+    m: Module,
+    position: u32,
+    tag: u32,
+    conditions: u32,
+    q: usize,
+    free: usize,
+) -> EquationRow
+    ensures { λ r. ⌜ r ≡ row-of m position tag conditions q free ⌝ }
+{
+    let nodes = m.nodes;
+    let start = span(q, nodes);
+    let count = span(free, q);
+    EquationRow {
+        home: m.home,
+        position,
+        tag,
+        conditions,
+        start,
+        count,
+    }
+}
+
+// The row of the equation whose tag is at i, with n conditions and nodes from q up to `free`.
+fn store_row(
+    work: &mut [u32],
+    k: Known,
+    m: Module,
+    position: u32,
+    i: usize,
+    q: usize,
+    n: u32,
+    free: usize,
+)
+    requires { ⌜ (k .tape ≤ length (now work)) × (m .rows < 2 ^ 32) ⌝ }
+    ensures { λ r. ⌜ now (work .exit) ≡ stored k m position i q n free (now (work .entry)) ⌝ }
+{
+    let t = k.tape;
+    let rows = m.rows;
+    let tag = name_at(&work[0..t], i);
+    let row = equation_row(m, position, tag, n, q, free);
+    write_equation(work, rows + position as usize * 8, row);
+}
+
+// The equation whose tag is at i, with its row.
+fn type_next(
+    text: &[u8],
+    work: &mut [u32],
+    k: Known,
+    m: Module,
+    position: u32,
+    i: usize,
+    q: usize,
+) -> Passed
+    requires { ⌜ (k .tape ≤ length (now work)) × (k .tape ≤ 65536) × (i < k .tape) × (k .count ≤ 65536) × (k .hidden ≤ 65536) × (m .rows < 2 ^ 32) ⌝ }
+    ensures { λ r. ⌜ passed r (now (work .exit)) ≡ turn-at (now (text .entry)) k m position i q (now (work .entry)) ⌝ }
+{
+    let end = m.end;
+    let r = type_equation(text, work, k, end, i, q);
+    match r {
+        Passed::Wrong => Passed::Wrong,
+        Passed::Counted { count, next, free } => {
+            store_row(work, k, m, position, i, q, count, free);
+            Passed::Counted { count, next, free }
+        }
+    }
+}
+
+// The equations of the module from i on; their nodes are written from q on. The first that is ill typed is told by its tag.
+pub fn type_equations(
+    text: &[u8],
+    work: &mut [u32],
+    k: Known,
+    m: Module,
+    i: usize,
+    q: usize,
+) -> Equated
+    requires { ⌜ (k .tape ≤ length (now work)) × (k .tape ≤ 65536) × (m .end ≤ k .tape) × (k .count ≤ 65536) × (k .hidden ≤ 65536) × (m .rows < 2 ^ 32) ⌝ }
+    ensures { λ r. ⌜ told r (now (work .exit)) ≡ equations-from (now (text .entry)) k m (k .tape) 0 i q (now (work .entry)) ⌝ }
+{
+    let t = k.tape;
+    let end = m.end;
+    let mut left = t;
+    let mut position = 0;
+    let mut at = i;
+    let mut free = q;
+    while 0 < left {
+        if at < end {
+            let tag = name_at(&work[0..t], at);
+            let r = type_next(text, work, k, m, position, at, free);
+            match r {
+                Passed::Wrong => {
+                    return Equated::Stop(tag);
+                }
+                Passed::Counted {
+                    count: _,
+                    next,
+                    free: behind,
+                } => {
+                    at = next;
+                    free = behind;
+                    position += 1;
+                    left -= 1;
+                }
+            }
+        } else {
+            return Equated::All {
+                count: position,
+                free,
+            };
+        }
+    }
+    Equated::All {
+        count: position,
+        free,
+    }
+}

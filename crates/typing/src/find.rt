@@ -1,0 +1,111 @@
+// The first known item that a name can be: a variable, or a function that takes given sorts.
+use tables::Row;
+use tables::entries::same_word;
+use tables::rows::read_row;
+use tables::sorts::same_sorts;
+ghost use mathlib.Core.Path.{_≡_};
+ghost use mathlib.Core.List.{map};
+ghost use Prim.Native.Nat.{_≤_, _-_, min};
+ghost use lib.ListN.{length, take};
+ghost use Rattle.meaning.specs.Lists.{before};
+ghost use Rattle.meaning.specs.Typing.{takes};
+ghost use Rattle.names.specs.Word.{name-of};
+ghost use Rattle.tables.specs.Rows.{sort-of, shape-of, item-of};
+ghost use Rattle.forms.specs.Memory.{part};
+ghost use Rattle.forms.specs.Forms.{items-at};
+ghost use Rattle.typing.specs.Known.{variable-called, function-called};
+
+// Is the row a variable called w?
+fn is_such_variable(text: &[u8], tape: &[u32], w: u32, row: Row) -> bool
+    ensures { λ r. ⌜ r ≡ variable-called (name-of (now (text .entry)) w) (item-of (now (text .entry)) (now (tape .entry)) row) ⌝ }
+{
+    let name = row.name;
+    if same_word(text, w, name) {
+        let kind = row.kind;
+        return kind == 1;
+    }
+    false
+}
+
+// How many of the nine sorts of a row are a function's inputs.
+fn inputs_of(kind: u32) -> usize
+    ensures { λ r. ⌜ r ≡ min (kind - 2) 9 ⌝ }
+{
+    if kind < 2 {
+        return 0;
+    }
+    if 11 < kind {
+        return 9;
+    }
+    (kind - 2) as usize
+}
+
+// Does an item of the kind and the sorts b take arguments of the first n sorts of a?
+fn takes(text: &[u8], tape: &[u32], kind: u32, b: [u32; 9], a: [u32; 9], n: usize) -> bool
+    requires { ⌜ n ≤ 9 ⌝ }
+    ensures { λ r. ⌜ r ≡ takes (map (sort-of (now (text .entry)) (now (tape .entry))) (take n a)) (shape-of (now (text .entry)) (now (tape .entry)) kind b) ⌝ }
+{
+    if kind < 2 {
+        return false;
+    }
+    let inputs = inputs_of(kind);
+    if inputs != n {
+        return false;
+    }
+    same_sorts(text, tape, a, b, n)
+}
+
+// Is the row a function called w that takes the first n sorts?
+fn is_such_function(text: &[u8], tape: &[u32], w: u32, sorts: [u32; 9], n: usize, row: Row) -> bool
+    requires { ⌜ n ≤ 9 ⌝ }
+    ensures { λ r. ⌜ r ≡ function-called (name-of (now (text .entry)) w) (map (sort-of (now (text .entry)) (now (tape .entry))) (take n sorts)) (item-of (now (text .entry)) (now (tape .entry)) row) ⌝ }
+{
+    let name = row.name;
+    if same_word(text, w, name) {
+        let kind = row.kind;
+        let own = row.sorts;
+        return takes(text, tape, kind, own, sorts, n);
+    }
+    false
+}
+
+// The first of the n rows from b on that is a variable called w; n if none is.
+pub fn find_variable(text: &[u8], work: &[u32], t: usize, b: u32, n: u32, w: u32) -> u32
+    requires { ⌜ t ≤ length (now work) ⌝ }
+    ensures { λ r. ⌜ r ≡ before (variable-called (name-of (now (text .entry)) w)) (items-at (now (text .entry)) (part (now (work .entry)) 0 t) (now (work .entry)) b n) ⌝ }
+{
+    let mut i = 0;
+    while i < n {
+        let row = read_row(work, b, i);
+        if is_such_variable(text, &work[0..t], w, row) {
+            return i;
+        }
+        i += 1;
+    }
+    n
+}
+
+// The first of the n rows from b on that is a function called w and takes the first `count` sorts; n if none is.
+pub fn find_function(
+    text: &[u8],
+    work: &[u32],
+    t: usize,
+    b: u32,
+    n: u32,
+    w: u32,
+    sorts: [u32; 9],
+    count: usize,
+) -> u32
+    requires { ⌜ (t ≤ length (now work)) × (count ≤ 9) ⌝ }
+    ensures { λ r. ⌜ r ≡ before (function-called (name-of (now (text .entry)) w) (map (sort-of (now (text .entry)) (part (now (work .entry)) 0 t)) (take count sorts))) (items-at (now (text .entry)) (part (now (work .entry)) 0 t) (now (work .entry)) b n) ⌝ }
+{
+    let mut i = 0;
+    while i < n {
+        let row = read_row(work, b, i);
+        if is_such_function(text, &work[0..t], w, sorts, count, row) {
+            return i;
+        }
+        i += 1;
+    }
+    n
+}
