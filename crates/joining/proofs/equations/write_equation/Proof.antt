@@ -1,0 +1,18 @@
+-- `joining::equations::write_equation` meets its contract.
+-- Assumes nothing.
+use Rattle.joining.proofs.Turns.{turns}
+use borrow.Author.Needs.{needs}
+use Rattle.joining.proofs.equations.write_equation.Statement.{statement}
+use Rattle.joining.proofs.equations.write_equation.Tie as tie
+
+pub write-equation-spec : {M : Type 1} → statement M
+write-equation-spec =
+    tie.close
+    (tie.spec
+    (λ c κs. search needs)  -- equation-place-requires
+    (λ c κs. search needs)  -- put-three-requires
+    (λ c. search needs)  -- add-put-three
+    (λ c κs. search needs)  -- put-three-requires-2
+    (λ c. search needs)  -- same-length
+    (λ c. search turns)  -- returns
+    )

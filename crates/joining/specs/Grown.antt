@@ -1,0 +1,121 @@
+-- What absorbing keeps: the form stays in its place, its counts do not fall, and no word changes but rows and nodes behind the counts.
+use mathlib.Core.Path.{_≡_, refl, sym, ap, _∙_}
+use mathlib.Core.Logic.{_⊎_, inl, inr, ⊎-elim}
+use mathlib.Core.Bool.{Bool, true, false}
+use mathlib.Core.List.{List, []}
+use Prim.Native.Nat.{ℕ, zero, suc, _+_, _*_, _≤_, _<_}
+use native.Mathlib.Omega.{arith}
+use lib.Dec.{ltb}
+use lib.ListN.{getD, set}
+use lib.Seq.{sets}
+use borrow.Author.Tests.{ltb-true, ltb-false}
+use Rattle.meaning.specs.Lists.{pick}
+use Rattle.forms.specs.declared.Form.{Form}
+use Rattle.forms.specs.declared.EquationRow.{EquationRow}
+use Rattle.forms.specs.Memory.{Kept, KeptTwo}
+use Rattle.forms.specs.Forms.{equation-row-at}
+use Rattle.forms.specs.FormLaws.{kept-all, kept-wider, kept-then, kept-set, kept-sets, kept-is-two, kept-two-then, kept-two-swap}
+use Rattle.joining.specs.declared.Notes.{Notes}
+use Rattle.joining.specs.Joined.{renode, copied, has-equation, equation-words, with-counts, Out, out, settled, joined-row, joined}
+
+pub copy-kept : (w : List ℕ) (v h a b c : ℕ) → Kept b (b + c) w (copied w v h a b c)
+unfolding copied
+copy-kept w v h a b zero = kept-all b (b + 0) w
+copy-kept w v h a b (suc c) =
+    let w₁ = set w b (renode w v h (getD w a 0)) in
+    let k = kept-wider b (b + 1) b (b + suc c) w w₁ (omega arith) (omega arith) (kept-set w b (renode w v h (getD w a 0))) in
+    let l = kept-wider (suc b) (suc b + c) b (b + suc c) w₁ (copied w₁ v h (suc a) (suc b) c) (omega arith) (omega arith) (copy-kept w₁ v h (suc a) (suc b) c) in
+    kept-then b (b + suc c) w w₁ (copied w₁ v h (suc a) (suc b) c) k l
+
+-- the words that may change when f grows to its room
+abbrev pub Behind : Notes → Form → List ℕ → List ℕ → Type 0
+Behind o f w w′ =
+    KeptTwo (f .equations + f .«equation_count» * 8) (f .equations + o .«equation_room» * 8) (f .nodes + f .«node_count») (f .nodes + o .«node_room») w w′
+
+-- f of memory w has become r of w′
+pub record Grown (o : Notes) (f : Form) (w : List ℕ) (r : Form) (w′ : List ℕ) : Type 0 where
+  pub same : r ≡ with-counts f (r .«equation_count») (r .«node_count»)
+  pub more-equations : f .«equation_count» ≤ r .«equation_count»
+  pub more-nodes : f .«node_count» ≤ r .«node_count»
+  pub kept : Behind o f w w′
+
+module _ (o : Notes) where
+  grown-none : (f : Form) (w : List ℕ) → Grown o f w f w
+  unfolding with-counts
+  grown-none f w = record {
+    same = refl;
+    more-equations = omega arith;
+    more-nodes = omega arith;
+    kept = kept-is-two _ _ _ _ w w (kept-all _ _ w);
+  }
+
+  wider : (f g : Form) (w w′ : List ℕ) → g .equations ≡ f .equations → g .nodes ≡ f .nodes → f .«equation_count» ≤ g .«equation_count»
+      → f .«node_count» ≤ g .«node_count» → Behind o g w w′ → Behind o f w w′
+  wider f g w w′ e b h l k = record {
+    size = k .size;
+    kept = λ i p q. k .kept i (⊎-elim (λ x. inl (omega (arith, e, h))) (λ x. inr (omega (arith, e))) p)
+        (⊎-elim (λ x. inl (omega (arith, b, l))) (λ x. inr (omega (arith, b))) q);
+  }
+
+  grown-then : (f g h : Form) (w w₁ w₂ : List ℕ) → Grown o f w g w₁ → Grown o g w₁ h w₂ → Grown o f w h w₂
+  unfolding with-counts
+  grown-then f g h w w₁ w₂ x y = record {
+    same = y .same ∙ ap (λ (z : Form). with-counts z (h .«equation_count») (h .«node_count»)) (x .same);
+    more-equations = omega (arith, x .more-equations, y .more-equations);
+    more-nodes = omega (arith, x .more-nodes, y .more-nodes);
+    kept = kept-two-then _ _ _ _ w w₁ w₂ (x .kept)
+        (wider f g w₁ w₂ (ap (λ (z : Form). z .equations) (x .same)) (ap (λ (z : Form). z .nodes) (x .same)) (x .more-equations) (x .more-nodes) (y .kept));
+  }
+
+  module _ (text : List ℕ) (t : ℕ) (f : Form) (q : EquationRow) (h : f .«equation_count» < o .«equation_room») where
+    settled-grown : (w : List ℕ) → Grown o f w (settled text t w f q .form) (settled text t w f q .work)
+    unfolding settled pick with-counts equation-words
+    settled-grown w = go (has-equation text t w f q 0 (f .«equation_count»))
+      where
+        more : Out
+        more = out (with-counts f (f .«equation_count» + 1) (f .«node_count» + q .count)) (sets w (f .equations + f .«equation_count» * 8) (equation-words q (f .«node_count»)))
+
+        go : (b : Bool) → Grown o f w (pick b (out f w) more .form) (pick b (out f w) more .work)
+        go true = grown-none f w
+        go false = record {
+          same = refl;
+          more-equations = omega arith;
+          more-nodes = omega arith;
+          kept = kept-is-two _ _ _ _ w (more .work)
+              (kept-wider _ _ (f .equations + f .«equation_count» * 8) (f .equations + o .«equation_room» * 8) w (more .work) (omega arith) (omega arith)
+              (kept-sets (equation-words q (f .«node_count»)) w (f .equations + f .«equation_count» * 8)));
+        }
+
+  row-grown : (text : List ℕ) (t : ℕ) (w : List ℕ) (g : Form) (q : EquationRow) (f : Form)
+      → Grown o f w (joined-row text t w g q o f .form) (joined-row text t w g q o f .work)
+  unfolding joined-row pick
+  row-grown text t w g q f = go (ltb (f .«equation_count») (o .«equation_room»)) (ltb (o .«node_room») (f .«node_count» + q .count)) refl refl
+    where
+      w₁ : List ℕ
+      w₁ = copied w (o .visible) (o .hidden) (g .nodes + q .start) (f .nodes + f .«node_count») (q .count)
+
+      go : (a b : Bool) → ltb (f .«equation_count») (o .«equation_room») ≡ a → ltb (o .«node_room») (f .«node_count» + q .count) ≡ b
+          → Grown o f w (pick a (pick b (out f w) (settled text t w₁ f q)) (out f w) .form) (pick a (pick b (out f w) (settled text t w₁ f q)) (out f w) .work)
+      go false b d e = grown-none f w
+      go true true d e = grown-none f w
+      go true false d e =
+          let x = settled-grown text t f q (ltb-true (f .«equation_count») (o .«equation_room») d) w₁ in
+          let l = ltb-false (o .«node_room») (f .«node_count» + q .count) e in
+          let k = kept-wider (f .nodes + f .«node_count») (f .nodes + f .«node_count» + q .count) (f .nodes + f .«node_count») (f .nodes + o .«node_room») w w₁ (omega arith) (omega arith)
+          (copy-kept w (o .visible) (o .hidden) (g .nodes + q .start) (f .nodes + f .«node_count») (q .count)) in
+          record {
+            same = x .same;
+            more-equations = x .more-equations;
+            more-nodes = x .more-nodes;
+            kept = kept-two-then _ _ _ _ w w₁ (settled text t w₁ f q .work) (kept-two-swap _ _ _ _ w w₁ (kept-is-two _ _ _ _ w w₁ k)) (x .kept);
+          }
+
+  -- all rows
+  pub joined-grown : (text : List ℕ) (t : ℕ) (w : List ℕ) (g : Form) (k c : ℕ) (f : Form)
+      → Grown o f w (joined text t w g k c o f .form) (joined text t w g k c o f .work)
+  unfolding joined
+  joined-grown text t w g k zero f = grown-none f w
+  joined-grown text t w g k (suc c) f =
+      let x = joined-row text t w g (equation-row-at w (g .equations + k * 8)) o f in
+      grown-then f (x .form) (joined text t (x .work) g (suc k) c o (x .form) .form) w (x .work) (joined text t (x .work) g (suc k) c o (x .form) .work)
+      (row-grown text t w g (equation-row-at w (g .equations + k * 8)) f) (joined-grown text t (x .work) g (suc k) c (x .form))

@@ -1,0 +1,4 @@
+pub mod Joined
+pub mod Grown
+pub mod Found
+pub mod Stays

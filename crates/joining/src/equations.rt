@@ -1,0 +1,234 @@
+// Equations: rows moved in and out, one found among a form's, one absorbed, and all of a form's.
+use super::Notes;
+use super::nodes::copy_nodes;
+use super::nodes::same_nodes;
+use forms::EquationRow;
+use forms::Form;
+use tables::entries::put_word;
+use tables::entries::word_at;
+ghost use mathlib.Core.Path.{_≡_};
+ghost use mathlib.Core.List.{[], _∷_};
+ghost use Prim.Native.Nat.{_+_, _*_, _≤_, _<_, _^_};
+ghost use lib.ListN.{length};
+ghost use lib.Seq.{sets};
+ghost use Rattle.forms.specs.Forms.{equation-row-at};
+ghost use Rattle.joining.specs.Joined.{same-equation, has-equation, equation-words, with-counts, out, settled, joined-row, joined};
+
+// Row i of a table of equations that starts at `base`.
+fn equation_place(base: u32, i: u32) -> usize
+    ensures { λ r. ⌜ r ≡ base + i * 8 ⌝ }
+{
+    base as usize + i as usize * 8
+}
+
+// The equation at row i of the table that starts at `base`.
+pub fn read_equation(w: &[u32], base: u32, i: u32) -> EquationRow
+    ensures { λ r. ⌜ r ≡ equation-row-at (now (w .entry)) (base + i * 8) ⌝ }
+{
+    let b = equation_place(base, i);
+    let home = word_at(w, b);
+    let position = word_at(w, b + 1);
+    let tag = word_at(w, b + 2);
+    let conditions = word_at(w, b + 3);
+    let start = word_at(w, b + 4);
+    let count = word_at(w, b + 5);
+    EquationRow {
+        home,
+        position,
+        tag,
+        conditions,
+        start,
+        count,
+    }
+}
+
+// x, y and z stored from place b on.
+fn put_three(w: &mut [u32], b: usize, x: u32, y: u32, z: u32)
+    requires { ⌜ b < 2 ^ 40 ⌝ }
+    ensures { λ r. ⌜ now (w .exit) ≡ sets (now (w .entry)) b (x ∷ y ∷ z ∷ []) ⌝ }
+{
+    put_word(w, b, x);
+    put_word(w, b + 1, y);
+    put_word(w, b + 2, z);
+}
+
+// q stored at row i of the table that starts at `base`, its nodes from `start` on.
+pub fn write_equation(w: &mut [u32], base: u32, i: u32, q: EquationRow, start: u32)
+    ensures { λ r. ⌜ now (w .exit) ≡ sets (now (w .entry)) (base + i * 8) (equation-words q start) ⌝ }
+{
+    let b = equation_place(base, i);
+    put_three(w, b, q.home, q.position, q.tag);
+    put_three(w, b + 3, q.conditions, start, q.count);
+}
+
+// Is q, whose nodes stand behind those of f, the equation r of f?
+fn same_equation(
+    text: &[u8],
+    work: &[u32],
+    t: usize,
+    f: Form,
+    q: EquationRow,
+    r: EquationRow,
+) -> bool
+    requires { ⌜ t ≤ length (now work) ⌝ }
+    ensures { λ x. ⌜ x ≡ same-equation (now (text .entry)) t (now (work .entry)) f q r ⌝ }
+{
+    if q.home == r.home {
+        if q.position == r.position {
+            if q.count == r.count {
+                let visible = f.visible;
+                let hidden = f.hidden;
+                let base = f.nodes;
+                let start = r.start;
+                let used = f.node_count;
+                let c = q.count;
+                return same_nodes(text, work, t, visible, hidden, base, used, start, c);
+            }
+            return false;
+        }
+        return false;
+    }
+    false
+}
+
+// Is it row i of f?
+fn is_equation(text: &[u8], work: &[u32], t: usize, f: Form, q: EquationRow, i: u32) -> bool
+    requires { ⌜ t ≤ length (now work) ⌝ }
+    ensures { λ x. ⌜ x ≡ same-equation (now (text .entry)) t (now (work .entry)) f q (equation-row-at (now (work .entry)) (f .equations + i * 8)) ⌝ }
+{
+    let base = f.equations;
+    let r = read_equation(work, base, i);
+    same_equation(text, work, t, f, q, r)
+}
+
+// Is it one of the first n rows of f?
+fn has_equation(text: &[u8], work: &[u32], t: usize, f: Form, q: EquationRow, n: u32) -> bool
+    requires { ⌜ t ≤ length (now work) ⌝ }
+    ensures { λ x. ⌜ x ≡ has-equation (now (text .entry)) t (now (work .entry)) f q 0 n ⌝ }
+{
+    let mut i = 0;
+    while i < n {
+        if is_equation(text, work, t, f, q, i) {
+            return true;
+        }
+        i += 1;
+    }
+    false
+}
+
+// The form with other numbers of equations and of nodes.
+fn with_counts(f: Form, equations: u32, nodes: u32) -> Form
+    ensures { λ r. ⌜ r ≡ with-counts f equations nodes ⌝ }
+{
+    Form {
+        parameters: f.parameters,
+        parameter_count: f.parameter_count,
+        visible: f.visible,
+        visible_count: f.visible_count,
+        hidden: f.hidden,
+        hidden_count: f.hidden_count,
+        equations: f.equations,
+        equation_count: equations,
+        nodes: f.nodes,
+        node_count: nodes,
+    }
+}
+
+// q, whose nodes stand behind those of f: dropped where it is there, else a row more.
+fn settle(
+    text: &[u8],
+    work: &mut [u32],
+    t: usize,
+    f: Form,
+    q: EquationRow,
+    rows: u32,
+    nodes: u32,
+) -> Form
+    requires { ⌜ t ≤ length (now work) ⌝ }
+    requires { ⌜ f .«equation_count» < rows ⌝ }
+    requires { ⌜ f .«node_count» + q .count ≤ nodes ⌝ }
+    ensures { λ r. ⌜ out r (now (work .exit)) ≡ settled (now (text .entry)) t (now (work .entry)) f q ⌝ }
+{
+    let n = f.equation_count;
+    let used = f.node_count;
+    let count = q.count;
+    if has_equation(text, work, t, f, q, n) {
+        return f;
+    }
+    let base = f.equations;
+    write_equation(work, base, n, q, used);
+    with_counts(f, n + 1, used + count)
+}
+
+// The equation q of g absorbed into f.
+fn absorb_row(
+    text: &[u8],
+    work: &mut [u32],
+    t: usize,
+    g: Form,
+    q: EquationRow,
+    o: Notes,
+    f: Form,
+) -> Form
+    requires { ⌜ t ≤ length (now work) ⌝ }
+    ensures { λ r. ⌜ out r (now (work .exit)) ≡ joined-row (now (text .entry)) t (now (work .entry)) g q o f ⌝ }
+{
+    let rows = o.equation_room;
+    let nodes = o.node_room;
+    if f.equation_count < rows {
+        let used = f.node_count;
+        if (nodes as usize) < used as usize + q.count as usize {
+            return f;
+        }
+        let visible = o.visible;
+        let hidden = o.hidden;
+        let source = g.nodes;
+        let start = q.start;
+        let base = f.nodes;
+        let c = q.count;
+        copy_nodes(work, visible, hidden, source, start, base, used, c);
+        return settle(text, work, t, f, q, rows, nodes);
+    }
+    f
+}
+
+// Row k of g absorbed into f.
+fn absorb_equation(
+    text: &[u8],
+    work: &mut [u32],
+    t: usize,
+    g: Form,
+    k: u32,
+    o: Notes,
+    f: Form,
+) -> Form
+    requires { ⌜ t ≤ length (now work) ⌝ }
+    ensures { λ r. ⌜ out r (now (work .exit)) ≡ joined-row (now (text .entry)) t (now (work .entry)) g (equation-row-at (now (work .entry)) (g .equations + k * 8)) o f ⌝ }
+{
+    let base = g.equations;
+    let q = read_equation(work, base, k);
+    absorb_row(text, work, t, g, q, o, f)
+}
+
+// The first n equations of g absorbed into f.
+fn absorb_first(text: &[u8], work: &mut [u32], t: usize, g: Form, n: u32, o: Notes, f: Form) -> Form
+    requires { ⌜ t ≤ length (now work) ⌝ }
+    ensures { λ r. ⌜ out r (now (work .exit)) ≡ joined (now (text .entry)) t (now (work .entry)) g 0 n o f ⌝ }
+{
+    let mut h = f;
+    let mut k = 0;
+    while k < n {
+        h = absorb_equation(text, work, t, g, k, o, h);
+        k += 1;
+    }
+    h
+}
+
+// Every equation of g absorbed into f; the answer is f with its new counts.
+pub fn absorb_equations(text: &[u8], work: &mut [u32], t: usize, g: Form, o: Notes, f: Form) -> Form
+    requires { ⌜ t ≤ length (now work) ⌝ }
+    ensures { λ r. ⌜ out r (now (work .exit)) ≡ joined (now (text .entry)) t (now (work .entry)) g 0 (g .«equation_count») o f ⌝ }
+{
+    let n = g.equation_count;
+    absorb_first(text, work, t, g, n, o, f)
+}

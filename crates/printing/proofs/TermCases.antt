@@ -1,0 +1,154 @@
+-- One law for each way through the code that writes terms and equations, in the code's terms.
+use mathlib.Core.Path.{_≡_, refl, ap}
+use mathlib.Core.List.{List, [], _∷_, _++_}
+use Prim.Native.Nat.{ℕ, zero, suc, _+_, _-_, _*_, _/_, _%_, _<_, _≤_}
+use native.Mathlib.Numerals.{sub-one}
+use borrow.Author.Needs.{needs}
+use borrow.Author.Tests.{eq-eqb, ne-eqb, lt-ltb, le-ltb}
+use lib.ListN.{length, getD}
+use Rattle.meaning.specs.Lists.{pick}
+use Rattle.meaning.specs.Names.{bytes}
+use Rattle.meaning.specs.Written.{numbered}
+use Rattle.names.specs.Word.{name-of}
+use Rattle.forms.specs.declared.EquationRow.{EquationRow}
+use Rattle.pen.specs.Pen.{Pen, pen, written}
+use Rattle.pen.proofs.Laws.{then}
+use Rattle.printing.specs.declared.Printed.{Printed}
+use Rattle.printing.specs.Terms.{Spelt, node-text, listed, term-by, term-at, sides-at, when-at, rule-at, equation-at, Shown}
+
+-- the item at a node
+module _ (l : ℕ) (text w : List ℕ) (b v : ℕ) (p q : Pen) where
+  pub item-visible : (n : ℕ) → v / 16 % 2 ≡ 0 → n ≡ getD w (b + v / 32 * 16 + 1) 0 → q ≡ written l (name-of text n) p → q ≡ written l (node-text text w b v) p
+  unfolding node-text pick
+  item-visible n z e f = rw (eq-eqb (v / 16 % 2) 0 z, ← e) f
+
+  pub item-hidden : (v / 16 % 2 ≡ 0 → ⊥) → q ≡ written l (numbered (v / 32 + 1)) p → q ≡ written l (node-text text w b v) p
+  unfolding node-text pick
+  item-hidden z f = rw (ne-eqb (v / 16 % 2) 0 z) f
+
+-- a list, whatever is listed
+module _ (l : ℕ) (one : ℕ → Spelt) (at : ℕ) (o : List ℕ) (i k : ℕ) where
+  list-none : k ≡ 0 → Shown l at (listed one k i) o (record { at = at; next = i }) o
+  unfolding listed written
+  list-none z = rw z (record { node = refl; content = refl })
+
+  list-last : (r : Printed) (o′ : List ℕ) → k ≡ 1 → Shown l at (one i) o r o′ → Shown l at (listed one k i) o r o′
+  unfolding listed pick
+  list-last r o′ z h = rw z h
+
+list-more : (l : ℕ) (one : ℕ → Spelt) (at : ℕ) (o : List ℕ) (i k : ℕ) (r q : Printed) (t : ℕ) (o₁ o₂ o₃ : List ℕ) → (k ≡ 0 → ⊥) → (k ≡ 1 → ⊥) → Shown l at (one i) o r o₁
+    → pen t o₂ ≡ written l (44 ∷ []) (pen (r .at) o₁) → Shown l t (listed one (k - 1) (r .next)) o₂ q o₃ → Shown l at (listed one k i) o q o₃
+unfolding listed pick
+list-more l one at o i zero r q t o₁ o₂ o₃ z y h e f = absurd (z refl)
+list-more l one at o i (suc k) r q t o₁ o₂ o₃ z y h e f =
+    let v = rw (sub-one, h .node) at f in
+    let rest = listed one k (one i .next) .bytes in
+    rw (ne-eqb k 0 (λ u. y (ap suc u)))
+    (record {
+      node = v .node;
+      content =
+          then l (one i .bytes) (44 ∷ rest) (pen at o) (pen (r .at) o₁) (pen (q .at) o₃) (h .content)
+          (then l (44 ∷ []) rest (pen (r .at) o₁) (pen t o₂) (pen (q .at) o₃) e (v .content));
+    })
+
+module _ (l : ℕ) (text w : List ℕ) (b d at : ℕ) (o : List ℕ) where
+  -- arguments
+  pub arguments-none : (i k : ℕ) → k ≡ 0 → Shown l at (listed (term-at text w b d) k i) o (record { at = at; next = i }) o
+  arguments-none i k z = list-none l (term-at text w b d) at o i k z
+
+  pub arguments-last : (i k : ℕ) (r : Printed) (o′ : List ℕ) → k ≡ 1 → Shown l at (term-at text w b d i) o r o′ → Shown l at (listed (term-at text w b d) k i) o r o′
+  arguments-last i k r o′ z h = list-last l (term-at text w b d) at o i k r o′ z h
+
+  pub arguments-more : (i k : ℕ) (r q : Printed) (t : ℕ) (o₁ o₂ o₃ : List ℕ) → (k ≡ 0 → ⊥) → (k ≡ 1 → ⊥) → Shown l at (term-at text w b d i) o r o₁
+      → pen t o₂ ≡ written l (44 ∷ []) (pen (r .at) o₁) → Shown l t (listed (term-at text w b d) (k - 1) (r .next)) o₂ q o₃ → Shown l at (listed (term-at text w b d) k i) o q o₃
+  arguments-more i k r q t o₁ o₂ o₃ z y h e f = list-more l (term-at text w b d) at o i k r q t o₁ o₂ o₃ z y h e f
+
+  -- terms
+  pub term-deep : (i : ℕ) → d ≡ 0 → Shown l at (term-at text w b d i) o (record { at = at; next = i }) o
+  unfolding term-at written
+  term-deep i z = rw z (record { node = refl; content = refl })
+
+  -- the arguments stand one less deep
+  term-any : (i : ℕ) → (d ≡ 0 → ⊥) → term-at text w b d i ≡ term-by text w b (listed (term-at text w b (d - 1))) i
+  unfolding term-at
+  term-any i z = go d z
+    where
+      go : (d : ℕ) → (d ≡ 0 → ⊥) → term-at text w b d i ≡ term-by text w b (listed (term-at text w b (d - 1))) i
+      go zero z = absurd (z refl)
+      go (suc d) z = rw sub-one
+
+  pub term-past : (i : ℕ) → (d ≡ 0 → ⊥) → length w ≤ i → Shown l at (term-at text w b d i) o (record { at = at; next = i }) o
+  unfolding term-by written pick
+  term-past i z h = rw (term-any i z, le-ltb i (length w) h) (record { node = refl; content = refl })
+
+  -- v is the node, t is where the name ends
+  module _ (i v : ℕ) (h : i < length w) (z : d ≡ 0 → ⊥) (f : v ≡ getD w i 0) (t : ℕ) (o₁ : List ℕ) (g : pen t o₁ ≡ written l (node-text text w b v) (pen at o)) where
+    pub term-name : v % 16 ≡ 0 → Shown l at (term-at text w b d i) o (record { at = t; next = i + 1 }) o₁
+    unfolding term-by pick
+    term-name e = rw (term-any i z, lt-ltb i (length w) h, ← f, eq-eqb (v % 16) 0 e) (record { node = refl; content = g })
+
+    pub term-applied : (u x : ℕ) (r : Printed) (o₂ o₃ o₄ : List ℕ) → (v % 16 ≡ 0 → ⊥) → pen u o₂ ≡ written l (40 ∷ []) (pen t o₁)
+        → Shown l u (listed (term-at text w b (d - 1)) (v % 16) (i + 1)) o₂ r o₃ → pen x o₄ ≡ written l (41 ∷ []) (pen (r .at) o₃)
+        → Shown l at (term-at text w b d i) o (record { at = x; next = r .next }) o₄
+    unfolding term-by pick
+    term-applied u x r o₂ o₃ o₄ e a c k =
+        let inner = listed (term-at text w b (d - 1)) (v % 16) (i + 1) .bytes in
+        rw (term-any i z, lt-ltb i (length w) h, ← f, ne-eqb (v % 16) 0 e)
+        (record {
+          node = c .node;
+          content =
+              then l (node-text text w b v) (40 ∷ (inner ++ (41 ∷ []))) (pen at o) (pen t o₁) (pen x o₄) g
+              (then l (40 ∷ []) (inner ++ (41 ∷ [])) (pen t o₁) (pen u o₂) (pen x o₄) a
+              (then l inner (41 ∷ []) (pen u o₂) (pen (r .at) o₃) (pen x o₄) (c .content) k));
+        })
+
+  -- two terms, and conditions
+  pub sides-done : (i : ℕ) (r q : Printed) (t : ℕ) (o₁ o₂ o₃ : List ℕ) → Shown l at (term-at text w b d i) o r o₁ → pen t o₂ ≡ written l (61 ∷ []) (pen (r .at) o₁)
+      → Shown l t (term-at text w b d (r .next)) o₂ q o₃ → Shown l at (sides-at text w b d i) o q o₃
+  unfolding sides-at
+  sides-done i r q t o₁ o₂ o₃ h e f =
+      let v = rw (h .node) at f in
+      let right = term-at text w b d (term-at text w b d i .next) .bytes in
+      record {
+        node = v .node;
+        content =
+            then l (term-at text w b d i .bytes) (61 ∷ right) (pen at o) (pen (r .at) o₁) (pen (q .at) o₃) (h .content)
+            (then l (61 ∷ []) right (pen (r .at) o₁) (pen t o₂) (pen (q .at) o₃) e (v .content));
+      }
+
+  pub conditions-none : (i k : ℕ) → k ≡ 0 → Shown l at (listed (sides-at text w b d) k i) o (record { at = at; next = i }) o
+  conditions-none i k z = list-none l (sides-at text w b d) at o i k z
+
+  pub conditions-last : (i k : ℕ) (r : Printed) (o′ : List ℕ) → k ≡ 1 → Shown l at (sides-at text w b d i) o r o′ → Shown l at (listed (sides-at text w b d) k i) o r o′
+  conditions-last i k r o′ z h = list-last l (sides-at text w b d) at o i k r o′ z h
+
+  pub conditions-more : (i k : ℕ) (r q : Printed) (t : ℕ) (o₁ o₂ o₃ : List ℕ) → (k ≡ 0 → ⊥) → (k ≡ 1 → ⊥) → Shown l at (sides-at text w b d i) o r o₁
+      → pen t o₂ ≡ written l (44 ∷ []) (pen (r .at) o₁) → Shown l t (listed (sides-at text w b d) (k - 1) (r .next)) o₂ q o₃ → Shown l at (listed (sides-at text w b d) k i) o q o₃
+  conditions-more i k r q t o₁ o₂ o₃ z y h e f = list-more l (sides-at text w b d) at o i k r q t o₁ o₂ o₃ z y h e f
+
+  pub when-none : (i k : ℕ) → k ≡ 0 → pen at o ≡ written l (when-at text w b d k i) (pen at o)
+  unfolding when-at pick written
+  when-none i k z = rw (eq-eqb k 0 z)
+
+  pub when-some : (i k : ℕ) (t : ℕ) (r : Printed) (o₁ o₂ : List ℕ) → (k ≡ 0 → ⊥) → pen t o₁ ≡ written l (bytes " when ") (pen at o)
+      → Shown l t (listed (sides-at text w b d) k i) o₁ r o₂ → pen (r .at) o₂ ≡ written l (when-at text w b d k i) (pen at o)
+  unfolding when-at pick
+  when-some i k t r o₁ o₂ z e h =
+      rw (ne-eqb k 0 z) (then l (bytes " when ") (listed (sides-at text w b d) k i .bytes) (pen at o) (pen t o₁) (pen (r .at) o₂) e (h .content))
+
+  pub rule-done : (i k : ℕ) (r : Printed) (o₁ : List ℕ) (q : Pen) → Shown l at (sides-at text w b d i) o r o₁ → q ≡ written l (when-at text w b d k (r .next)) (pen (r .at) o₁)
+      → q ≡ written l (rule-at text w b d k i) (pen at o)
+  unfolding rule-at
+  rule-done i k r o₁ q h e =
+      let s = sides-at text w b d i in
+      then l (s .bytes) (when-at text w b d k (s .next)) (pen at o) (pen (r .at) o₁) q (h .content) (rw (h .node) at e)
+
+pub equation-done : (l : ℕ) (text w : List ℕ) (b n : ℕ) (row : EquationRow) (p a c e q : Pen) → a ≡ written l (bytes "[") p → c ≡ written l (name-of text (row .tag)) a
+    → e ≡ written l (bytes "] ") c → q ≡ written l (rule-at text w b (row .count) (row .conditions) (n + row .start)) e → q ≡ written l (equation-at text w b n row) p
+unfolding equation-at
+equation-done l text w b n row p a c e q f g h k =
+    let rule = rule-at text w b (row .count) (row .conditions) (n + row .start) in
+    let name = name-of text (row .tag) in
+    then l (bytes "[") (name ++ (bytes "] " ++ rule)) p a q f (then l name (bytes "] " ++ rule) a c q g (then l (bytes "] ") rule c e q h k))
+
+pub ruleset terms = (item-visible, item-hidden, arguments-none, arguments-last, arguments-more, term-deep, term-past, term-name, term-applied, sides-done, conditions-none, conditions-last, conditions-more, when-none, when-some, rule-done, equation-done, needs)

@@ -1,0 +1,16 @@
+-- `printing::sorts::sort_at` meets its contract.
+-- Assumes nothing.
+use Rattle.printing.proofs.Cases.{cases}
+use borrow.Author.Needs.{needs}
+use Rattle.printing.proofs.sorts.sort_at.Statement.{statement}
+use Rattle.printing.proofs.sorts.sort_at.Tie as tie
+
+pub sort-at-spec : {M : Type 1} → statement M
+sort-at-spec =
+    tie.close
+    (tie.spec
+    (λ c. search needs)  -- mul-result
+    (λ c. search needs)  -- array-read-result
+    (λ c. search needs)  -- returns
+    (λ c. search cases)  -- returns-2
+    )

@@ -1,0 +1,24 @@
+-- `printing::terms::put_item` meets its contract.
+-- Assumes nothing.
+use Rattle.printing.proofs.TermCases.{terms}
+use borrow.Author.Needs.{needs}
+use Rattle.printing.proofs.terms.put_item.Statement.{statement}
+use Rattle.printing.proofs.terms.put_item.Tie as tie
+
+pub put-item-spec : {M : Type 1} → statement M
+put-item-spec =
+    tie.close
+    (tie.spec
+    (λ c. search needs)  -- cast-row
+    (λ c. search needs)  -- mul-word-at
+    (λ c. search needs)  -- add-word-at
+    (λ c. search needs)  -- add-word-at-2
+    (λ c κs. search needs)  -- word-at-requires
+    (λ c κs. search needs)  -- put-name-requires
+    (λ c. search needs)  -- same-length
+    (λ c. search terms)  -- returns
+    (λ c. search needs)  -- add-put-numbered
+    (λ c κs. search needs)  -- put-numbered-requires
+    (λ c. search needs)  -- same-length-2
+    (λ c. search terms)  -- returns-2
+    )

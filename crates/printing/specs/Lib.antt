@@ -1,0 +1,4 @@
+pub mod Sorts
+pub mod Terms
+pub mod Meant
+pub mod Pointed

@@ -1,0 +1,111 @@
+// Terms, written as `f(a,b)`. Their nodes stand in prefix order in the memory, and the visible items' rows from `visible` on.
+use super::Printed;
+use tables::entries::word_at;
+ghost use mathlib.Core.Path.{_≡_};
+ghost use Prim.Native.Nat.{_<_};
+ghost use Rattle.pen.specs.Pen.{pen, written};
+ghost use Rattle.printing.specs.Terms.{node-text, listed, term-at, Shown};
+
+// The name of a visible item at a node, or the number of a hidden one.
+fn put_item(
+    out: &mut [u8],
+    at: usize,
+    limit: usize,
+    text: &[u8],
+    work: &[u32],
+    visible: u32,
+    v: u32,
+) -> usize
+    ensures { λ r. ⌜ pen r (now (out .exit)) ≡ written limit (node-text (now (text .entry)) (now (work .entry)) visible v) (pen at (now (out .entry))) ⌝ }
+{
+    if v / 16 % 2 == 0 {
+        let row = (v / 32) as usize;
+        let w = word_at(work, visible as usize + row * 16 + 1);
+        return pen::put_name(out, at, limit, text, w);
+    }
+    pen::put_numbered(out, at, limit, v / 32 + 1)
+}
+
+// The term at node i, down to a depth.
+pub fn put_term(
+    out: &mut [u8],
+    at: usize,
+    limit: usize,
+    text: &[u8],
+    work: &[u32],
+    visible: u32,
+    depth: usize,
+    i: usize,
+) -> Printed
+    ensures { λ r. ⌜ Shown limit at (term-at (now (text .entry)) (now (work .entry)) visible depth i) (now (out .entry)) r (now (out .exit)) ⌝ }
+{
+    if depth == 0 {
+        return Printed { at, next: i };
+    }
+    if i < work.len() {
+        let v = word_at(work, i);
+        let left = (v % 16) as usize;
+        let named = put_item(out, at, limit, text, work, visible, v);
+        if left == 0 {
+            return Printed {
+                at: named,
+                next: i + 1,
+            };
+        }
+        let opened = pen::put(out, named, limit, b'(');
+        let p = put_arguments(
+            out,
+            opened,
+            limit,
+            text,
+            work,
+            visible,
+            depth - 1,
+            left,
+            i + 1,
+        );
+        let filled = p.at;
+        let next = p.next;
+        let closed = pen::put(out, filled, limit, b')');
+        return Printed { at: closed, next };
+    }
+    Printed { at, next: i }
+}
+
+// The terms from node i on, `left` of them, with commas between.
+fn put_arguments(
+    out: &mut [u8],
+    at: usize,
+    limit: usize,
+    text: &[u8],
+    work: &[u32],
+    visible: u32,
+    depth: usize,
+    left: usize,
+    i: usize,
+) -> Printed
+    requires { ⌜ left < 16 ⌝ }
+    ensures { λ r. ⌜ Shown limit at (listed (term-at (now (text .entry)) (now (work .entry)) visible depth) left i) (now (out .entry)) r (now (out .exit)) ⌝ }
+{
+    if left == 0 {
+        return Printed { at, next: i };
+    }
+    let p = put_term(out, at, limit, text, work, visible, depth, i);
+    if left == 1 {
+        return p;
+    }
+    let filled = p.at;
+    let next = p.next;
+    let parted = pen::put(out, filled, limit, b',');
+    put_arguments(
+        out,
+        parted,
+        limit,
+        text,
+        work,
+        visible,
+        depth,
+        left - 1,
+        next,
+    )
+}
