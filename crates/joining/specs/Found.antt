@@ -12,7 +12,6 @@ use borrow.Author.Tests.{lt-ltb, le-ltb}
 use Rattle.meaning.specs.Lists.{pick, agree, any}
 use Rattle.meaning.specs.Names.{Name}
 use Rattle.meaning.specs.Origins.{FunctionType, ResolvedEquation, one-equation}
-use Rattle.names.specs.Word.{name-of}
 use Rattle.tables.specs.Rows.{item-of, row-at}
 use Rattle.forms.specs.declared.Form.{Form}
 use Rattle.forms.specs.declared.EquationRow.{EquationRow}

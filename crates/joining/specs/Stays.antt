@@ -1,24 +1,24 @@
 -- Equations that stand in a form go on standing where its words stay.
 use mathlib.Core.Path.{_≡_, refl, sym, ap, ap₂, _∙_, subst}
 use mathlib.Core.Bool.{Bool, true, false}
-use mathlib.Core.List.{List, [], _∷_, map}
+use mathlib.Core.List.{List, [], _∷_, _++_, map}
 use Prim.Native.Nat.{ℕ, zero, suc, _+_, _*_, _/_, _%_, _≤_, _<_}
 use native.Mathlib.Omega.{arith}
 use lib.Dec.{eqb}
-use lib.ListN.{length, getD, take, drop, length-take}
-use lib.Seq.{getD-take, getD-drop}
+use lib.ListN.{length, getD, set, take, drop, length-set, length-take}
+use lib.Seq.{sets, getD-take, getD-drop, getD-set-same}
 use borrow.Author.Tests.{eqb-true, eqb-false}
 use Rattle.meaning.specs.Lists.{pick}
 use Rattle.meaning.specs.Origins.{ResolvedEquation}
 use Rattle.tables.specs.declared.Row.{Row}
-use Rattle.tables.specs.Rows.{item-of, row-at}
+use Rattle.tables.specs.Rows.{item-of}
 use Rattle.tables.specs.RowLaws.{row-same}
 use Rattle.forms.specs.declared.Form.{Form}
 use Rattle.forms.specs.declared.EquationRow.{EquationRow}
 use Rattle.forms.specs.Memory.{Same}
-use Rattle.forms.specs.Forms.{Node, node-row, node-of, node-in, nodes-of, equation-row-at, EquationStands, EquationsStand, Pointing}
-use Rattle.forms.specs.FormLaws.{words-same, equation-row-same}
-use Rattle.joining.specs.Joined.{with-counts}
+use Rattle.forms.specs.Forms.{node-row, node-of, node-in, nodes-of, equation-row-at, EquationStands, EquationsStand, Pointing}
+use Rattle.forms.specs.FormLaws.{words-same, equation-row-same, kept-sets}
+use Rattle.joining.specs.Joined.{equation-words, with-counts}
 
 pub map-same : {A : Type 0} (f g : ℕ → A) (xs : List ℕ) → ((i : ℕ) → i < length xs → f (getD xs i 0) ≡ g (getD xs i 0)) → map f xs ≡ map g xs
 map-same f g [] h = refl
@@ -86,3 +86,43 @@ module _ (text tape w w′ : List ℕ) (f : Form) (stays : Stays w w′ f) where
           subst (λ (r : EquationRow). EquationStands text tape w′ (with-counts f n m) r e) (sym row) (equation-stays (equation-row-at w b) e (s .0)),
           equations-stay (b + 8) es (λ i h l. p i (omega arith) (omega arith)) (s .1),
         )
+
+-- ---- a row more
+
+stored : (w : List ℕ) (b : ℕ) (vs : List ℕ) (i : ℕ) → i < length vs → b + length vs ≤ length w → getD (sets w b vs) (b + i) 0 ≡ getD vs i 0
+stored w b [] i h l = absurd (omega arith)
+stored w b (v ∷ vs) zero h l =
+    let z : b + 0 ≡ b = omega arith in
+    ap (λ (j : ℕ). getD (sets (set w b v) (suc b) vs) j 0) z ∙ kept-sets vs (set w b v) (suc b) .below b (omega arith) ∙ getD-set-same w b v 0 (omega arith)
+stored w b (v ∷ vs) (suc i) h l =
+    let z : b + suc i ≡ suc b + i = omega arith in
+    ap (λ (j : ℕ). getD (sets (set w b v) (suc b) vs) j 0) z ∙ stored (set w b v) (suc b) vs i (omega arith) (omega (arith, length-set w b v))
+
+-- a row that is written is read back
+pub row-back : (w : List ℕ) (b : ℕ) (q : EquationRow) (start : ℕ) → b + 6 ≤ length w
+    → equation-row-at (sets w b (equation-words q start)) b
+    ≡ record { home = q .home; position = q .position; tag = q .tag; conditions = q .conditions; start = start; count = q .count }
+unfolding equation-row-at equation-words
+row-back w b q start h =
+    let vs = q .home ∷ q .position ∷ q .tag ∷ q .conditions ∷ start ∷ q .count ∷ [] in
+    let there : (i : ℕ) → i < 6 → getD (sets w b vs) (b + i) 0 ≡ getD vs i 0 = λ i l. stored w b vs i l (omega arith) in
+    let z : b + 0 ≡ b = omega arith in
+    let first : getD (sets w b vs) b 0 ≡ q .home = ap (λ (j : ℕ). getD (sets w b vs) j 0) (sym z) ∙ there 0 (omega arith) in
+    λ i. record {
+      home = first i;
+      position = there 1 (omega arith) i;
+      tag = there 2 (omega arith) i;
+      conditions = there 3 (omega arith) i;
+      start = there 4 (omega arith) i;
+      count = there 5 (omega arith) i;
+    }
+
+-- the rows of ds, and behind them one for e
+pub equations-grow : (text tape w : List ℕ) (f : Form) (b : ℕ) (ds : List ResolvedEquation) (e : ResolvedEquation) → EquationsStand text tape w f b ds
+    → EquationStands text tape w f (equation-row-at w (b + length ds * 8)) e → EquationsStand text tape w f b (ds ++ (e ∷ []))
+equations-grow text tape w f b [] e s r =
+    let z : b + 0 * 8 ≡ b = omega arith in
+    (subst (λ (j : ℕ). EquationStands text tape w f (equation-row-at w j) e) z r, tt)
+equations-grow text tape w f b (d ∷ ds) e s r =
+    let z : b + suc (length ds) * 8 ≡ b + 8 + length ds * 8 = omega arith in
+    (s .0, equations-grow text tape w f (b + 8) ds e (s .1) (subst (λ (j : ℕ). EquationStands text tape w f (equation-row-at w j) e) z r))
