@@ -22,6 +22,7 @@ pub mod GrammarLaws
 pub mod Contract
 pub mod Distinct
 pub mod OrderLaws
+pub mod ListingOrder
 pub mod Mirror
 pub mod Visibly
 pub mod Samples

@@ -59,7 +59,7 @@ node-total = 4096
 
 -- the one size of the working memory, in words of 32 bits: docs/MEMORY.md has its layout
 unfoldable pub memory-size : ℕ
-memory-size = 524288
+memory-size = 1048576
 
 -- the output that the program lends
 unfoldable pub program-output : ℕ

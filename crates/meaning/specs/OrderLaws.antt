@@ -6,7 +6,7 @@ use Prim.Native.Nat.{ℕ, suc}
 use native.Mathlib.Omega.{arith}
 use mathlib.Core.Bool.{Bool, true, false, _&&_, false≢true, true≢false}
 use mathlib.Core.Option.{none, some}
-use mathlib.Core.List.{List, [], _∷_, _++_, append-assoc, append-nil, List·Memᴰ, List·Memᴰ·head, List·Memᴰ·tail, List·Memᴰ·cases-cons, List·Permᴰ, List·Permᴰ·nil, List·Permᴰ·cons, List·Permᴰ·swap, List·Permᴰ·trans, Permᴰ·refl, Permᴰ·symm, Permᴰ·middle, Permᴰ·append-right, Permᴰ·append-nil}
+use mathlib.Core.List.{List, [], _∷_, _++_, map, append-assoc, append-nil, List·Memᴰ, List·Memᴰ·head, List·Memᴰ·tail, List·Memᴰ·cases-cons, List·Permᴰ, List·Permᴰ·nil, List·Permᴰ·cons, List·Permᴰ·swap, List·Permᴰ·trans, Permᴰ·refl, Permᴰ·symm, Permᴰ·middle, Permᴰ·append-right, Permᴰ·append-nil}
 use lib.Dec.{eqb, leb}
 use lib.ListN.{length}
 use borrow.Author.Tests.{leb-true, leb-false, eqb-true, le-leb, eq-eqb, ne-eqb}
@@ -267,6 +267,24 @@ module _ {A : Type 0} (le : A → A → Bool) where
   -- and their number
   pub sorted-length : (xs : List A) → length (sorted le xs) ≡ length xs
   sorted-length xs = sym (rearranged-length (sorted-rearranged xs))
+
+-- where an order looks at what is made of the items, sorting them sorts what is made of them
+module _ {A B : Type 0} (key : A → B) (le : A → A → Bool) (le′ : B → B → Bool) (agree : (a b : A) → le a b ≡ le′ (key a) (key b)) where
+  placed-map : (a : A) (xs : List A) → map key (place-in le a xs) ≡ place-in le′ (key a) (map key xs)
+  unfolding place-in pick
+  placed-map a [] = refl
+  placed-map a (x ∷ xs) = rw (← agree x a) (go (le x a) (placed-map a xs))
+    where
+      go : (b : Bool) → map key (place-in le a xs) ≡ place-in le′ (key a) (map key xs)
+          → map key (pick b (x ∷ place-in le a xs) (a ∷ x ∷ xs))
+          ≡ pick b (key x ∷ place-in le′ (key a) (map key xs)) (key a ∷ key x ∷ map key xs)
+      go true i = ap (key x ∷_) i
+      go false i = refl
+
+  pub sorted-map : (acc xs : List A) → map key (sorted-onto le acc xs) ≡ sorted-onto le′ (map key acc) (map key xs)
+  unfolding sorted-onto
+  sorted-map acc [] = refl
+  sorted-map acc (x ∷ xs) = sorted-map (place-in le x acc) xs ∙ ap (λ ys. sorted-onto le′ ys (map key xs)) (placed-map x acc)
 
 module _ {A : Type 0} {le : A → A → Bool} (order : IsOrder le) where
   every-after : (a x : A) → le a x ≡ true → (xs : List A) → Every (λ y. le x y ≡ true) xs → Every (λ y. le a y ≡ true) xs

@@ -32,8 +32,14 @@ pub mod Premises
 pub mod ListingLaws
 pub mod SameListing
 pub mod Told
+pub mod Parts
 pub mod Sound
+pub mod WellTyped
+pub mod TypedBinding
+pub mod TypedOwn
+pub mod TermsTold
 pub mod SoundEvaluation
+pub mod AcceptedForms
 pub mod PlainText
 pub mod OneListing
 -- the count of modules

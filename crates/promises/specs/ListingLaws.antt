@@ -14,7 +14,7 @@ use Rattle.meaning.specs.Lists.{pick, before, each, agree}
 use Rattle.meaning.specs.Names.{bytes, byte, Name, same}
 use Rattle.meaning.specs.Tokens.{is-in, is-word}
 use Rattle.meaning.specs.Written.{digits, decimal, numbered, sort-text, function-type-text, shape-text, shape-rank, argument-text, head-text, variable-text, term-text, term-texts, sides-text, conditions-text, equation-text, between-marks, type-text, section-text, declared-text, origin-text}
-use Rattle.meaning.specs.Origins.{Section, export-section, hidden-section, parameter-section, Declared, declared-sort, declared-function, declared-variable, Origin, same-section, same-declared, same-origin, Sort, visible-sort, hidden-sort, same-sort, same-type, Shape, sort-shape, function-shape, variable-shape, same-shape, Item, Head, visible-head, hidden-head, ResolvedTerm, var, app, ResolvedTerms, none-left, _and-then_, ResolvedSides, ResolvedEquation}
+use Rattle.meaning.specs.Origins.{Section, export-section, hidden-section, parameter-section, Declared, declared-sort, declared-function, declared-variable, Origin, same-section, same-declared, same-origin, Sort, visible-sort, hidden-sort, same-sort, FunctionType, same-type, Shape, sort-shape, function-shape, variable-shape, same-shape, Item, one-item, Head, visible-head, hidden-head, ResolvedTerm, var, app, ResolvedTerms, none-left, _and-then_, ResolvedSides, ResolvedEquation}
 use Rattle.meaning.specs.Listing.{Line, line-text, lines-text}
 use Rattle.meaning.specs.OrderLaws.{Every, same-self, same-equal}
 
@@ -219,7 +219,7 @@ pub record PlainOrigin (o : Origin) : Type 0 where
   pub declared : PlainDeclared (o .declared)
 
 -- texts that begin differently
-apart : {X : Type 0} {b c : ℕ} {s t : List ℕ} → eqb b c ≡ false → b ∷ s ≡ c ∷ t → X
+pub apart : {X : Type 0} {b c : ℕ} {s t : List ℕ} → eqb b c ≡ false → b ∷ s ≡ c ∷ t → X
 apart {b} {c} d e = absurd (eqb-false b c d (first-of e))
 
 told-section : (s t : Section) → section-text s ≡ section-text t → s ≡ t
@@ -357,18 +357,18 @@ pub both-true : (p q : Bool) → (p && q) ≡ true → (p ≡ true) × (q ≡ tr
 both-true true q e = (refl, e)
 both-true false q e = absurd (false≢true e)
 
-agree-same : (ws vs : List Name) → agree same ws vs ≡ true → ws ≡ vs
+pub agree-equal : {A : Type 0} (one : A → A → Bool) → ((a b : A) → one a b ≡ true → a ≡ b) → (xs ys : List A) → agree one xs ys ≡ true → xs ≡ ys
 unfolding agree pick
-agree-same [] [] e = refl
-agree-same [] (v ∷ vs) e = absurd (false≢true e)
-agree-same (w ∷ ws) [] e = absurd (false≢true e)
-agree-same (w ∷ ws) (v ∷ vs) e = go (same w v) refl e (agree-same ws vs)
+agree-equal one h [] [] e = refl
+agree-equal one h [] (y ∷ ys) e = absurd (false≢true e)
+agree-equal one h (x ∷ xs) [] e = absurd (false≢true e)
+agree-equal one h (x ∷ xs) (y ∷ ys) e = go (one x y) refl e (agree-equal one h xs ys)
   where
-    go : (p : Bool) → same w v ≡ p → pick p (agree same ws vs) false ≡ true → (agree same ws vs ≡ true → ws ≡ vs) → w ∷ ws ≡ v ∷ vs
-    go true q e i = ap₂ _∷_ (same-equal w v q) (i e)
+    go : (p : Bool) → one x y ≡ p → pick p (agree one xs ys) false ≡ true → (agree one xs ys ≡ true → xs ≡ ys) → x ∷ xs ≡ y ∷ ys
+    go true q e i = ap₂ _∷_ (h x y q) (i e)
     go false q e i = absurd (false≢true e)
 
-agree-self : {A : Type 0} (one : A → A → Bool) → ((a : A) → one a a ≡ true) → (xs : List A) → agree one xs xs ≡ true
+pub agree-self : {A : Type 0} (one : A → A → Bool) → ((a : A) → one a a ≡ true) → (xs : List A) → agree one xs xs ≡ true
 unfolding agree pick
 agree-self one h [] = refl
 agree-self one h (x ∷ xs) = rw (h x) (agree-self one h xs)
@@ -400,7 +400,7 @@ declared-equal (declared-function f i o) (declared-sort b) e = absurd (false≢t
 declared-equal (declared-function f i o) (declared-function g j p) e =
     let r = both-true _ _ e in
     let t = both-true _ _ (r .0) in
-    λ x. declared-function (same-equal f g (t .0) x) (agree-same i j (t .1) x) (same-equal o p (r .1) x)
+    λ x. declared-function (same-equal f g (t .0) x) (agree-equal same same-equal i j (t .1) x) (same-equal o p (r .1) x)
 declared-equal (declared-function f i o) (declared-variable w t) e = absurd (false≢true e)
 declared-equal (declared-variable v s) (declared-sort b) e = absurd (false≢true e)
 declared-equal (declared-variable v s) (declared-function g j p) e = absurd (false≢true e)
@@ -427,7 +427,7 @@ pub origin-self : (o : Origin) → same-origin o o ≡ true
 unfolding same-origin
 origin-self o = rw (same-self (o .home), section-self (o .section), declared-self (o .declared))
 
-sort-self : (s : Sort) → same-sort s s ≡ true
+pub sort-self : (s : Sort) → same-sort s s ≡ true
 unfolding same-sort
 sort-self (visible-sort a) = same-self a
 sort-self (hidden-sort o) = origin-self o
@@ -437,6 +437,45 @@ unfolding same-shape same-type
 shape-self sort-shape = refl
 shape-self (function-shape t) = rw (agree-self same-sort sort-self (t .inputs), sort-self (t .output))
 shape-self (variable-shape s) = sort-self s
+
+pub sort-equal : (s t : Sort) → same-sort s t ≡ true → s ≡ t
+unfolding same-sort
+sort-equal (visible-sort a) (visible-sort b) e = ap visible-sort (same-equal a b e)
+sort-equal (visible-sort a) (hidden-sort p) e = absurd (false≢true e)
+sort-equal (hidden-sort o) (visible-sort b) e = absurd (false≢true e)
+sort-equal (hidden-sort o) (hidden-sort p) e = ap hidden-sort (origin-equal o p e)
+
+type-equal : (t u : FunctionType) → same-type t u ≡ true → t ≡ u
+unfolding same-type
+type-equal t u e =
+    let r = both-true _ _ e in
+    let inputs = agree-equal same-sort sort-equal (t .inputs) (u .inputs) (r .0) in
+    let output = sort-equal (t .output) (u .output) (r .1) in
+    λ x. record { inputs = inputs x; output = output x }
+
+pub shape-equal : (s t : Shape) → same-shape s t ≡ true → s ≡ t
+unfolding same-shape
+shape-equal sort-shape sort-shape e = refl
+shape-equal sort-shape (function-shape u) e = absurd (false≢true e)
+shape-equal sort-shape (variable-shape r) e = absurd (false≢true e)
+shape-equal (function-shape t) sort-shape e = absurd (false≢true e)
+shape-equal (function-shape t) (function-shape u) e = ap function-shape (type-equal t u e)
+shape-equal (function-shape t) (variable-shape r) e = absurd (false≢true e)
+shape-equal (variable-shape s) sort-shape e = absurd (false≢true e)
+shape-equal (variable-shape s) (function-shape u) e = absurd (false≢true e)
+shape-equal (variable-shape s) (variable-shape r) e = ap variable-shape (sort-equal s r e)
+
+pub item-equal : (a b : Item) → one-item a b ≡ true → a ≡ b
+unfolding one-item
+item-equal a b e =
+    let r = both-true _ _ e in
+    let s = both-true _ _ (r .0) in
+    let t = both-true _ _ (s .0) in
+    let standings = section-equal (a .standing) (b .standing) (t .0) in
+    let names = same-equal (a .name) (b .name) (t .1) in
+    let shapes = shape-equal (a .shape) (b .shape) (s .1) in
+    let origins = origin-equal (a .origin) (b .origin) (r .1) in
+    λ x. record { standing = standings x; name = names x; shape = shapes x; origin = origins x }
 
 -- ---- sorts and types of items, where `hidden` are the hidden items in order
 
@@ -453,29 +492,39 @@ ShapeIn hidden sort-shape = Unit {0}
 ShapeIn hidden (function-shape t) = Every (SortIn hidden) (t .inputs) × SortIn hidden (t .output)
 ShapeIn hidden (variable-shape s) = SortIn hidden s
 
+-- where the first to pass the one test stands at the place of the first to pass the other, it passes both
+module _ {A : Type 0} (p q : A → Bool) where
+  pub passes-both : (xs : List A) (a b : A) → List·Memᴰ a xs → p a ≡ true → List·Memᴰ b xs → q b ≡ true → before p xs ≡ before q xs
+      → (x : A) × (p x ≡ true) × (q x ≡ true)
+  unfolding before pick
+  passes-both [] a b m f k g e = elim m [ ]
+  passes-both (x ∷ xs) a b m f k g e = go (p x) (q x) refl refl e (passes-both xs a b)
+    where
+      later : (r : A → Bool) (c : A) → r x ≡ false → r c ≡ true → List·Memᴰ c (x ∷ xs) → List·Memᴰ c xs
+      later r c n y m = ⊎-elim (λ (h : c ≡ x). absurd (false≢true (sym n ∙ ap r (sym h) ∙ y))) (λ k. k) (List·Memᴰ·cases-cons m)
+
+      go : (s t : Bool) → p x ≡ s → q x ≡ t → pick s 0 (suc (before p xs)) ≡ pick t 0 (suc (before q xs))
+          → (List·Memᴰ a xs → p a ≡ true → List·Memᴰ b xs → q b ≡ true → before p xs ≡ before q xs → (y : A) × (p y ≡ true) × (q y ≡ true))
+          → (y : A) × (p y ≡ true) × (q y ≡ true)
+      go true true s t e i = (x, s, t)
+      go true false s t e i = absurd (omega arith)
+      go false true s t e i = absurd (omega arith)
+      go false false s t e i = i (later p a s f m) f (later q b t g k) g (omega arith)
+
+pub before-map : {A B : Type 0} (f : A → B) (p : B → Bool) (xs : List A) → before (λ (x : A). p (f x)) xs ≡ before p (map f xs)
+unfolding before
+before-map f p [] = refl
+before-map f p (x ∷ xs) = ap (λ (k : ℕ). pick (p (f x)) 0 (suc k)) (before-map f p xs)
+
 -- the place of an origin among those of the items tells the origin
 told-before : (is : List Item) (o p : Origin) → List·Memᴰ o (origins-of is) → List·Memᴰ p (origins-of is)
     → before (λ (i : Item). same-origin o (i .origin)) is ≡ before (λ (i : Item). same-origin p (i .origin)) is → o ≡ p
-unfolding before pick
-told-before [] o p m k e = elim m [ ]
-told-before (i ∷ is) o p m k e = go (same-origin o (i .origin)) (same-origin p (i .origin)) refl refl e (told-before is o p)
-  where
-    later : (q : Origin) → same-origin q (i .origin) ≡ false → List·Memᴰ q (origins-of (i ∷ is)) → List·Memᴰ q (origins-of is)
-    later q f m =
-        ⊎-elim (λ (h : q ≡ i .origin). absurd (false≢true (sym f ∙ ap (λ (x : Origin). same-origin x (i .origin)) h ∙ origin-self (i .origin))))
-        (λ r. r) (List·Memᴰ·cases-cons m)
+told-before is o p m k e =
+    let at = before-map (λ (i : Item). i .origin) in
+    let r = passes-both (same-origin o) (same-origin p) (origins-of is) o p m (origin-self o) k (origin-self p) (sym (at _ is) ∙ e ∙ at _ is) in
+    origin-equal o (r .0) (r .1) ∙ sym (origin-equal p (r .0) (r .2))
 
-    go : (a b : Bool) → same-origin o (i .origin) ≡ a → same-origin p (i .origin) ≡ b
-        → pick a 0 (suc (before (λ (j : Item). same-origin o (j .origin)) is)) ≡ pick b 0 (suc (before (λ (j : Item). same-origin p (j .origin)) is))
-        → (List·Memᴰ o (origins-of is) → List·Memᴰ p (origins-of is)
-        → before (λ (j : Item). same-origin o (j .origin)) is ≡ before (λ (j : Item). same-origin p (j .origin)) is → o ≡ p)
-        → o ≡ p
-    go true true a b e i′ = origin-equal o (i .origin) a ∙ sym (origin-equal p (i .origin) b)
-    go true false a b e i′ = absurd (omega arith)
-    go false true a b e i′ = absurd (omega arith)
-    go false false a b e i′ = i′ (later o a m) (later p b k) (omega arith)
-
-before-most : {A : Type 0} (p : A → Bool) (xs : List A) → before p xs ≤ length xs
+pub before-most : {A : Type 0} (p : A → Bool) (xs : List A) → before p xs ≤ length xs
 unfolding before
 before-most p [] = omega arith
 before-most p (x ∷ xs) = let r = before-most p xs in by-cases (λ (k : ℕ). k ≤ suc (length xs)) _ _ _ (λ e. omega arith) (λ e. omega arith)
@@ -487,7 +536,7 @@ module _ (hidden : List Item) (few : length hidden + 1 < 10 ^ 10) where
   sort-written (hidden-sort o) h = number-written _
 
   -- a name does not begin with a brace
-  no-name : {X : Type 0} (a : Name) (k : ℕ) → Plain a → a ≡ numbered k → X
+  pub no-name : {X : Type 0} (a : Name) (k : ℕ) → Plain a → a ≡ numbered k → X
   unfolding numbered in-name is-word pick
   no-name a k h e = absurd (false≢true (subst (Within in-name) e (h .letters) .0))
 

@@ -1,55 +1,39 @@
--- One listing for each accepted normal form: it does not depend on the order in which things were found, and from it the items and the
--- equations as written can be told. What cannot be told is at the end, `not-told`.
-use mathlib.Core.Path.{_≡_, refl, sym, ap, subst, _∙_}
-use Prim.Native.Nat.{ℕ, _+_, _-_}
-use mathlib.Core.Bool.{Bool, not}
-use mathlib.Core.List.{List, [], _∷_, _++_, map, List·Memᴰ, List·Permᴰ·trans}
-use Rattle.meaning.specs.Lists.{each}
-use Rattle.meaning.specs.Names.{bytes, Name, same}
-use Rattle.meaning.specs.Origins.{Section, export-section, parameter-section, hidden-section, Item, ResolvedEquation}
-use Rattle.meaning.specs.Checks.{in-parameter}
-use Rattle.meaning.specs.Syntax.{_then_, Module}
-use Rattle.meaning.specs.Clauses.{formals}
-use Rattle.meaning.specs.Normal.{Visible, Normal}
-use Rattle.meaning.specs.Written.{equation-order, visible-order, visible-in-order, hidden-order, hidden-in-order, in-order}
-use Rattle.meaning.specs.Listing.{is-exported, lines-text, listing-lines}
+-- One listing for each accepted normal form: neither depends on the order in which things were found, and from the listing the normal form
+-- can be told, but for the module and the position of an equation, which are not written: `not-told`.
+use mathlib.Core.Path.{_≡_, refl, sym, ap, _∙_}
+use Prim.Native.Nat.{ℕ}
+use mathlib.Core.List.{List, [], _∷_, _++_, map}
+use Rattle.meaning.specs.Laws.{by-cases}
+use Rattle.meaning.specs.Names.{bytes, Name}
+use Rattle.meaning.specs.Origins.{ResolvedEquation}
+use Rattle.meaning.specs.Syntax.{Module}
+use Rattle.meaning.specs.Normal.{Normal}
+use Rattle.meaning.specs.Written.{in-order}
+use Rattle.meaning.specs.Listing.{lines-text, listing-lines}
 use Rattle.meaning.specs.Numbers.{memory-size, program-output}
-use Rattle.meaning.specs.Grammar.{State, Result, done, refused, exports, imports, equation, modules, is, read}
+use Rattle.meaning.specs.Grammar.{State, Result, done, refused, read}
 use Rattle.meaning.specs.Reached.{Ended, normalised, refused-at, normalise}
-use Rattle.meaning.specs.Answer.{listing, answer}
+use Rattle.meaning.specs.Answer.{Answer, listing, refusal, of-ended, of-read, within, answer}
 use Rattle.meaning.specs.Trials.{all-opened}
-use Rattle.meaning.specs.OrderLaws.{sorted-rearranged, Every, same-self}
-use Rattle.promises.specs.SameListing.{SameNormal, items-in-order, kept-member, one-listing, sorts-in-order}
-use Rattle.promises.specs.Told.{SameListed, StandsIn, exported-of}
-use Rattle.promises.specs.Sound.{every-member, member-keep}
-use Rattle.promises.specs.SoundEvaluation.{Accepted, one-normal-form}
+use Rattle.promises.specs.ListingLaws.{NonEmpty}
+use Rattle.promises.specs.SameListing.{SameNormal, one-listing}
+use Rattle.promises.specs.WellTyped.{WellTyped}
+use Rattle.promises.specs.TermsTold.{content}
+use Rattle.promises.specs.SoundEvaluation.{Accepted, AcceptedCall, one-normal-form}
+use Rattle.promises.specs.AcceptedForms.{accepted-one-order, found-same, one-content, one-visible, same-itself, same-then}
 use Rattle.promises.specs.PlainText.{accepted-text}
 
 -- ---- the two halves of "one listing", for whatever is accepted
-
-same-ordered : (n : Normal) → SameNormal n (in-order n)
-unfolding in-order visible-in-order hidden-in-order
-same-ordered n = record {
-  parameters = sorted-rearranged _ (n .visible .parameters);
-  items = sorted-rearranged visible-order (n .visible .items);
-  hidden-items = sorted-rearranged (hidden-order (sorts-in-order (n .hidden .items))) (n .hidden .items);
-  equations = sorted-rearranged (equation-order (items-in-order (n .hidden .items))) (n .hidden .equations);
-}
-
-same-then : (a b c : Normal) → SameNormal a b → SameNormal b c → SameNormal a c
-same-then a b c s t = record {
-  parameters = List·Permᴰ·trans (s .parameters) (t .parameters);
-  items = List·Permᴰ·trans (s .items) (t .items);
-  hidden-items = List·Permᴰ·trans (s .hidden-items) (t .hidden-items);
-  equations = List·Permᴰ·trans (s .equations) (t .equations);
-}
 
 -- a normal form with the items and equations of an accepted one, found in whatever order, has its listing
 pub accepted-one-listing : (asked : Name) (k n : Normal) → Accepted k → SameNormal k n
     → lines-text (listing-lines asked k) ≡ lines-text (listing-lines asked (in-order n))
 accepted-one-listing asked k n a s =
-    let t = subst (SameNormal (a .found)) (sym (a .ordered)) (same-ordered (a .found)) in
-    ap (λ x. lines-text (listing-lines asked x)) (a .ordered) ∙ one-listing (a .found) n (same-then (a .found) k n t s) (a .told) asked
+    ap (λ x. lines-text (listing-lines asked x)) (a .ordered) ∙ one-listing (a .found) n (same-then (a .found) k n (found-same k a) s) (a .told) asked
+
+-- two accepted ones with the same items and equations are one
+pub accepted-one-form : (k n : Normal) → Accepted k → Accepted n → SameNormal k n → k ≡ n
+accepted-one-form k n a b s = accepted-one-order k n a s ∙ sym (accepted-one-order n n b (same-itself n))
 
 -- a call that is read and accepted: its text, its modules, the count, and the normal form
 pub record AcceptedText (asked : Name) (n : Normal) : Type 0 where
@@ -60,41 +44,73 @@ pub record AcceptedText (asked : Name) (n : Normal) : Type 0 where
   pub is-read : read text ≡ done modules-read state
   pub is-accepted : normalise asked modules-read ≡ normalised count n
 
--- two accepted calls with one listing asked for one module, and have the same visible items, parameters and hidden items, and the same
--- equations as written
+pub accepted-call : (asked : Name) (n : Normal) → AcceptedText asked n → AcceptedCall asked n
+accepted-call asked n a = accepted-text (a .text) asked (a .modules-read) (a .state) (a .count) n (a .is-read) (a .is-accepted)
+
+-- every equation of it is well typed, over its own items
+pub accepted-well-typed : (asked : Name) (n : Normal) → AcceptedText asked n → WellTyped n
+accepted-well-typed asked n a = accepted-call asked n a .normal .whole .typed
+
+-- the same visible part, hidden items, and equations but for their modules and positions: tags, terms and types are the same, in the same order
+pub record SameForm (m m′ : Name) (n n′ : Normal) : Type 0 where
+  pub asked : m ≡ m′
+  pub visible : n .visible ≡ n′ .visible
+  pub hidden : n .hidden .items ≡ n′ .hidden .items
+  pub equations : map content (n .hidden .equations) ≡ map content (n′ .hidden .equations)
+
+-- two accepted calls with one listing asked for one module, and have one normal form, as far as document 01 writes it
 pub accepted-told : (asked asked′ : Name) (n n′ : Normal) → AcceptedText asked n → AcceptedText asked′ n′
-    → lines-text (listing-lines asked n) ≡ lines-text (listing-lines asked′ n′) → SameListed asked asked′ n n′
-accepted-told asked asked′ n n′ a a′ e =
-    one-normal-form asked asked′ n n′
-    (accepted-text (a .text) asked (a .modules-read) (a .state) (a .count) n (a .is-read) (a .is-accepted))
-    (accepted-text (a′ .text) asked′ (a′ .modules-read) (a′ .state) (a′ .count) n′ (a′ .is-read) (a′ .is-accepted)) e
+    → lines-text (listing-lines asked n) ≡ lines-text (listing-lines asked′ n′) → SameForm asked asked′ n n′
+accepted-told asked asked′ n n′ t t′ e =
+    let a = accepted-call asked n t in
+    let a′ = accepted-call asked′ n′ t′ in
+    let s = one-normal-form asked asked′ n n′ a a′ e in
+    record {
+      asked = s .asked;
+      visible = one-visible asked asked′ n n′ (a .normal) (a′ .normal) s;
+      hidden = s .hidden;
+      equations = one-content asked asked′ n n′ (a .normal) (a′ .normal) s;
+    }
 
--- each visible item of the one is a visible item of the other: what is listed apart, as exported and by parameters, is all that is visible
-shown-in : (v v′ : Visible) → Every (λ i. StandsIn (v .parameters) (i .standing)) (v .items) → exported-of v ≡ exported-of v′
-    → Every (λ p. formals p v ≡ formals p v′) (v .parameters) → (i : Item) → List·Memᴰ i (v .items) → List·Memᴰ i (v′ .items)
-unfolding is-exported formals in-parameter
-shown-in v v′ stand e f i m = go (i .standing) refl (every-member (λ j. StandsIn (v .parameters) (j .standing)) (v .items) stand i m)
-  where
-    exported : Item → Bool
-    exported j = is-exported (j .standing)
+-- ---- the same of answers, whatever memory and output are lent
 
-    go : (s : Section) → i .standing ≡ s → StandsIn (v .parameters) (i .standing) → List·Memᴰ i (v′ .items)
-    go export-section q h =
-        kept-member exported (v′ .items) (subst (List·Memᴰ i) e (member-keep exported (v .items) i m (ap is-exported q))) .0
-    go hidden-section q h = absurd (subst (StandsIn (v .parameters)) q h)
-    go (parameter-section p) q h =
-        let inside : Item → Bool = λ j. in-parameter p (j .standing) in
-        let known = subst (StandsIn (v .parameters)) q h in
-        let there = member-keep inside (v .items) i m (ap (in-parameter p) q ∙ same-self p) in
-        kept-member inside (v′ .items) (subst (List·Memᴰ i) (every-member (λ w. formals w v ≡ formals w v′) (v .parameters) f p known) there) .0
+-- an answer whose lines list the normal form of an accepted call
+pub record Listed (asked : Name) (r : Answer) : Type 0 where
+  pub normal : Normal
+  pub accepted : AcceptedText asked normal
+  pub lists : r .lines ≡ listing-lines asked normal
 
-pub accepted-items-told : (asked asked′ : Name) (n n′ : Normal) → AcceptedText asked n → AcceptedText asked′ n′
-    → lines-text (listing-lines asked n) ≡ lines-text (listing-lines asked′ n′)
-    → (i : Item) → List·Memᴰ i (n .visible .items) → List·Memᴰ i (n′ .visible .items)
-accepted-items-told asked asked′ n n′ a a′ e =
-    let t = accepted-told asked asked′ n n′ a a′ e in
-    let c = accepted-text (a .text) asked (a .modules-read) (a .state) (a .count) n (a .is-read) (a .is-accepted) in
-    shown-in (n .visible) (n′ .visible) (c .normal .sound .standing) (t .exported) (t .inside)
+abbrev IfLines : Name → Answer → Type 0
+IfLines asked r = NonEmpty (r .lines) → Listed asked r
+
+module _ (asked : Name) (text : List ℕ) where
+  ended-listed : (ms : List Module) (s : State) → read text ≡ done ms s → (e : Ended) → normalise asked ms ≡ e → IfLines asked (of-ended asked e)
+  unfolding of-ended refusal
+  ended-listed ms s r (normalised count n) e h = record {
+    normal = n;
+    accepted = record { text = text; modules-read = ms; state = s; count = count; is-read = r; is-accepted = e };
+    lists = refl;
+  }
+  ended-listed ms s r (refused-at number count m w) e h = absurd h
+
+  read-listed : (r : Result (List Module)) → read text ≡ r → IfLines asked (of-read asked r)
+  unfolding of-read refusal
+  read-listed (done ms s) e = ended-listed ms s e (normalise asked ms) refl
+  read-listed (refused number at) e = λ h. absurd h
+
+  -- every answer that has lines
+  pub answer-listed : (memory output : ℕ) → IfLines asked (answer memory output asked text)
+  unfolding answer within refusal
+  answer-listed memory output =
+      by-cases (IfLines asked) _ _ _ (λ b. λ h. absurd h)
+      (λ b. by-cases (IfLines asked) _ _ _ (λ c. read-listed (read text) refl) (λ c. λ h. absurd h))
+
+-- two answers with one listing have one normal form, as far as document 01 writes it
+pub answers-told : (asked asked′ : Name) (r r′ : Answer) (l : Listed asked r) (l′ : Listed asked′ r′) → listing r ≡ listing r′
+    → SameForm asked asked′ (l .normal) (l′ .normal)
+answers-told asked asked′ r r′ l l′ e =
+    accepted-told asked asked′ (l .normal) (l′ .normal) (l .accepted) (l′ .accepted)
+    (sym (ap lines-text (l .lists)) ∙ e ∙ ap lines-text (l′ .lists))
 
 -- ---- what a listing does not tell: to which module an equation belongs, and its position there. Below, `f` stands in N1 in the one
 -- specification and in N2 in the other; M has two different normal forms, with one listing

@@ -1,21 +1,19 @@
 -- A normal form's listing does not depend on the order in which its items and equations were found: `one-listing`.
 use mathlib.Core.Path.{_≡_, refl, sym, ap, _∙_}
-use mathlib.Core.Logic.{_⊎_, ⊎-elim}
-use Prim.Native.Nat.{ℕ, _-_}
+use mathlib.Core.Logic.{⊎-elim}
 use mathlib.Core.Bool.{Bool, true, false, not, false≢true}
 use mathlib.Core.List.{List, [], _∷_, map, List·Memᴰ, List·Memᴰ·head, List·Memᴰ·tail, List·Memᴰ·cases-cons, List·Permᴰ·nil, List·Permᴰ·cons, List·Permᴰ·swap, List·Permᴰ·trans, Permᴰ·refl, Permᴰ·map}
-use lib.Dec.{eqb, leb}
 use borrow.Author.Tests.{eqb-true}
-use Rattle.meaning.specs.Lists.{pick, keep, any, place-in, sorted-onto, sorted}
-use Rattle.meaning.specs.Names.{Name, same, not-after, by-name, by-two}
+use Rattle.meaning.specs.Lists.{pick, keep, any, sorted}
+use Rattle.meaning.specs.Names.{Name, same, by-name}
 use Rattle.meaning.specs.Origins.{Shape, sort-shape, function-shape, variable-shape, is-sort, Item, ResolvedEquation}
-use Rattle.meaning.specs.Syntax.{_then_}
-use Rattle.meaning.specs.Normal.{Normal, sorts-among}
+use Rattle.meaning.specs.Normal.{Visible, Normal, sorts-among}
 use Rattle.meaning.specs.Written.{origin-text, shape-text, equation-text, equation-order, shape-rank, standing-text, visible-order, visible-in-order, hidden-order, hidden-in-order, in-order}
 use Rattle.meaning.specs.Listing.{line, lines-text, equation-line, hidden-lines, listing-lines}
 use Rattle.meaning.specs.Grammar.{name, equation, is}
 use Rattle.meaning.specs.Answer.{listing}
-use Rattle.meaning.specs.OrderLaws.{IsOrder, Levelled, Rearranged, NoTie, order-of, levelled-of, then-total, then-transitive, then-both, numbers-levelled, names-levelled, names-ordered, same-equal, not-after-antisymmetric, by-two-ordered, by-two-both, sorted-one}
+use Rattle.meaning.specs.OrderLaws.{Rearranged, NoTie, order-of, then-both, names-ordered, same-equal, not-after-antisymmetric, by-two-both, sorted-map, sorted-one}
+use Rattle.meaning.specs.ListingOrder.{by-standing, by-rank, visible-ordered, hidden-ordered, Place, place-order, by-home, by-position, place-ordered}
 
 -- ---- the same items and equations, in whatever order
 
@@ -55,27 +53,6 @@ pub record ItemsTold (n : Normal) : Type 0 where
 
 -- ---- the visible part
 
-by-standing :
-    Levelled (λ (a b : Item). same (standing-text (a .standing)) (standing-text (b .standing)))
-    (λ (a b : Item). not-after (standing-text (a .standing)) (standing-text (b .standing)))
-by-standing = levelled-of names-levelled (λ (i : Item). standing-text (i .standing))
-
-by-rank :
-    Levelled (λ (a b : Item). eqb (shape-rank (a .shape)) (shape-rank (b .shape)))
-    (λ (a b : Item). leb (shape-rank (a .shape)) (shape-rank (b .shape)))
-by-rank = levelled-of numbers-levelled (λ (i : Item). shape-rank (i .shape))
-
-by-name-and-type : IsOrder (by-two (λ (i : Item). i .name) (λ (i : Item). shape-text [] (i .shape)))
-by-name-and-type = by-two-ordered (λ (i : Item). i .name) (λ (i : Item). shape-text [] (i .shape))
-
-visible-ordered : IsOrder visible-order
-unfolding visible-order
-visible-ordered = record {
-  total = λ a b e. then-total by-standing a b _ _ (λ f. then-total by-rank a b _ _ (by-name-and-type .total a b) f) e;
-  transitive = λ a b c e f.
-      then-transitive by-standing a b c _ _ _ (λ g h. then-transitive by-rank a b c _ _ _ (by-name-and-type .transitive a b c) g h) e f;
-}
-
 visible-no-tie : (is : List Item) → VisibleTold is → NoTie visible-order is
 unfolding visible-order
 visible-no-tie is told a b m k e f =
@@ -84,13 +61,11 @@ visible-no-tie is told a b m k e f =
     let t = by-two-both (λ (i : Item). i .name) (λ (i : Item). shape-text [] (i .shape)) a b (s .1) (s .2) in
     told a b m k (same-equal _ _ (r .0)) (eqb-true _ _ (s .0)) (t .0) (t .1)
 
-pub visible-one : (n n′ : Normal) → SameNormal n n′ → ItemsTold n → visible-in-order (n .visible) ≡ visible-in-order (n′ .visible)
+pub visible-one : (v v′ : Visible) → Rearranged (v .parameters) (v′ .parameters) → Rearranged (v .items) (v′ .items) → VisibleTold (v .items)
+    → visible-in-order v ≡ visible-in-order v′
 unfolding visible-in-order
-visible-one n n′ s t =
-    rw (
-      sorted-one names-ordered (s .parameters) (λ v w m k e f. not-after-antisymmetric v w e f),
-      sorted-one visible-ordered (s .items) (visible-no-tie (n .visible .items) (t .visible)),
-    )
+visible-one v v′ p d told =
+    rw (sorted-one names-ordered p (λ u w m k e f. not-after-antisymmetric u w e f), sorted-one visible-ordered d (visible-no-tie (v .items) told))
 
 -- ---- the hidden items
 
@@ -141,16 +116,6 @@ module _ (is is′ : List Item) (d : Rearranged is is′) (told : HiddenTold (so
       let shapes = sort-only (a .shape) (p .1) ∙ sym (sort-only (b .shape) (q .1)) in
       told a b (p .0) (q .0) (ap shape-rank shapes) (not-after-antisymmetric _ _ e f) (ap (shape-text (sorts-in-order is)) shapes))
 
-hidden-ordered : (sorts : List Item) → IsOrder (hidden-order sorts)
-unfolding hidden-order
-hidden-ordered sorts = record {
-  total = λ a b e. then-total by-rank a b _ _ (by-origin-and-type .total a b) e;
-  transitive = λ a b c e f. then-transitive by-rank a b c _ _ _ (by-origin-and-type .transitive a b c) e f;
-}
-  where
-    by-origin-and-type : IsOrder (by-two (λ (i : Item). origin-text (i .origin)) (λ (i : Item). shape-text sorts (i .shape)))
-    by-origin-and-type = by-two-ordered (λ (i : Item). origin-text (i .origin)) (λ (i : Item). shape-text sorts (i .shape))
-
 hidden-no-tie : (sorts is : List Item) → HiddenTold sorts is → NoTie (hidden-order sorts) is
 unfolding hidden-order
 hidden-no-tie sorts is told a b m k e f =
@@ -168,33 +133,6 @@ hidden-items-one is is′ d told =
 
 -- ---- equations are sorted by module, position and written line
 
-record Place : Type 0 where
-  home : ℕ
-  position : ℕ
-  text : List ℕ
-
-place-order : Place → Place → Bool
-place-order a b =
-    let by-position = pick (eqb (a .position) (b .position)) (not-after (a .text) (b .text)) (leb (a .position) (b .position)) in
-    pick (eqb (a .home) (b .home)) by-position (leb (a .home) (b .home))
-
-by-home : Levelled (λ (a b : Place). eqb (a .home) (b .home)) (λ (a b : Place). leb (a .home) (b .home))
-by-home = levelled-of numbers-levelled (λ (a : Place). a .home)
-
-by-position : Levelled (λ (a b : Place). eqb (a .position) (b .position)) (λ (a b : Place). leb (a .position) (b .position))
-by-position = levelled-of numbers-levelled (λ (a : Place). a .position)
-
-place-ordered : IsOrder place-order
-unfolding place-order
-place-ordered = record {
-  total = λ a b e. then-total by-home a b _ _ (λ f. then-total by-position a b _ _ (by-text .total a b) f) e;
-  transitive = λ a b c e f.
-      then-transitive by-home a b c _ _ _ (λ g h. then-transitive by-position a b c _ _ _ (by-text .transitive a b c) g h) e f;
-}
-  where
-    by-text : IsOrder (λ (a b : Place). not-after (a .text) (b .text))
-    by-text = order-of names-ordered (λ (a : Place). a .text)
-
 -- places in order both ways round are equal
 place-told : (a b : Place) → place-order a b ≡ true → place-order b a ≡ true → a ≡ b
 unfolding place-order
@@ -205,24 +143,6 @@ place-told a b e f =
     let positions = eqb-true (a .position) (b .position) (s .0) in
     let texts = not-after-antisymmetric (a .text) (b .text) (s .1) (s .2) in
     λ i. record { home = homes i; position = positions i; text = texts i }
-
--- where an order looks at what is made of the items, sorting them sorts what is made of them
-module _ {A B : Type 0} (key : A → B) (le : A → A → Bool) (le′ : B → B → Bool) (agree : (a b : A) → le a b ≡ le′ (key a) (key b)) where
-  placed-map : (a : A) (xs : List A) → map key (place-in le a xs) ≡ place-in le′ (key a) (map key xs)
-  unfolding place-in pick
-  placed-map a [] = refl
-  placed-map a (x ∷ xs) = rw (← agree x a) (go (le x a) (placed-map a xs))
-    where
-      go : (b : Bool) → map key (place-in le a xs) ≡ place-in le′ (key a) (map key xs)
-          → map key (pick b (x ∷ place-in le a xs) (a ∷ x ∷ xs))
-          ≡ pick b (key x ∷ place-in le′ (key a) (map key xs)) (key a ∷ key x ∷ map key xs)
-      go true i = ap (key x ∷_) i
-      go false i = refl
-
-  sorted-map : (acc xs : List A) → map key (sorted-onto le acc xs) ≡ sorted-onto le′ (map key acc) (map key xs)
-  unfolding sorted-onto
-  sorted-map acc [] = refl
-  sorted-map acc (x ∷ xs) = sorted-map (place-in le x acc) xs ∙ ap (λ ys. sorted-onto le′ ys (map key xs)) (placed-map x acc)
 
 module _ (hidden : List Item) where
   place-of : ResolvedEquation → Place
@@ -265,18 +185,18 @@ module _ (n n′ : Normal) (s : SameNormal n n′) (t : ItemsTold n) where
   unfolding listing-lines in-order hidden-lines hidden-in-order
   one-listing asked =
       rw (
-        visible-one n n′ s t,
+        visible-one (n .visible) (n′ .visible) (s .parameters) (s .items) (t .visible),
         equation-lines-one (items-in-order (n .hidden .items)) (s .equations),
         hidden-items-one (n .hidden .items) (n′ .hidden .items) (s .hidden-items) (t .hidden),
       )
 
   -- and are one normal form in order, if no two different equations of one module and position are written alike: a written equation does
-  -- not show the types of its functions
+  -- not show the types of its functions. In an accepted form they are told nonetheless: `accepted-equations-told`
   pub one-order : EquationsTold (items-in-order (n .hidden .items)) (n .hidden .equations) → in-order n ≡ in-order n′
   unfolding in-order hidden-in-order
   one-order told =
       rw (
-        visible-one n n′ s t,
+        visible-one (n .visible) (n′ .visible) (s .parameters) (s .items) (t .visible),
         equations-one (items-in-order (n .hidden .items)) (s .equations) told,
         hidden-items-one (n .hidden .items) (n′ .hidden .items) (s .hidden-items) (t .hidden),
       )

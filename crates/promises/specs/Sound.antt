@@ -3,9 +3,9 @@
 use mathlib.Core.Path.{_≡_, refl, sym, ap, subst, _∙_}
 use mathlib.Core.Logic.{_⊎_, inl, inr, ⊎-elim}
 use mathlib.Core.Option.{Option, none, some}
-use Prim.Native.Nat.{ℕ, suc, _+_, _-_, _^_, _≤_, _<_}
+use Prim.Native.Nat.{ℕ, suc, _+_, _^_, _≤_, _<_}
 use native.Mathlib.Omega.{arith}
-use mathlib.Core.Bool.{Bool, true, false, _&&_, false≢true}
+use mathlib.Core.Bool.{Bool, true, false, false≢true}
 use mathlib.Core.List.{List, [], _∷_, _++_, map, List·Memᴰ, List·Memᴰ·head, List·Memᴰ·tail, List·Memᴰ·cases-cons, Memᴰ·append-left, Memᴰ·append-right}
 use lib.Dec.{lit<}
 use lib.ListN.{length}
@@ -13,15 +13,13 @@ use borrow.Author.Tests.{not-false}
 use Rattle.meaning.specs.Laws.{by-cases}
 use Rattle.meaning.specs.Lists.{pick, keep, any, union}
 use Rattle.meaning.specs.Names.{Name, same, not-after, by-name}
-use Rattle.meaning.specs.Origins.{Section, export-section, parameter-section, hidden-section, Origin, same-origin, Sort, visible-sort, hidden-sort, Shape, sort-shape, function-shape, variable-shape, is-sort, is-function, FunctionType, same-section, same-shape, one-item, one-equation, Head, visible-head, hidden-head, ResolvedTerm, var, app, ResolvedTerms, none-left, _and-then_, ResolvedSides, Item, ResolvedEquation}
+use Rattle.meaning.specs.Origins.{Section, export-section, parameter-section, hidden-section, Origin, Sort, visible-sort, hidden-sort, Shape, sort-shape, function-shape, variable-shape, is-sort, is-function, FunctionType, one-item, one-equation, Head, visible-head, hidden-head, ResolvedTerm, var, app, ResolvedTerms, none-left, _and-then_, ResolvedSides, Item, ResolvedEquation}
 use Rattle.meaning.specs.Checks.{Outcome, fine, stop, _>>=_, _>>_, Check, unless, least-at-odds, other-origin, sorts-clash, functions-clash, consistent}
-use Rattle.meaning.specs.Syntax.{_then_}
 use Rattle.meaning.specs.Normal.{move-sort, move-type, move-shape, move-name, move-item, move-hidden-item, move-head, move-term, move-terms, move-sides, move-equation, move-visible, move-hidden, move, unite, unite-visible, unite-hidden, Visible, Normal, sorts-among}
-use Rattle.meaning.specs.Written.{origin-text, shape-rank}
-use Rattle.promises.specs.ListingLaws.{Plain, told-origin, origins-of, SortIn, ShapeIn, told-shape, both-true, origin-equal, shape-self, every-so, every-append, PlainHead, PlainTerm, PlainTerms, PlainSides, PlainEquation}
-use Rattle.meaning.specs.Grammar.{after, name, is}
-use Rattle.meaning.specs.Answer.{listing}
-use Rattle.meaning.specs.OrderLaws.{Pairwise, sorted-rearranged, sorted-length, rearranged-member, none-at-odds, Every, same-self}
+use Rattle.meaning.specs.Written.{origin-text, shape-rank, visible-in-order}
+use Rattle.promises.specs.ListingLaws.{Plain, told-origin, origins-of, SortIn, ShapeIn, told-shape, origin-equal, shape-self, item-equal, every-so, every-append, PlainHead, PlainTerm, PlainTerms, PlainSides, PlainEquation}
+use Rattle.meaning.specs.Grammar.{name, is}
+use Rattle.meaning.specs.OrderLaws.{Pairwise, sorted-rearranged, sorted-length, rearranged-member, any-none, none-at-odds, Every, same-self}
 use Rattle.promises.specs.SameListing.{HiddenTold, ItemsTold, VisibleTold, kept-member, sorts-in-order}
 use Rattle.promises.specs.Told.{Few, Sound, SoundHidden, SoundVisible, StandsIn, declared-name, item-of-origin, origin-of-item, shape-wider}
 
@@ -50,7 +48,7 @@ then-fine (fine tt) p e = (refl, e)
 then-fine (stop k w) p e = let z : _≡_ {A = ℕ} 0 1 = cc in absurd (omega arith)
 
 -- no two items are at odds, in the one order or the other
-compatible : (wrong : Item → Item → Bool) (is : List Item) → least-at-odds (λ (i : Item). i .name) wrong is ≡ none → (a b : Item)
+pub compatible : (wrong : Item → Item → Bool) (is : List Item) → least-at-odds (λ (i : Item). i .name) wrong is ≡ none → (a b : Item)
     → List·Memᴰ a is → List·Memᴰ b is → (a ≡ b) ⊎ ((wrong a b ≡ false) ⊎ (wrong b a ≡ false))
 unfolding least-at-odds
 compatible wrong is e a b m k =
@@ -67,9 +65,14 @@ functions-agree : (a b : Item) (t : FunctionType) → a .shape ≡ function-shap
 unfolding functions-clash other-origin is-function
 functions-agree a b t p q n e = origin-equal (a .origin) (b .origin) (not-false _ (rw (p, q, n, same-self (b .name), shape-self (function-shape t)) at e))
 
-no-variable : (s : Shape) (r : Sort) → shape-rank s ≤ 1 → s ≡ variable-shape r → ⊥
+pub no-variable : (s : Shape) (r : Sort) → shape-rank s ≤ 1 → s ≡ variable-shape r → ⊥
 unfolding shape-rank
 no-variable s r h e = omega (arith, rw e at h)
+
+-- after 15, parameters in order are of different names
+pub parameters-once : (v : Visible) (own : List Item) → consistent v own ≡ fine tt → Pairwise (λ p q. same p q ≡ false) (visible-in-order v .parameters)
+unfolding consistent least-at-odds visible-in-order
+parameters-once v own c = none-at-odds (λ (p : Name). p) same (by-name (λ (p : Name). p) (v .parameters)) (unless-fine _ _ (then-fine _ _ c .0))
 
 -- after 10, visible items of one kind, name and written type are one
 visible-told : (v : Visible) (own : List Item) → consistent v own ≡ fine tt → Every SoundVisible (v .items) → VisibleTold (v .items)
@@ -172,13 +175,13 @@ every-map P Q f g (x ∷ xs) h = (g x (h .0), every-map P Q f g xs (h .1))
 abbrev pub HasSort : Origin → List Item → Type 0
 HasSort o is = (i : Item) × List·Memᴰ i is × (is-sort (i .shape) ≡ true) × (o ≡ i .origin)
 
-union-left : (xs ys : List Item) (i : Item) → List·Memᴰ i xs → List·Memᴰ i (union one-item xs ys)
+pub union-left : (xs ys : List Item) (i : Item) → List·Memᴰ i xs → List·Memᴰ i (union one-item xs ys)
 unfolding union
 union-left xs [] i m = m
 union-left xs (y ∷ ys) i m =
     by-cases (λ (us : List Item). List·Memᴰ i us) _ _ _ (λ e. union-left xs ys i m) (λ e. union-left (xs ++ (y ∷ [])) ys i (Memᴰ·append-left (y ∷ []) m))
 
-any-found : {A : Type 0} (p : A → Bool) (xs : List A) → any p xs ≡ true → (x : A) × List·Memᴰ x xs × (p x ≡ true)
+pub any-found : {A : Type 0} (p : A → Bool) (xs : List A) → any p xs ≡ true → (x : A) × List·Memᴰ x xs × (p x ≡ true)
 unfolding any pick
 any-found p [] e = absurd (false≢true e)
 any-found {A} p (x ∷ xs) e = go (p x) refl e (any-found p xs)
@@ -188,37 +191,24 @@ any-found {A} p (x ∷ xs) e = go (p x) refl e (any-found p xs)
     go true q e i = (x, List·Memᴰ·head refl, q)
     go false q e i = let r = i e in (r .0, List·Memᴰ·tail (r .1), r .2)
 
-sort-too : (s t : Shape) → is-sort s ≡ true → same-shape s t ≡ true → is-sort t ≡ true
-unfolding is-sort same-shape
-sort-too sort-shape sort-shape e h = refl
-sort-too sort-shape (function-shape u) e h = h
-sort-too sort-shape (variable-shape r) e h = h
-sort-too (function-shape t) u e h = absurd (false≢true e)
-sort-too (variable-shape r) u e h = absurd (false≢true e)
+pub any-passes : {A : Type 0} (p : A → Bool) (xs : List A) (x : A) → List·Memᴰ x xs → p x ≡ true → any p xs ≡ true
+any-passes p xs x m e = go (any p xs) refl
+  where
+    go : (b : Bool) → any p xs ≡ b → b ≡ true
+    go true q = refl
+    go false q = sym (every-member (λ y. p y ≡ false) xs (any-none p xs q) x m) ∙ e
 
-one-sort : (i j : Item) (o : Origin) → one-item i j ≡ true → is-sort (i .shape) ≡ true → o ≡ i .origin → (is-sort (j .shape) ≡ true) × (o ≡ j .origin)
-unfolding one-item
-one-sort i j o e s q =
-    let names = same-section (i .standing) (j .standing) && same (i .name) (j .name) in
-    let a = both-true (names && same-shape (i .shape) (j .shape)) (same-origin (i .origin) (j .origin)) e in
-    let b = both-true names (same-shape (i .shape) (j .shape)) (a .0) in
-    (sort-too (i .shape) (j .shape) s (b .1), q ∙ origin-equal (i .origin) (j .origin) (a .1))
-
-sorts-right-of : (xs ys : List Item) (o : Origin) → HasSort o ys → HasSort o (union one-item xs ys)
+pub union-right : (xs ys : List Item) (i : Item) → List·Memᴰ i ys → List·Memᴰ i (union one-item xs ys)
 unfolding union
-sorts-right-of xs [] o h = elim (h .1) [ ]
-sorts-right-of xs (y ∷ ys) o h =
+union-right xs [] i m = elim m [ ]
+union-right xs (y ∷ ys) i m =
+    let there : List Item → Type 0 = List·Memᴰ i in
     ⊎-elim
-    (λ (e : h .0 ≡ y).
-    let s : is-sort (y .shape) ≡ true = rw (← e) (h .2) in
-    let q : o ≡ y .origin = h .3 ∙ ap (λ (i : Item). i .origin) e in
-    by-cases (HasSort o) _ _ _
-    (λ f. let r = any-found (one-item y) xs f in let t = one-sort y (r .0) o (r .2) s q in (r .0, union-left xs ys (r .0) (r .1), t .0, t .1))
-    (λ f. (y, union-left (xs ++ (y ∷ [])) ys y (Memᴰ·append-right xs (List·Memᴰ·head refl)), s, q)))
-    (λ (m : List·Memᴰ (h .0) ys).
-    by-cases (HasSort o) _ _ _ (λ f. sorts-right-of xs ys o (h .0, m, h .2, h .3))
-    (λ f. sorts-right-of (xs ++ (y ∷ [])) ys o (h .0, m, h .2, h .3)))
-    (List·Memᴰ·cases-cons (h .1))
+    (λ (e : i ≡ y).
+    by-cases there _ _ _ (λ f. let r = any-found (one-item y) xs f in union-left xs ys i (rw (e, item-equal y (r .0) (r .2)) (r .1)))
+    (λ f. union-left (xs ++ (y ∷ [])) ys i (Memᴰ·append-right xs (List·Memᴰ·head e))))
+    (λ (k : List·Memᴰ i ys). by-cases there _ _ _ (λ f. union-right xs ys i k) (λ f. union-right (xs ++ (y ∷ [])) ys i k))
+    (List·Memᴰ·cases-cons m)
 
 pub member-keep : {A : Type 0} (p : A → Bool) (xs : List A) (x : A) → List·Memᴰ x xs → p x ≡ true → List·Memᴰ x (keep p xs)
 unfolding keep
@@ -281,7 +271,7 @@ unite-sound a b s t =
       hidden =
           every-union (SoundHidden ks) one-item is js
           (all-wider is ks is (λ o h. (h .0, union-left is js (h .0) (h .1), h .2, h .3)) (s .hidden))
-          (all-wider js ks js (sorts-right-of is js) (t .hidden));
+          (all-wider js ks js (λ o h. (h .0, union-right is js (h .0) (h .1), h .2, h .3)) (t .hidden));
       equations = every-union PlainEquation one-equation (a .hidden .equations) (b .hidden .equations) (s .equations) (t .equations);
     }
 
@@ -396,7 +386,7 @@ module _ (σ : Name → Name) (φ : Name → FunctionType → Name) (plain-σ : 
             (every-map SoundVisible SoundVisible (move-item σ φ) move-item-sound (n .visible .items) (s .visible));
         hidden =
             every-union (SoundHidden ks) one-item [] js tt
-            (all-wider is ks js (λ o h. sorts-right-of [] js o (move-covers is o h))
+            (all-wider is ks js (λ o h. let c = move-covers is o h in (c .0, union-right [] js (c .0) (c .1), c .2, c .3))
             (every-map (SoundHidden is) (SoundHidden is) (move-hidden-item σ φ) (move-hidden-sound is) is (s .hidden)));
         equations =
             every-union PlainEquation one-equation [] (map (move-equation σ φ) (n .hidden .equations)) tt

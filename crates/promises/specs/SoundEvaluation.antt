@@ -1,35 +1,45 @@
--- Clauses, own declarations, typing and a whole call keep what is needed to tell the items of an accepted normal form.
+-- Clauses, own declarations, typing and a whole call keep what is needed to tell an accepted normal form.
 use mathlib.Core.Path.{_≡_, refl, subst}
+use mathlib.Core.Logic.{inl, inr}
 use mathlib.Core.Option.{Option, none, some}
-use Prim.Native.Nat.{ℕ, _+_, _-_, _≤_, _<_}
+use Prim.Native.Nat.{ℕ, _+_}
 use native.Mathlib.Omega.{arith}
 use mathlib.Core.Bool.{Bool, true, false, not, _&&_, false≢true}
-use mathlib.Core.List.{List, [], _∷_, _++_, map, List·Memᴰ, List·Memᴰ·head, List·Memᴰ·tail, Memᴰ·append-left}
+use mathlib.Core.List.{List, [], _∷_, _++_, map, List·Memᴰ, List·Memᴰ·head, List·Memᴰ·tail, Memᴰ·append-left, Permᴰ·symm}
 use lib.Dec.{leb, lit<, lit≤}
 use lib.ListN.{length}
 use borrow.Author.Tests.{leb-true, not-false}
 use Rattle.meaning.specs.Laws.{by-cases}
-use Rattle.meaning.specs.Lists.{pick, keep, any, first, union, or-else, first-some, each, sorted-onto}
+use Rattle.meaning.specs.Lists.{pick, keep, any, union, or-else, first-some, each, sorted-onto}
 use Rattle.meaning.specs.Names.{Name, same, member, not-after, by-name}
-use Rattle.meaning.specs.Origins.{Section, export-section, parameter-section, hidden-section, Declared, declared-sort, declared-function, declared-variable, Origin, Shape, sort-shape, function-shape, variable-shape, is-sort, FunctionType, one-item, ResolvedSides, Item, ResolvedEquation}
+use Rattle.meaning.specs.Origins.{Section, export-section, parameter-section, hidden-section, declared-sort, declared-function, is-sort, FunctionType, one-item, one-equation, Item, ResolvedEquation}
 use Rattle.meaning.specs.Checks.{Outcome, fine, stop, Size, size, fits, room, checked, in-parameter}
 use Rattle.meaning.specs.Own.{resolved, function-type, own-sort, own-function, own-section, own-visible, own-variable, own-hidden-items, lacking, parameter-functions, available-sorts}
-use Rattle.meaning.specs.Typing.{Typed, TypedList, head-of, of-shape, found-with, no-arguments, joined-typed, equated, joined-sides, made-equation, applied, alone, with-arguments, typed, typed-list, typed-sides, typed-conditions, typed-equations}
-use Rattle.meaning.specs.Syntax.{Term, node, Terms, no-terms, _then_, Sides, Equation, conditions-of, Function, Signature, Parameter, Variable, variables-of, Pair, Clause, renamed-by, bound-by, Import, Module}
+use Rattle.meaning.specs.Typing.{typed}
+use Rattle.meaning.specs.Syntax.{Function, Signature, Parameter, Variable, variables-of, Pair, Clause, renamed-by, bound-by, Import, Module}
 use Rattle.meaning.specs.Evaluate.{Evaluated, normal-of, clause, clauses, expressions, united, imported, seen-sorts, joined-visible, own-checks, own-equations, joined-hidden, joined-own, named-by, evaluate}
 use Rattle.meaning.specs.Clauses.{paired, otherwise, renaming, without-visible, without, rename, new-sort, new-function, bound-to, bind, formals}
-use Rattle.meaning.specs.Normal.{nothing-visible, nothing-hidden, empty, unite, unite-visible, Normal, sorts-among}
+use Rattle.meaning.specs.Normal.{nothing-visible, nothing-hidden, empty, unite, unite-visible, unite-hidden, Normal, sorts-among}
 use Rattle.meaning.specs.Written.{equation-order, shape-rank, visible-order, visible-in-order, hidden-order, hidden-in-order, in-order}
 use Rattle.meaning.specs.Listing.{lines-text, listing-lines}
-use Rattle.promises.specs.ListingLaws.{Plain, PlainSection, PlainDeclared, SortIn, both-true, every-so, every-append, PlainHead, PlainTerm, PlainTerms, PlainSides, PlainEquation}
+use Rattle.promises.specs.ListingLaws.{Plain, PlainSection, PlainDeclared, SortIn, both-true, every-so, every-append, PlainEquation}
 use Rattle.meaning.specs.Numbers.{asked-absent}
-use Rattle.meaning.specs.Grammar.{after, name, function, signature, parameter, exports, imports, variables, term, modules, is}
+use Rattle.meaning.specs.Grammar.{after, name, signature, exports, imports, variables, is}
 use Rattle.meaning.specs.Reached.{Placed, reached-among, reached, Ended, normalised, refused-at, end-or, total-of, in-turn, module-names, short-or-blank, normalise}
-use Rattle.meaning.specs.Answer.{listing}
-use Rattle.meaning.specs.OrderLaws.{rearranged-every, sorted-rearranged, sorted-length, rearranged-member, any-none, Every, same-equal}
+use Rattle.meaning.specs.OrderLaws.{rearranged-every, sorted-rearranged, sorted-length, rearranged-member, any-none, Every, Pairwise, same-equal}
+use Rattle.promises.specs.Parts.{every-kept}
 use Rattle.promises.specs.SameListing.{ItemsTold, items-in-order, sorts-in-order}
 use Rattle.promises.specs.Told.{Few, SameListed, Sound, SoundHidden, SoundVisible, StandsIn, declared-name, every-keep, told-by-bytes}
-use Rattle.promises.specs.Sound.{Gives, HasSort, all-stand, all-wider, every-map, every-member, every-union, gives-bound, gives-then, member-keep, member-map-to, move-sound, sort-had, sound-told, then-fine, unite-sound, unless-fine}
+use Rattle.promises.specs.Sound.{Gives, HasSort, all-stand, all-wider, every-map, every-member, every-union, gives-bound, gives-then, member-keep, member-map-to, move-sound, parameters-once, sort-had, sound-told, then-fine, union-left, union-right, unite-sound, unless-fine}
+use Rattle.promises.specs.WellTyped.{TypedEquation, WellTyped, in-order-typed, move-typed, typed-wider, unite-typed}
+use Rattle.promises.specs.TypedBinding.{bound-typed}
+use Rattle.promises.specs.TypedOwn.{InReach, Made, equations-typed, made-plain}
+use Rattle.promises.specs.TermsTold.{OneOutput, one-output}
+
+-- what evaluating keeps: the items are sound and the equations well typed
+pub record Whole (n : Normal) : Type 0 where
+  pub sound : Sound n
+  pub typed : WellTyped n
 
 -- ---- clauses
 
@@ -42,12 +52,6 @@ unfolding renaming paired otherwise
 renaming-plain [] h w p = p
 renaming-plain (r ∷ rs) h w p =
     by-cases (λ (o : Option Name). Plain (otherwise w o)) _ _ _ (λ e. h .0) (λ e. renaming-plain rs (h .1) w p)
-
-every-kept : {A : Type 0} (P : A → Type 0) (p : A → Bool) (xs : List A) → Every P xs → Every (λ x. P x × (p x ≡ true)) (keep p xs)
-unfolding keep
-every-kept P p [] h = tt
-every-kept P p (x ∷ xs) h =
-    let r = every-kept P p xs (h .1) in by-cases (Every (λ x. P x × (p x ≡ true))) _ _ _ (λ e. ((h .0, e), r)) (λ e. r)
 
 -- what stands outside the parameter p stands where it did without it
 still-stands : (p : Name) (ps : List Name) (s : Section) → StandsIn ps s → not (in-parameter p s) ≡ true
@@ -77,18 +81,25 @@ checked-gives : (P : Normal → Type 0) (n : Normal) → P n → Gives P (checke
 unfolding checked
 checked-gives P n h = gives-then P _ _ (λ e. gives-then P _ _ (λ f. h))
 
-rename-sound : (rs : List Pair) (n : Normal) → PlainPairs rs → Sound n → Gives Sound (rename rs n)
+rename-whole : (rs : List Pair) (n : Normal) → PlainPairs rs → Whole n → Gives Whole (rename rs n)
 unfolding rename
-rename-sound rs n h s =
-    gives-then Sound _ _ (λ e.
-    checked-gives Sound _ (move-sound (renaming rs) (λ f t. renaming rs f) (renaming-plain rs h) (λ f t p. renaming-plain rs h f p) n s))
+rename-whole rs n h w =
+    gives-then Whole _ _ (λ e.
+    checked-gives Whole _ (record {
+      sound = move-sound (renaming rs) (λ f t. renaming rs f) (renaming-plain rs h) (λ f t p. renaming-plain rs h f p) n (w .sound);
+      typed = move-typed (renaming rs) (λ f t. renaming rs f) n (w .typed);
+    }))
 
-bind-sound : (p : Name) (rs : List Pair) (n actual : Normal) → PlainPairs rs → Sound n → Sound actual → Gives Sound (bind p rs n actual)
+bind-whole : (p : Name) (rs : List Pair) (n actual : Normal) → PlainPairs rs → Whole n → Whole actual → Gives Whole (bind p rs n actual)
 unfolding bind bound-to new-sort new-function
-bind-sound p rs n actual h s t =
-    by-cases (Gives Sound) _ _ _
-    (λ e. gives-then Sound _ _ (λ f. gives-then Sound _ _ (λ g.
-    checked-gives Sound _ (unite-sound _ actual (move-sound _ _ new-sort-plain new-function-plain (without p n) (without-sound p n s)) t))))
+bind-whole p rs n actual h w w′ =
+    by-cases (Gives Whole) _ _ _
+    (λ e. gives-then Whole _ _ (λ f. gives-then Whole _ _ (λ g.
+    checked-gives Whole _ (record {
+      sound =
+          unite-sound _ actual (move-sound _ _ new-sort-plain new-function-plain (without p n) (without-sound p n (w .sound))) (w′ .sound);
+      typed = bound-typed p rs n actual (unless-fine _ _ f) (unless-fine _ _ g) (w .typed) (w′ .typed);
+    }))))
     (λ e. tt)
   where
     new-sort-plain : (w : Name) → Plain w → Plain (new-sort (formals p (n .visible)) rs (n .visible) (actual .visible) w)
@@ -101,46 +112,48 @@ abbrev pub PlainClause : Clause → Type 0
 PlainClause (renamed-by rs) = PlainPairs rs
 PlainClause (bound-by p rs m) = PlainPairs rs
 
-empty-sound : Sound empty
+empty-whole : Whole empty
 unfolding empty nothing-visible nothing-hidden
-empty-sound = record { parameters = tt; standing = tt; visible = tt; hidden = tt; equations = tt }
+empty-whole = record { sound = record { parameters = tt; standing = tt; visible = tt; hidden = tt; equations = tt }; typed = tt }
 
--- the modules evaluated have sound normal forms
-abbrev pub SoundEnv : List Evaluated → Type 0
-SoundEnv env = Every (λ e. Sound (e .normal)) env
+-- and so are the normal forms of the modules evaluated
+abbrev pub WholeEnv : List Evaluated → Type 0
+WholeEnv env = Every (λ e. Whole (e .normal)) env
 
-normal-of-sound : (env : List Evaluated) (w : Name) → SoundEnv env → Sound (normal-of env w)
+normal-of-whole : (env : List Evaluated) (w : Name) → WholeEnv env → Whole (normal-of env w)
 unfolding normal-of
-normal-of-sound [] w h = empty-sound
-normal-of-sound (e ∷ es) w h = by-cases Sound _ _ _ (λ f. h .0) (λ f. normal-of-sound es w (h .1))
+normal-of-whole [] w h = empty-whole
+normal-of-whole (e ∷ es) w h = by-cases Whole _ _ _ (λ f. h .0) (λ f. normal-of-whole es w (h .1))
 
-module _ (env : List Evaluated) (sound : SoundEnv env) where
-  clause-sound : (c : Clause) (n : Normal) → PlainClause c → Sound n → Gives Sound (clause env c n)
+module _ (env : List Evaluated) (whole : WholeEnv env) where
+  clause-whole : (c : Clause) (n : Normal) → PlainClause c → Whole n → Gives Whole (clause env c n)
   unfolding clause
-  clause-sound (renamed-by rs) n h s = rename-sound rs n h s
-  clause-sound (bound-by p rs m) n h s = bind-sound p rs n (normal-of env m) h s (normal-of-sound env m sound)
+  clause-whole (renamed-by rs) n h w = rename-whole rs n h w
+  clause-whole (bound-by p rs m) n h w = bind-whole p rs n (normal-of env m) h w (normal-of-whole env m whole)
 
-  clauses-sound : (cs : List Clause) (n : Normal) → Every PlainClause cs → Sound n → Gives Sound (clauses env cs n)
+  clauses-whole : (cs : List Clause) (n : Normal) → Every PlainClause cs → Whole n → Gives Whole (clauses env cs n)
   unfolding clauses
-  clauses-sound [] n h s = s
-  clauses-sound (c ∷ cs) n h s = gives-bound Sound Sound _ _ (clause-sound c n (h .0) s) (λ k t. clauses-sound cs k (h .1) t)
+  clauses-whole [] n h w = w
+  clauses-whole (c ∷ cs) n h w = gives-bound Whole Whole _ _ (clause-whole c n (h .0) w) (λ k t. clauses-whole cs k (h .1) t)
 
-  expressions-sound : (is : List Import) → Every (λ i. Every PlainClause (i .clauses)) is → Gives (Every Sound) (expressions env is)
+  expressions-whole : (is : List Import) → Every (λ i. Every PlainClause (i .clauses)) is → Gives (Every Whole) (expressions env is)
   unfolding expressions
-  expressions-sound [] h = tt
-  expressions-sound (i ∷ is) h =
-      gives-bound Sound (Every Sound) _ _ (clauses-sound (i .clauses) (normal-of env (i .name)) (h .0) (normal-of-sound env (i .name) sound))
-      (λ n s. gives-bound (Every Sound) (Every Sound) _ _ (expressions-sound is (h .1)) (λ ns t. (s, t)))
+  expressions-whole [] h = tt
+  expressions-whole (i ∷ is) h =
+      gives-bound Whole (Every Whole) _ _ (clauses-whole (i .clauses) (normal-of env (i .name)) (h .0) (normal-of-whole env (i .name) whole))
+      (λ n w. gives-bound (Every Whole) (Every Whole) _ _ (expressions-whole is (h .1)) (λ ns t. (w, t)))
 
-  united-sound : (n : Normal) (ks : List Normal) → Sound n → Every Sound ks → Gives Sound (united n ks)
+  united-whole : (n : Normal) (ks : List Normal) → Whole n → Every Whole ks → Gives Whole (united n ks)
   unfolding united
-  united-sound n [] s h = s
-  united-sound n (k ∷ ks) s h =
-      gives-bound Sound Sound _ _ (checked-gives Sound _ (unite-sound n k s (h .0))) (λ u t. united-sound u ks t (h .1))
+  united-whole n [] w h = w
+  united-whole n (k ∷ ks) w h =
+      gives-bound Whole Whole _ _
+      (checked-gives Whole _ (record { sound = unite-sound n k (w .sound) (h .0 .sound); typed = unite-typed n k (w .typed) (h .0 .typed) }))
+      (λ u t. united-whole u ks t (h .1))
 
-  imported-sound : (is : List Import) → Every (λ i. Every PlainClause (i .clauses)) is → Gives Sound (imported env is)
+  imported-whole : (is : List Import) → Every (λ i. Every PlainClause (i .clauses)) is → Gives Whole (imported env is)
   unfolding imported
-  imported-sound is h = gives-bound (Every Sound) Sound _ _ (expressions-sound is h) (λ ns s. united-sound empty ns empty-sound s)
+  imported-whole is h = gives-bound (Every Whole) Whole _ _ (expressions-whole is h) (λ ns w. united-whole empty ns empty-whole w)
 
 -- ---- M's own declarations
 
@@ -381,116 +394,6 @@ module _ (m : Module) (plain : PlainModule m) (seen : List Name) where
       (every-map PlainFunction good (own-function m seen hidden-section) own-hidden-function (m .hidden .functions) (plain .hidden .functions)))
       (every-map PlainVariable good (own-variable m seen) own-variable-sound (variables-of m) (plain .variables))
 
--- ---- typed equations have the names of known items
-
-abbrev PlainOption : {A : Type 0} → (A → Type 0) → Option A → Type 0
-PlainOption P none = Unit {0}
-PlainOption P (some a) = P a
-
-abbrev PlainTyped : Option Typed → Type 0
-PlainTyped o = PlainOption (λ t. PlainTerm (t .term)) o
-
-abbrev PlainTypedList : Option TypedList → Type 0
-PlainTypedList o = PlainOption (λ ts. PlainTerms (ts .terms)) o
-
-abbrev PlainFound : Option Item → Type 0
-PlainFound o = PlainOption (λ i. Plain (i .name)) o
-
-first-plain : (p : Item → Bool) (is : List Item) → Every (λ i. Plain (i .name)) is → PlainFound (first p is)
-unfolding first
-first-plain p [] h = tt
-first-plain p (i ∷ is) h = by-cases PlainFound _ _ _ (λ e. h .0) (λ e. first-plain p is (h .1))
-
-head-plain : (s : Section) (f : Name) (o : Origin) (t : FunctionType) → Plain f → PlainHead (head-of s f o t)
-unfolding head-of
-head-plain export-section f o t h = h
-head-plain hidden-section f o t h = tt
-head-plain (parameter-section p) f o t h = h
-
-shape-plain : (i : Item) (ts : TypedList) (s : Shape) → Plain (i .name) → PlainTerms (ts .terms) → PlainTyped (of-shape i ts s)
-unfolding of-shape
-shape-plain i ts sort-shape h k = tt
-shape-plain i ts (function-shape t) h k = (head-plain (i .standing) (i .name) (i .origin) t h, k)
-shape-plain i ts (variable-shape s) h k = tt
-
-found-plain : (ts : TypedList) (o : Option Item) → PlainFound o → PlainTerms (ts .terms) → PlainTyped (found-with ts o)
-unfolding found-with
-found-plain ts none h k = tt
-found-plain ts (some i) h k = shape-plain i ts (i .shape) h k
-
-either-plain : (a b : Option Typed) → PlainTyped a → PlainTyped b → PlainTyped (or-else a b)
-unfolding or-else
-either-plain (some t) b h k = h
-either-plain none b h k = k
-
-joined-plain : (t : Option Typed) (r : Option TypedList) → PlainTyped t → PlainTypedList r → PlainTypedList (joined-typed t r)
-unfolding joined-typed
-joined-plain none r h k = tt
-joined-plain (some t) none h k = tt
-joined-plain (some t) (some r) h k = (h, k)
-
-module _ (known : List Item) (plain : Every (λ i. Plain (i .name)) known) where
-  applied-plain : (f : Name) (ts : TypedList) → PlainTerms (ts .terms) → PlainTyped (applied known f ts)
-  unfolding applied
-  applied-plain f ts h = found-plain ts _ (first-plain _ known plain) h
-
-  alone-plain : (w : Name) → PlainTyped (alone known w)
-  unfolding alone no-arguments
-  alone-plain w = either-plain _ _ (found-plain no-arguments _ (first-plain _ known plain) tt) (applied-plain w no-arguments tt)
-
-  arguments-plain : (f : Name) (xs : Terms) (ts : Option TypedList) → PlainTypedList ts → PlainTyped (with-arguments known f xs ts)
-  unfolding with-arguments
-  arguments-plain f no-terms ts h = alone-plain f
-  arguments-plain f (x then xs) none h = tt
-  arguments-plain f (x then xs) (some ts) h = applied-plain f ts h
-
-  mutual
-    unfolding typed no-arguments
-
-    typed-plain : (t : Term) → PlainTyped (typed known t)
-    typed-plain (node f xs) = arguments-plain f xs _ (typed-list-plain xs)
-
-    typed-list-plain : (ts : Terms) → PlainTypedList (typed-list known ts)
-    typed-list-plain no-terms = tt
-    typed-list-plain (x then xs) = joined-plain _ _ (typed-plain x) (typed-list-plain xs)
-
-  sides-plain : (l r : Option Typed) → PlainTyped l → PlainTyped r → PlainOption PlainSides (equated l r)
-  unfolding equated
-  sides-plain none r h k = tt
-  sides-plain (some l) none h k = tt
-  sides-plain (some l) (some r) h k = by-cases (PlainOption PlainSides) _ _ _ (λ e. (h, k)) (λ e. tt)
-
-  joined-sides-plain : (e : Option ResolvedSides) (es : Option (List ResolvedSides)) → PlainOption PlainSides e
-      → PlainOption (Every PlainSides) es → PlainOption (Every PlainSides) (joined-sides e es)
-  unfolding joined-sides
-  joined-sides-plain none es h k = tt
-  joined-sides-plain (some e) none h k = tt
-  joined-sides-plain (some e) (some es) h k = (h, k)
-
-  typed-sides-plain : (e : Sides) → PlainOption PlainSides (typed-sides known e)
-  unfolding typed-sides
-  typed-sides-plain e = sides-plain _ _ (typed-plain (e .left)) (typed-plain (e .right))
-
-  conditions-plain : (es : List Sides) → PlainOption (Every PlainSides) (typed-conditions known es)
-  unfolding typed-conditions
-  conditions-plain [] = tt
-  conditions-plain (e ∷ es) = joined-sides-plain _ _ (typed-sides-plain e) (conditions-plain es)
-
-  made-plain : (home at : ℕ) (tag : Name) → Plain tag → (c : Option ResolvedSides) (ks : Option (List ResolvedSides))
-      → PlainOption PlainSides c → PlainOption (Every PlainSides) ks → Gives PlainEquation (made-equation home at tag c ks)
-  unfolding made-equation
-  made-plain home at tag p none ks h k = tt
-  made-plain home at tag p (some c) none h k = tt
-  made-plain home at tag p (some c) (some ks) h k = record { tag = p; conclusion = h; conditions = k }
-
-  equations-plain : (home at : ℕ) (rs : List Equation) → Every (λ r. Plain (r .tag)) rs → Gives (Every PlainEquation) (typed-equations known home at rs)
-  unfolding typed-equations
-  equations-plain home at [] h = tt
-  equations-plain home at (r ∷ rs) h =
-      gives-bound PlainEquation (Every PlainEquation) _ _
-      (made-plain home at (r .tag) (h .0) _ _ (typed-sides-plain (r .conclusion)) (conditions-plain (conditions-of r)))
-      (λ x p. gives-bound (Every PlainEquation) (Every PlainEquation) _ _ (equations-plain home (at + 1) rs (h .1)) (λ xs ps. (p, ps)))
-
 -- ---- one module, and a whole call
 
 in-order-sound : (n : Normal) → Sound n → Sound (in-order n)
@@ -516,12 +419,21 @@ in-order-few : (n : Normal) → Few n → Few (in-order n)
 unfolding in-order hidden-in-order
 in-order-few n few = omega (arith, sorted-length (hidden-order (sorts-in-order (n .hidden .items))) (n .hidden .items))
 
--- a normal form that is accepted: put in order from one whose items are told, sound, and not too large
+in-order-outputs : (n : Normal) → OneOutput (n .visible .items) → OneOutput (in-order n .visible .items)
+unfolding in-order visible-in-order
+in-order-outputs n one a b t u m k =
+    let d = Permᴰ·symm (sorted-rearranged visible-order (n .visible .items)) in
+    one a b t u (rearranged-member d m) (rearranged-member d k)
+
+-- a normal form that is accepted: put in order from one whose items are told; sound and well typed; its parameters of different names, its
+-- visible functions of one name and input type of one type (11); and not too large
 pub record Accepted (k : Normal) : Type 0 where
   pub found : Normal
   pub ordered : k ≡ in-order found
   pub told : ItemsTold found
-  pub sound : Sound k
+  pub whole : Whole k
+  pub parameters : Pairwise (λ p q. same p q ≡ false) (k .visible .parameters)
+  pub outputs : OneOutput (k .visible .items)
   pub few : Few k
 
 fits-fine : (b : Bool) → fits b ≡ fine tt → b ≡ true
@@ -536,16 +448,11 @@ room-few n e =
     let r = both-true (leb (length (n .visible .parameters)) 8 && leb items 512) _ (fits-fine _ e) in
     omega (arith, leb-true items 512 (both-true (leb (length (n .visible .parameters)) 8) (leb items 512) (r .0) .1))
 
-declared-name-plain : (d : Declared) → PlainDeclared d → Plain (declared-name d)
-unfolding declared-name
-declared-name-plain (declared-sort a) h = h
-declared-name-plain (declared-function f i o) h = h .0
-declared-name-plain (declared-variable v s) h = h .0
+every-of : {A : Type 0} (P : A → Type 0) (xs : List A) → ((x : A) → List·Memᴰ x xs → P x) → Every P xs
+every-of P [] h = tt
+every-of P (x ∷ xs) h = (h x (List·Memᴰ·head refl), every-of P xs (λ y m. h y (List·Memᴰ·tail m)))
 
-hidden-name-plain : (is : List Item) (i : Item) → SoundHidden is i → Plain (i .name)
-hidden-name-plain is i h = rw (h .name) (declared-name-plain (i .origin .declared) (h .origin .declared))
-
-module _ (m : Module) (plain : PlainModule m) (n : Normal) (sound : Sound n) where
+module _ (m : Module) (plain : PlainModule m) (n : Normal) (whole : Whole n) where
   abbrev own-seen : List Name
   own-seen = seen-sorts m (n .visible)
 
@@ -562,67 +469,104 @@ module _ (m : Module) (plain : PlainModule m) (n : Normal) (sound : Sound n) whe
     equations = p;
   }
 
-  known-plain : available-sorts m own-seen ≡ fine tt
-      → Every (λ i. Plain (i .name)) (joined-visible m (n .visible) .items ++ own-hidden-items m own-seen)
-  unfolding joined-visible unite-visible
-  known-plain a =
-      let is = union one-item (n .visible .items) (own-visible m own-seen .items) in
-      let own = own-hidden-items m own-seen in
-      every-append (λ i. Plain (i .name)) is own
-      (every-so SoundVisible (λ i. Plain (i .name)) is (λ i h. h .name)
-      (every-union SoundVisible one-item (n .visible .items) (own-visible m own-seen .items) (sound .visible) (own-visible-sound m plain own-seen a)))
-      (every-so (SoundHidden own) (λ i. Plain (i .name)) own (hidden-name-plain own) (own-hidden-sound m plain own-seen))
-
   all-of : List ResolvedEquation → Normal
   all-of es = record { visible = joined-visible m (n .visible); hidden = joined-hidden m own-seen (n .hidden) es }
 
   all-sound : (es : List ResolvedEquation) → Every PlainEquation es → available-sorts m own-seen ≡ fine tt → Sound (all-of es)
   unfolding all-of own-part joined-visible joined-hidden unite
-  all-sound es p a = unite-sound n (own-part es) sound (own-part-sound es p a)
+  all-sound es p a = unite-sound n (own-part es) (whole .sound) (own-part-sound es p a)
 
-  all-accepted : (es : List ResolvedEquation) → Every PlainEquation es → own-checks m own-seen (joined-visible m (n .visible)) ≡ fine tt
+  abbrev all-visible : List Item
+  all-visible = joined-visible m (n .visible) .items
+
+  abbrev all-hidden : List Item
+  all-hidden = union one-item (n .hidden .items) (own-hidden-items m own-seen)
+
+  -- the items in reach of M's text
+  known-reach : available-sorts m own-seen ≡ fine tt
+      → Every (InReach (joined-visible m (n .visible) .parameters) all-visible all-hidden) (all-visible ++ own-hidden-items m own-seen)
+  unfolding all-of
+  known-reach a =
+      let own = own-hidden-items m own-seen in
+      let s = all-sound [] tt a in
+      every-append _ all-visible own
+      (every-of _ all-visible (λ i k. inl (
+        k,
+        every-member (λ j. StandsIn (joined-visible m (n .visible) .parameters) (j .standing)) all-visible (s .standing) i k,
+        every-member SoundVisible all-visible (s .visible) i k .kind,
+      )))
+      (every-of _ own (λ i k. inr (
+        union-right (n .hidden .items) own i k,
+        every-member (SoundHidden own) own (own-hidden-sound m plain own-seen) i k .standing,
+      )))
+
+  abbrev OwnMade : ResolvedEquation → Type 0
+  OwnMade e = Made all-visible all-hidden e
+
+  own-made : available-sorts m own-seen ≡ fine tt → (home : ℕ) → Gives (Every OwnMade) (own-equations home m own-seen (joined-visible m (n .visible)))
+  unfolding own-equations
+  own-made a home = equations-typed _ all-visible all-hidden _ (known-reach a) home 0 (m .equations) (plain .tags)
+
+  all-whole : (es : List ResolvedEquation) → Every OwnMade es → available-sorts m own-seen ≡ fine tt → Whole (all-of es)
+  unfolding all-of joined-visible joined-hidden unite-visible unite-hidden
+  all-whole es d a =
+      let vs = n .visible .items in
+      let ws = own-visible m own-seen .items in
+      let is = n .hidden .items in
+      let js = own-hidden-items m own-seen in
+      let names = every-so SoundVisible (λ i. Plain (i .name)) all-visible (λ i h. h .name) (all-sound [] tt a .visible) in
+      record {
+        sound = all-sound es (every-so OwnMade PlainEquation es (made-plain all-visible all-hidden names) d) a;
+        typed =
+            every-union (TypedEquation all-visible all-hidden) one-equation (n .hidden .equations) es
+            (typed-wider vs is all-visible all-hidden (union-left vs ws) (union-left is js) (n .hidden .equations) (whole .typed))
+            (every-so OwnMade (TypedEquation all-visible all-hidden) es (λ e h. h .typed) d);
+      }
+
+  all-accepted : (es : List ResolvedEquation) → Every OwnMade es → own-checks m own-seen (joined-visible m (n .visible)) ≡ fine tt
       → room (all-of es) ≡ fine tt → Accepted (in-order (all-of es))
-  unfolding own-checks all-of
-  all-accepted es p c r =
-      let s = all-sound es p (then-fine _ _ (then-fine _ _ c .1) .0) in
+  unfolding own-checks all-of in-order
+  all-accepted es d c r =
+      let w = all-whole es d (then-fine _ _ (then-fine _ _ c .1) .0) in
       let few = room-few (all-of es) r in
+      let own = own-hidden-items m own-seen in
       record {
         found = all-of es;
         ordered = refl;
-        told = sound-told (all-of es) (own-hidden-items m own-seen) (then-fine _ _ c .0) s few;
-        sound = in-order-sound (all-of es) s;
+        told = sound-told (all-of es) own (then-fine _ _ c .0) (w .sound) few;
+        whole = record { sound = in-order-sound (all-of es) (w .sound); typed = in-order-typed (all-of es) (w .typed) };
+        parameters = parameters-once (joined-visible m (n .visible)) own (then-fine _ _ c .0);
+        outputs = in-order-outputs (all-of es) (one-output (joined-visible m (n .visible)) own (then-fine _ _ c .0));
         few = in-order-few (all-of es) few;
       }
 
   joined-own-accepted : (home : ℕ) (total : Size) → Gives Accepted (joined-own home total m n)
-  unfolding joined-own own-equations own-checks all-of
+  unfolding joined-own own-checks all-of
   joined-own-accepted home total =
       gives-then Accepted _ _ (λ c.
-      gives-bound (Every PlainEquation) Accepted _ _
-      (equations-plain (joined-visible m (n .visible) .items ++ own-hidden-items m own-seen) (known-plain (then-fine _ _ (then-fine _ _ c .1) .0))
-      home 0 (m .equations) (plain .tags))
-      (λ es p. gives-then Accepted _ _ (λ r. gives-then Accepted _ _ (λ t. all-accepted es p c r))))
+      gives-bound (Every OwnMade) Accepted _ _ (own-made (then-fine _ _ (then-fine _ _ c .1) .0) home)
+      (λ es d. gives-then Accepted _ _ (λ r. gives-then Accepted _ _ (λ t. all-accepted es d c r))))
 
 -- what evaluating a module accepts
-pub evaluated-accepted : (declared earlier : List Name) (home : ℕ) (total : Size) (env : List Evaluated) (m : Module) → PlainModule m → SoundEnv env
+pub evaluated-accepted : (declared earlier : List Name) (home : ℕ) (total : Size) (env : List Evaluated) (m : Module) → PlainModule m → WholeEnv env
     → Gives Accepted (evaluate declared earlier home total env m)
 unfolding evaluate
-evaluated-accepted declared earlier home total env m plain sound =
+evaluated-accepted declared earlier home total env m plain whole =
     gives-then Accepted _ _ (λ a. gives-then Accepted _ _ (λ b. gives-then Accepted _ _ (λ c.
-    gives-bound Sound Accepted _ _ (imported-sound env sound (m .imports) (plain .imports)) (λ n s. joined-own-accepted m plain n s home total))))
+    gives-bound Whole Accepted _ _ (imported-whole env whole (m .imports) (plain .imports)) (λ n w. joined-own-accepted m plain n w home total))))
 
 abbrev AcceptedEnd : Ended → Type 0
 AcceptedEnd (normalised count n) = Accepted n
 AcceptedEnd (refused-at number count m w) = Unit {0}
 
-in-turn-accepted : (declared : List Name) (env : List Evaluated) (last : Normal) (xs : List Placed) → SoundEnv env → Accepted last
+in-turn-accepted : (declared : List Name) (env : List Evaluated) (last : Normal) (xs : List Placed) → WholeEnv env → Accepted last
     → Every (λ x. PlainModule (x .self)) xs → AcceptedEnd (in-turn declared env last xs)
 unfolding in-turn end-or
 in-turn-accepted declared env last [] s a h = a
 in-turn-accepted declared env last (x ∷ xs) s a h =
     go (evaluate declared (x .earlier) (x .number) (total-of env) env (x .self))
     (evaluated-accepted declared (x .earlier) (x .number) (total-of env) env (x .self) (h .0) s)
-    (λ n b. in-turn-accepted declared (record { name = x .self .name; names = named-by (x .self); normal = n } ∷ env) n xs (b .sound, s) b (h .1))
+    (λ n b. in-turn-accepted declared (record { name = x .self .name; names = named-by (x .self); normal = n } ∷ env) n xs (b .whole, s) b (h .1))
   where
     after : Normal → Ended
     after n = in-turn declared (record { name = x .self .name; names = named-by (x .self); normal = n } ∷ env) n xs
@@ -646,7 +590,9 @@ empty-accepted = record {
   found = empty;
   ordered = refl;
   told = record { visible = λ a b m. elim m [ ]; hidden = λ a b m. elim m [ ] };
-  sound = empty-sound;
+  whole = empty-whole;
+  parameters = tt;
+  outputs = λ a b t u m. elim m [ ];
   few = lit< tt;
 }
 
@@ -680,4 +626,4 @@ call-accepted asked ms count n plain e = go (member asked (module-names ms)) ref
 pub one-normal-form : (asked asked′ : Name) (n n′ : Normal) → AcceptedCall asked n → AcceptedCall asked′ n′
     → lines-text (listing-lines asked n) ≡ lines-text (listing-lines asked′ n′) → SameListed asked asked′ n n′
 one-normal-form asked asked′ n n′ a a′ e =
-    told-by-bytes asked asked′ n n′ (a .name) (a′ .name) (a .normal .sound) (a′ .normal .sound) (a .normal .few) e
+    told-by-bytes asked asked′ n n′ (a .name) (a′ .name) (a .normal .whole .sound) (a′ .normal .whole .sound) (a .normal .few) e

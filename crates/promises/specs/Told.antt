@@ -22,7 +22,7 @@ use Rattle.meaning.specs.Clauses.{formals}
 use Rattle.meaning.specs.Normal.{Visible, Normal, sorts-among}
 use Rattle.meaning.specs.Written.{numbered, sort-text, type-text, function-type-text, origin-text, shape-text, equation-text, shape-rank}
 use Rattle.meaning.specs.Listing.{is-exported, visible-lines, Line, origin-line, kind-key, item-line, exported-lines, formal-lines, parameter-lines, hidden-item-lines, line, lines-text, equation-line, hidden-lines, listing-lines}
-use Rattle.promises.specs.ListingLaws.{first-of, rest-of, not-empty, Within, StartsOutside, starts, told-run, in-name, Plain, PlainOrigin, told-origin, origins-of, SortIn, ShapeIn, told-shape, every-so, every-append, not-byte, Separable, told-lines, all-pass, within-by, OneLine, in-line-then, plain-in-line, number-in-line, origin-in-line, shape-in-line, PlainEquation, equation-in-line}
+use Rattle.promises.specs.ListingLaws.{first-of, rest-of, not-empty, Within, StartsOutside, starts, told-run, in-name, Plain, PlainOrigin, told-origin, origins-of, SortIn, ShapeIn, told-shape, every-so, every-append, not-byte, Separable, told-lines, all-pass, within-by, before-map, OneLine, in-line-then, plain-in-line, number-in-line, origin-in-line, shape-in-line, PlainEquation, equation-in-line}
 use Rattle.meaning.specs.Grammar.{after, name, function, parameter, equation, modules, is}
 use Rattle.meaning.specs.Answer.{listing}
 use Rattle.meaning.specs.OrderLaws.{Every, same-self}
@@ -165,11 +165,6 @@ among-hidden : (is : List Item) (o : Origin) → List·Memᴰ o (origins-of (sor
 unfolding sorts-among
 among-hidden is o m =
     let r = item-of-origin (sorts-among is) m in origin-of-item (kept-member (λ (i : Item). is-sort (i .shape)) is (r .1) .0) o (r .2)
-
-before-map : {A B : Type 0} (f : A → B) (p : B → Bool) (xs : List A) → before (λ (x : A). p (f x)) xs ≡ before p (map f xs)
-unfolding before
-before-map f p [] = refl
-before-map f p (x ∷ xs) = ap (λ (k : ℕ). pick (p (f x)) 0 (suc k)) (before-map f p xs)
 
 module _ (hidden hidden′ : List Item) (same-origins : origins-of hidden ≡ origins-of hidden′) where
   same-sort-text : (s : Sort) → sort-text hidden s ≡ sort-text hidden′ s

@@ -1,0 +1,207 @@
+-- Accepted normal forms: an equation can be told from its line, a form from its items and equations in whatever order, and the visible part
+-- from its exported items and those of each parameter.
+use mathlib.Core.Path.{_≡_, refl, sym, ap, ap₂, subst, _∙_}
+use Prim.Native.Nat.{ℕ}
+use mathlib.Core.Bool.{Bool, true, false, false≢true}
+use mathlib.Core.List.{List, [], _∷_, _++_, map, List·Memᴰ, List·Memᴰ·head, List·Memᴰ·tail, List·Permᴰ·trans, Permᴰ·refl, Permᴰ·symm}
+use Rattle.meaning.specs.Lists.{keep, any, each}
+use Rattle.meaning.specs.Names.{Name, same}
+use Rattle.meaning.specs.Origins.{Section, export-section, hidden-section, parameter-section, Item, ResolvedEquation}
+use Rattle.meaning.specs.Normal.{Visible, Normal}
+use Rattle.meaning.specs.Checks.{in-parameter}
+use Rattle.meaning.specs.Clauses.{formals}
+use Rattle.meaning.specs.Written.{equation-text, equation-order, visible-order, visible-in-order, hidden-order, hidden-in-order, in-order}
+use Rattle.meaning.specs.Listing.{is-exported}
+use Rattle.meaning.specs.OrderLaws.{Every, Pairwise, Rearranged, rearranged-member, same-equal, same-self, sorted-rearranged}
+use Rattle.promises.specs.ListingLaws.{Plain, PlainEquation, every-so, first-of, not-empty, rest-of}
+use Rattle.promises.specs.SameListing.{EquationsTold, SameNormal, VisibleTold, items-in-order, one-order, sorts-in-order, visible-one}
+use Rattle.promises.specs.Told.{SameListed, SoundVisible, StandsIn, exported-of}
+use Rattle.promises.specs.Sound.{any-passes, every-member, member-map-to}
+use Rattle.promises.specs.Parts.{Apart, parted}
+use Rattle.promises.specs.WellTyped.{TypedEquation}
+use Rattle.promises.specs.TermsTold.{content, told-equation}
+use Rattle.promises.specs.SoundEvaluation.{Accepted}
+
+-- ---- equations
+
+module _ (k : Normal) (a : Accepted k) where
+  abbrev IsTyped : ResolvedEquation → Type 0
+  IsTyped e = TypedEquation (k .visible .items) (k .hidden .items) e
+
+  -- an equation of k, and one over the same items, with one written line say the same
+  line-told : (e f : ResolvedEquation) → Plain (e .tag) → Plain (f .tag) → IsTyped e → IsTyped f
+      → equation-text (k .hidden .items) e ≡ equation-text (k .hidden .items) f → content e ≡ content f
+  line-told =
+      told-equation (k .visible .items) (k .hidden .items)
+      (every-so SoundVisible (λ i. Plain (i .name)) (k .visible .items) (λ i h. h .name) (a .whole .sound .visible)) (a .few) (a .outputs)
+
+  -- equations of one module, position and written line are one
+  pub accepted-equations-told : EquationsTold (k .hidden .items) (k .hidden .equations)
+  unfolding content
+  accepted-equations-told e f m l home position text =
+      let es = k .hidden .equations in
+      let tag : (x : ResolvedEquation) → List·Memᴰ x es → Plain (x .tag) = λ x q. every-member PlainEquation es (a .whole .sound .equations) x q .tag in
+      let typed : (x : ResolvedEquation) → List·Memᴰ x es → IsTyped x = every-member IsTyped es (a .whole .typed) in
+      let said = line-told e f (tag e m) (tag f l) (typed e m) (typed f l) text in
+      λ x. record { home = home x; position = position x; tag = said x .tag; conclusion = said x .conclusion; conditions = said x .conditions }
+
+  -- two lists of equations over the same items with the same written lines say the same
+  lines-told : (es fs : List ResolvedEquation) → Every PlainEquation es → Every PlainEquation fs → Every IsTyped es → Every IsTyped fs
+      → map (equation-text (k .hidden .items)) es ≡ map (equation-text (k .hidden .items)) fs → map content es ≡ map content fs
+  lines-told [] [] p q d d′ e = refl
+  lines-told [] (f ∷ fs) p q d d′ e = not-empty e
+  lines-told (x ∷ es) [] p q d d′ e = not-empty (sym e)
+  lines-told (x ∷ es) (f ∷ fs) p q d d′ e =
+      ap₂ _∷_ (line-told x f (p .0 .tag) (q .0 .tag) (d .0) (d′ .0) (first-of e)) (lines-told es fs (p .1) (q .1) (d .1) (d′ .1) (rest-of e))
+
+-- ---- one form, in whatever order its items and equations were found
+
+pub same-ordered : (n : Normal) → SameNormal n (in-order n)
+unfolding in-order visible-in-order hidden-in-order
+same-ordered n = record {
+  parameters = sorted-rearranged _ (n .visible .parameters);
+  items = sorted-rearranged visible-order (n .visible .items);
+  hidden-items = sorted-rearranged (hidden-order (sorts-in-order (n .hidden .items))) (n .hidden .items);
+  equations = sorted-rearranged (equation-order (items-in-order (n .hidden .items))) (n .hidden .equations);
+}
+
+pub same-then : (a b c : Normal) → SameNormal a b → SameNormal b c → SameNormal a c
+same-then a b c s t = record {
+  parameters = List·Permᴰ·trans (s .parameters) (t .parameters);
+  items = List·Permᴰ·trans (s .items) (t .items);
+  hidden-items = List·Permᴰ·trans (s .hidden-items) (t .hidden-items);
+  equations = List·Permᴰ·trans (s .equations) (t .equations);
+}
+
+pub same-itself : (n : Normal) → SameNormal n n
+same-itself n = record {
+  parameters = Permᴰ·refl (n .visible .parameters);
+  items = Permᴰ·refl (n .visible .items);
+  hidden-items = Permᴰ·refl (n .hidden .items);
+  equations = Permᴰ·refl (n .hidden .equations);
+}
+
+-- an accepted form and what it was found as
+pub found-same : (k : Normal) (a : Accepted k) → SameNormal (a .found) k
+found-same k a = subst (SameNormal (a .found)) (sym (a .ordered)) (same-ordered (a .found))
+
+found-told : (k : Normal) (a : Accepted k) → EquationsTold (items-in-order (a .found .hidden .items)) (a .found .hidden .equations)
+unfolding in-order hidden-in-order
+found-told k a e f m l =
+    let told = subst (λ (x : Normal). EquationsTold (x .hidden .items) (x .hidden .equations)) (a .ordered) (accepted-equations-told k a) in
+    let d = same-ordered (a .found) .equations in
+    told e f (rearranged-member d m) (rearranged-member d l)
+
+-- a normal form with the items and equations of an accepted one, found in whatever order, is that one when put in order
+pub accepted-one-order : (k n : Normal) → Accepted k → SameNormal k n → k ≡ in-order n
+accepted-one-order k n a s = a .ordered ∙ one-order (a .found) n (same-then (a .found) k n (found-same k a) s) (a .told) (found-told k a)
+
+-- ---- the visible part
+
+told-in-order : (k : Normal) (a : Accepted k) → VisibleTold (k .visible .items)
+told-in-order k a x y m l =
+    let d = Permᴰ·symm (found-same k a .items) in a .told .visible x y (rearranged-member d m) (rearranged-member d l)
+
+-- where an item stands: exported or inherited, or in a parameter
+exported : Item → Bool
+exported i = is-exported (i .standing)
+
+inside : Name → Item → Bool
+inside p i = in-parameter p (i .standing)
+
+places : List Name → List (Item → Bool)
+places ps = exported ∷ map inside ps
+
+exported-apart : (p : Name) (s : Section) → is-exported s ≡ true → in-parameter p s ≡ false
+unfolding is-exported in-parameter
+exported-apart p export-section e = refl
+exported-apart p hidden-section e = refl
+exported-apart p (parameter-section q) e = absurd (false≢true e)
+
+parameters-apart : (p q : Name) → same p q ≡ false → (s : Section) → in-parameter p s ≡ true → in-parameter q s ≡ false
+unfolding in-parameter
+parameters-apart p q d export-section e = refl
+parameters-apart p q d hidden-section e = refl
+parameters-apart p q d (parameter-section r) e = go (same q r) refl
+  where
+    go : (b : Bool) → same q r ≡ b → b ≡ false
+    go true f = absurd (false≢true (sym d ∙ ap (same p) (same-equal q r f) ∙ e))
+    go false f = refl
+
+insides-apart : (ps : List Name) → Pairwise (λ p q. same p q ≡ false) ps → Pairwise Apart (map inside ps)
+unfolding inside
+insides-apart [] h = tt
+insides-apart (p ∷ ps) h = (later ps (h .0), insides-apart ps (h .1))
+  where
+    later : (qs : List Name) → Every (λ q. same p q ≡ false) qs → Every (Apart (inside p)) (map inside qs)
+    later [] k = tt
+    later (q ∷ qs) k = (λ i e. parameters-apart p q (k .0) (i .standing) e, later qs (k .1))
+
+places-apart : (ps : List Name) → Pairwise (λ p q. same p q ≡ false) ps → Pairwise Apart (places ps)
+unfolding places exported inside
+places-apart ps h = (all ps, insides-apart ps h)
+  where
+    all : (qs : List Name) → Every (Apart exported) (map inside qs)
+    all [] = tt
+    all (q ∷ qs) = (λ i e. exported-apart q (i .standing) e, all qs)
+
+stands-somewhere : (ps : List Name) (i : Item) → StandsIn ps (i .standing) → any (λ (t : Item → Bool). t i) (places ps) ≡ true
+unfolding places exported inside is-exported in-parameter
+stands-somewhere ps i h = go (i .standing) refl h
+  where
+    passes : (t : Item → Bool) → List·Memᴰ t (places ps) → t i ≡ true → any (λ (u : Item → Bool). u i) (places ps) ≡ true
+    passes = any-passes (λ (u : Item → Bool). u i) (places ps)
+
+    go : (s : Section) → i .standing ≡ s → StandsIn ps s → any (λ (t : Item → Bool). t i) (places ps) ≡ true
+    go export-section q h = passes exported (List·Memᴰ·head refl) (ap is-exported q)
+    go hidden-section q h = absurd h
+    go (parameter-section p) q h = passes (inside p) (List·Memᴰ·tail (member-map-to inside h)) (ap (in-parameter p) q ∙ same-self p)
+
+parts : Visible → List Name → List Item
+parts v ps = each (λ (t : Item → Bool). keep t (v .items)) (places ps)
+
+items-parted : (v : Visible) → Every (λ i. StandsIn (v .parameters) (i .standing)) (v .items) → Pairwise (λ p q. same p q ≡ false) (v .parameters)
+    → Rearranged (v .items) (parts v (v .parameters))
+unfolding parts
+items-parted v stand once =
+    parted (places (v .parameters)) (v .items)
+    (every-so (λ i. StandsIn (v .parameters) (i .standing)) _ (v .items) (stands-somewhere (v .parameters)) stand)
+    (places-apart (v .parameters) once)
+
+parts-one : (v v′ : Visible) (ps : List Name) → exported-of v ≡ exported-of v′ → Every (λ p. formals p v ≡ formals p v′) ps → parts v ps ≡ parts v′ ps
+unfolding parts places exported inside formals each
+parts-one v v′ ps e h = ap₂ _++_ e (later ps h)
+  where
+    later : (qs : List Name) → Every (λ p. formals p v ≡ formals p v′) qs
+        → each (λ (t : Item → Bool). keep t (v .items)) (map inside qs) ≡ each (λ (t : Item → Bool). keep t (v′ .items)) (map inside qs)
+    later [] k = refl
+    later (q ∷ qs) k = ap₂ _++_ (k .0) (later qs (k .1))
+
+module _ (asked asked′ : Name) (k k′ : Normal) (a : Accepted k) (a′ : Accepted k′) (s : SameListed asked asked′ k k′) where
+  items-rearranged : Rearranged (k .visible .items) (k′ .visible .items)
+  items-rearranged =
+      let here = items-parted (k .visible) (a .whole .sound .standing) (a .parameters) in
+      let there = items-parted (k′ .visible) (a′ .whole .sound .standing) (a′ .parameters) in
+      let same-parts = parts-one (k .visible) (k′ .visible) (k .visible .parameters) (s .exported) (s .inside) in
+      let q = same-parts ∙ ap (parts (k′ .visible)) (s .parameters) in
+      List·Permᴰ·trans (subst (Rearranged (k .visible .items)) q here) (Permᴰ·symm there)
+
+  -- two accepted forms with one listing have one visible part
+  pub one-visible : k .visible ≡ k′ .visible
+  unfolding in-order
+  one-visible =
+      let still = ap (λ (n : Normal). n .visible) (accepted-one-order k k a (same-itself k)) in
+      let still′ = ap (λ (n : Normal). n .visible) (accepted-one-order k′ k′ a′ (same-itself k′)) in
+      let parameters = subst (Rearranged (k .visible .parameters)) (s .parameters) (Permᴰ·refl (k .visible .parameters)) in
+      still ∙ visible-one (k .visible) (k′ .visible) parameters items-rearranged (told-in-order k a) ∙ sym still′
+
+  -- and equations that say the same, in the same order
+  pub one-content : map content (k .hidden .equations) ≡ map content (k′ .hidden .equations)
+  one-content =
+      let es = k .hidden .equations in
+      let fs = k′ .hidden .equations in
+      let over : List Item → List Item → Type 0 = λ vs is. Every (TypedEquation vs is) fs in
+      let typed = subst (λ (v : Visible). over (v .items) (k′ .hidden .items)) (sym one-visible) (a′ .whole .typed) in
+      let written : List Item → List (List ℕ) = λ is. map (equation-text is) fs in
+      lines-told k a es fs (a .whole .sound .equations) (a′ .whole .sound .equations) (a .whole .typed)
+      (subst (over (k .visible .items)) (sym (s .hidden)) typed) (s .equations ∙ ap written (sym (s .hidden)))
