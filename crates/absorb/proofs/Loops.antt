@@ -1,13 +1,14 @@
--- Laws of the loop over a source: after k rows the table has n, and the notes up to k say where each went.
+-- Laws of the loop over a source: after k rows the table has n, at most as many as fit, and the notes up to k say where each went.
 use mathlib.Core.Path.{_≡_, refl, sym, ap, ap₂, subst, _∙_}
 use mathlib.Core.Logic.{inl, inr, ⊎-elim}
-use Prim.Native.Nat.{ℕ, _+_, _*_, _≤_, _<_}
+use Prim.Native.Nat.{ℕ, _+_, _-_, _*_, _≤_, _<_}
 use mathlib.Core.Bool.{Bool, true, false, false≢true}
-use mathlib.Core.List.{List, [], _∷_, _++_, map, append-nil}
+use mathlib.Core.List.{List, [], _∷_, _++_, map, map-append, append-nil}
 use native.Mathlib.Omega.{arith}
 use native.Mathlib.Numerals.{add-one}
 use lib.Dec.{eqb}
-use lib.ListN.{length, getD}
+use lib.ListN.{length, getD, take}
+use lib.Seq.{take-all}
 use borrow.Author.Needs.{needs}
 use borrow.Author.Tests.{eqb-true, eqb-false}
 use Rattle.meaning.specs.Lists.{keep, union}
@@ -15,13 +16,14 @@ use Rattle.meaning.specs.Origins.{Item, one-item}
 use Rattle.tables.specs.Rows.{item-of, row-at}
 use Rattle.forms.specs.Memory.{part, KeptTwo}
 use Rattle.forms.specs.Forms.{items-at}
-use Rattle.forms.specs.FormLaws.{kept-two-same, kept-two-then, row-same, items-same, tape-same, items-grow, length-items, item-at}
+use Rattle.forms.specs.FormLaws.{kept-two-same, kept-two-then, row-same, items-same, tape-same, items-grow, items-split, length-items, item-at}
+use Rattle.forms.specs.FullLists.{take-union}
 use Rattle.translation.specs.declared.Mode.{Mode}
 use Rattle.translation.specs.Translation.{moved-in}
 use Rattle.translation.specs.MovedLaws.{moved-apart}
-use Rattle.absorb.specs.ListLaws.{union-then, union-stays, map-keep-more, keep-taken, keep-left}
-use Rattle.absorb.specs.Absorb.{Absorbed, taken}
-use Rattle.absorb.specs.Turns.{Taken, TurnRoom, Turned, Room}
+use Rattle.absorb.specs.ListLaws.{keep-append, union-then, union-stays, map-keep-more, keep-taken, keep-left}
+use Rattle.absorb.specs.Absorb.{Absorbed, AbsorbedWithin, taken}
+use Rattle.absorb.specs.Turns.{Taken, TurnRoom, Turned, RoomWithin}
 
 kept-all : (a e b f : ℕ) (w : List ℕ) → KeptTwo a e b f w w
 kept-all a e b f w = record { size = refl; kept = λ i p q. refl }
@@ -32,7 +34,7 @@ kept-wider a e b f a′ e′ b′ f′ w w′ h l m n k = record {
   kept = λ i p q. k .kept i (⊎-elim (λ u. inl (omega arith)) (λ u. inr (omega arith)) p) (⊎-elim (λ u. inl (omega arith)) (λ u. inr (omega arith)) q);
 }
 
-module _ (text w₀ : List ℕ) (t : ℕ) (m : Mode) (visible drop : Bool) (s ns d nd o : ℕ) where
+module _ (text w₀ : List ℕ) (t : ℕ) (m : Mode) (visible drop : Bool) (s ns d nd o cap : ℕ) where
   abbrev tape : List ℕ
   tape = part w₀ 0 t
 
@@ -54,31 +56,34 @@ module _ (text w₀ : List ℕ) (t : ℕ) (m : Mode) (visible drop : Bool) (s ns
     pub items : items-at text tape w d n ≡ union one-item (items-at text tape w₀ d nd) (come k)
     pub grows : nd ≤ n
     pub few : n ≤ nd + k
+    pub within : n ≤ cap
     pub noted : (i : ℕ) → i < k → wanted (old i) ≡ true → getD w (o + i) 0 < n
     pub notes : (i : ℕ) (z : Item) → i < k → wanted (old i) ≡ true → getD (items-at text tape w d n) (getD w (o + i) 0) z ≡ new (old i)
-    pub kept : KeptTwo (d + nd * 16) (d + (nd + ns) * 16) o (o + ns) w₀ w
+    pub kept : KeptTwo (d + nd * 16) (d + cap * 16) o (o + ns) w₀ w
+    pub kept-few : KeptTwo (d + nd * 16) (d + (nd + ns) * 16) o (o + ns) w₀ w
 
-  pub absorb-start : Absorbing w₀ nd 0
+  pub absorb-start : nd ≤ cap → Absorbing w₀ nd 0
   unfolding items-at keep union
-  absorb-start = record {
+  absorb-start fits = record {
     inside = omega arith;
     items = refl;
     grows = omega arith;
     few = omega arith;
+    within = fits;
     noted = λ i h. absurd (omega arith);
     notes = λ i z h. absurd (omega arith);
-    kept = kept-all (d + nd * 16) (d + (nd + ns) * 16) o (o + ns) w₀;
+    kept = kept-all (d + nd * 16) (d + cap * 16) o (o + ns) w₀;
+    kept-few = kept-all (d + nd * 16) (d + (nd + ns) * 16) o (o + ns) w₀;
   }
 
   -- one row more
   come-more : (k : ℕ) → come (k + 1) ≡ come k ++ map new (keep wanted (old k ∷ []))
   come-more k = rw (add-one k, items-grow text tape w₀ s k) (map-keep-more wanted new (old k) (items-at text tape w₀ s k))
 
-  module _ (room : Room (length w₀) t m s ns d nd o) (w : List ℕ) (n k : ℕ) (inv : Absorbing w n k) where
-    pub absorb-room : k < ns → TurnRoom (length w) t k d n o
-    absorb-room h =
+  module _ (room : RoomWithin (length w₀) t m s ns d cap o) (w : List ℕ) (n k : ℕ) (inv : Absorbing w n k) where
+    pub absorb-room : k < ns → n < cap → TurnRoom (length w) t k d n o
+    absorb-room h l =
         let size = inv .kept .size in
-        let few = inv .few in
         record {
           tape = omega (arith, room .tape-table, room .table);
           few = omega (arith, room .few);
@@ -91,19 +96,19 @@ module _ (text w₀ : List ℕ) (t : ℕ) (m : Mode) (visible drop : Bool) (s ns
     tape-stays : part w 0 t ≡ tape
     tape-stays =
         tape-same w₀ w t (inv .kept .size)
-        (kept-two-same (d + nd * 16) (d + (nd + ns) * 16) o (o + ns) 0 t w₀ w (inl (omega (arith, room .tape-table))) (inl (room .tape-note)) (inv .kept))
+        (kept-two-same (d + nd * 16) (d + cap * 16) o (o + ns) 0 t w₀ w (inl (omega (arith, room .tape-table))) (inl (room .tape-note)) (inv .kept))
 
     source-stays : k < ns → row-at w (s + k * 16) ≡ row-at w₀ (s + k * 16)
     source-stays h =
         row-same w₀ w (s + k * 16)
-        (kept-two-same (d + nd * 16) (d + (nd + ns) * 16) o (o + ns) (s + k * 16) (s + k * 16 + 15) w₀ w
+        (kept-two-same (d + nd * 16) (d + cap * 16) o (o + ns) (s + k * 16) (s + k * 16 + 15) w₀ w
         (⊎-elim (λ u. inl (omega arith)) (λ u. inr (omega arith)) (room .table-source))
         (⊎-elim (λ u. inl (omega arith)) (λ u. inr (omega arith)) (room .note-source)) (inv .kept))
 
     mode-stays : items-at text tape w (m .visible) (m .count) ≡ items-at text tape w₀ (m .visible) (m .count)
     mode-stays =
         items-same w₀ w text tape (m .visible) (m .count)
-        (kept-two-same (d + nd * 16) (d + (nd + ns) * 16) o (o + ns) (m .visible) (m .visible + m .count * 16) w₀ w
+        (kept-two-same (d + nd * 16) (d + cap * 16) o (o + ns) (m .visible) (m .visible + m .count * 16) w₀ w
         (⊎-elim (λ u. inl (omega arith)) (λ u. inr u) (room .table-mode)) (room .note-mode) (inv .kept))
 
     -- ---- a row that is left out
@@ -114,12 +119,15 @@ module _ (text w₀ : List ℕ) (t : ℕ) (m : Mode) (visible drop : Bool) (s ns
         record {
           inside = omega arith;
           items = inv .items
-              ∙ ap (union one-item (items-at text tape w₀ d nd)) (sym (come-more k ∙ ap (λ (r : List Item). come k ++ r) (keep-left wanted new (old k) q) ∙ append-nil (come k)));
+              ∙ ap (union one-item (items-at text tape w₀ d nd))
+              (sym (come-more k ∙ ap (λ (r : List Item). come k ++ r) (keep-left wanted new (old k) q) ∙ append-nil (come k)));
           grows = inv .grows;
           few = omega arith;
+          within = inv .within;
           noted = λ i l takes. inv .noted i (earlier i l takes) takes;
           notes = λ i z l takes. inv .notes i z (earlier i l takes) takes;
           kept = inv .kept;
+          kept-few = inv .kept-few;
         }
       where
         earlier : (i : ℕ) → i < k + 1 → wanted (old i) ≡ true → i < k
@@ -131,7 +139,7 @@ module _ (text w₀ : List ℕ) (t : ℕ) (m : Mode) (visible drop : Bool) (s ns
 
     -- ---- a row that is taken
 
-    module _ (w′ : List ℕ) (n′ : ℕ) (h : k < ns) (takes : wanted (old k) ≡ true) (x : Item) (same : x ≡ old k)
+    module _ (w′ : List ℕ) (n′ : ℕ) (h : k < ns) (free : n < cap) (takes : wanted (old k) ≡ true) (x : Item) (same : x ≡ old k)
         (tk : Taken text tape w m visible x d n (o + k) n′ w′) where
       becomes : moved-in text tape w m visible x ≡ new (old k)
       becomes = moved-apart text tape w₀ w m mode-stays visible x ∙ ap new same
@@ -141,7 +149,6 @@ module _ (text w₀ : List ℕ) (t : ℕ) (m : Mode) (visible drop : Bool) (s ns
 
       note-stays : (i : ℕ) → i < k → getD w′ (o + i) 0 ≡ getD w (o + i) 0
       note-stays i l =
-          let few = inv .few in
           tk .kept .kept (o + i) (⊎-elim (λ u. inl (omega arith)) (λ u. inr (omega arith)) (room .table-note)) (inl (omega arith))
 
       noted-now : (i : ℕ) → i < k + 1 → wanted (old i) ≡ true → (b : Bool) → eqb i k ≡ b → getD w′ (o + i) 0 < n′
@@ -172,24 +179,28 @@ module _ (text w₀ : List ℕ) (t : ℕ) (m : Mode) (visible drop : Bool) (s ns
                 ∙ union-then one-item (items-at text tape w₀ d nd) (come k) (new (old k) ∷ []) ∙ ap (union one-item (items-at text tape w₀ d nd)) (sym more);
             grows = omega (arith, tk .grows);
             few = omega (arith, tk .few);
+            within = omega (arith, tk .few);
             noted = λ i l q. noted-now i l q (eqb i k) refl;
             notes = λ i z l q. notes-now i z l q (eqb i k) refl;
-            kept = kept-two-then (d + nd * 16) (d + (nd + ns) * 16) o (o + ns) w₀ w w′ (inv .kept)
+            kept = kept-two-then (d + nd * 16) (d + cap * 16) o (o + ns) w₀ w w′ (inv .kept)
+                (kept-wider (d + n * 16) (d + n * 16 + 16) (o + k) (o + k + 1) (d + nd * 16) (d + cap * 16) o (o + ns) w w′
+                (omega arith) (omega arith) (omega arith) (omega arith) (tk .kept));
+            kept-few = kept-two-then (d + nd * 16) (d + (nd + ns) * 16) o (o + ns) w₀ w w′ (inv .kept-few)
                 (kept-wider (d + n * 16) (d + n * 16 + 16) (o + k) (o + k + 1) (d + nd * 16) (d + (nd + ns) * 16) o (o + ns) w w′
                 (omega arith) (omega arith) (omega arith) (omega arith) (tk .kept));
           }
 
     -- ---- either
 
-    pub absorb-again : (w′ : List ℕ) (n′ : ℕ) → k < ns → Turned text (part w 0 t) w m visible drop s k d n o n′ w′ → Absorbing w′ n′ (k + 1)
-    absorb-again w′ n′ h turned = by (wanted (old k)) refl
+    pub absorb-again : (w′ : List ℕ) (n′ : ℕ) → k < ns → n < cap → Turned text (part w 0 t) w m visible drop s k d n o n′ w′ → Absorbing w′ n′ (k + 1)
+    absorb-again w′ n′ h free turned = by (wanted (old k)) refl
       where
         same : item-of text (part w 0 t) (row-at w (s + k * 16)) ≡ old k
         same = ap₂ (item-of text) tape-stays (source-stays h)
 
         by : (b : Bool) → wanted (old k) ≡ b → Absorbing w′ n′ (k + 1)
         by true takes =
-            taken-in w′ n′ h takes (item-of text (part w 0 t) (row-at w (s + k * 16))) same
+            taken-in w′ n′ h free takes (item-of text (part w 0 t) (row-at w (s + k * 16))) same
             (subst (λ (u : List ℕ). Taken text u w m visible (item-of text (part w 0 t) (row-at w (s + k * 16))) d n (o + k) n′ w′) tape-stays
             (turned .takes (ap wanted same ∙ takes)))
         by false q =
@@ -197,8 +208,8 @@ module _ (text w₀ : List ℕ) (t : ℕ) (m : Mode) (visible drop : Bool) (s ns
             let f : w′ ≡ w = turned .stays (ap wanted same ∙ q) in
             rw (e, f) (left-out q h)
 
-    pub absorb-end : ns ≤ k → Absorbed text tape w₀ m visible drop s ns d nd o n w
-    absorb-end h =
+    all-come : ns ≤ k → Absorbed text tape w₀ m visible drop s ns d nd o n w
+    all-come h =
         let all : k ≡ ns = omega (arith, inv .inside) in
         let few = inv .few in
         record {
@@ -206,8 +217,54 @@ module _ (text w₀ : List ℕ) (t : ℕ) (m : Mode) (visible drop : Bool) (s ns
           grows = inv .grows;
           few = omega arith;
           noted = λ i x l q. inv .noted i (omega arith) (ap wanted (sym (item-at text tape w₀ s ns i x l)) ∙ q);
-          notes = λ i x l q. inv .notes i x (omega arith) (ap wanted (sym (item-at text tape w₀ s ns i x l)) ∙ q) ∙ ap new (sym (item-at text tape w₀ s ns i x l));
-          kept = inv .kept;
+          notes = λ i x l q.
+              inv .notes i x (omega arith) (ap wanted (sym (item-at text tape w₀ s ns i x l)) ∙ q) ∙ ap new (sym (item-at text tape w₀ s ns i x l));
+          kept = inv .kept-few;
         }
 
-pub ruleset loops = (absorb-start, absorb-room, absorb-again, absorb-end, needs)
+    pub absorb-end : ns ≤ k → AbsorbedWithin text tape w₀ m visible drop s ns d nd o cap n w
+    absorb-end h =
+        let x = all-come h in
+        let many : length (items-at text tape w d n) ≡ n = length-items text tape w d n in
+        record {
+          items = sym (take-all cap (items-at text tape w d n) (omega (arith, inv .within))) ∙ ap (take cap) (x .items);
+          grows = inv .grows;
+          within = inv .within;
+          kept = inv .kept;
+          whole = λ p. x;
+        }
+
+    -- ---- the table is full
+
+    abbrev rest : List Item
+    rest = map new (keep wanted (items-at text tape w₀ (s + k * 16) (ns - k)))
+
+    come-all : k < ns → come ns ≡ come k ++ rest
+    come-all h =
+        let e : ns ≡ k + (ns - k) = omega arith in
+        ap come e ∙ ap (λ (xs : List Item). map new (keep wanted xs)) (items-split text tape w₀ s k (ns - k))
+        ∙ ap (map new) (keep-append wanted (items-at text tape w₀ s k) (items-at text tape w₀ (s + k * 16) (ns - k)))
+        ∙ map-append new (keep wanted (items-at text tape w₀ s k)) (keep wanted (items-at text tape w₀ (s + k * 16) (ns - k)))
+
+    pub absorb-full : k < ns → cap ≤ n → AbsorbedWithin text tape w₀ m visible drop s ns d nd o cap n w
+    absorb-full h l =
+        let had = items-at text tape w₀ d nd in
+        let many : length (items-at text tape w d n) ≡ n = length-items text tape w d n in
+        let full : cap ≤ length (union one-item had (come k)) = omega (arith, ap length (inv .items)) in
+        record {
+          items = inv .items ∙ sym (take-all cap (union one-item had (come k)) (omega (arith, inv .within, ap length (inv .items))))
+              ∙ sym (take-union one-item cap (union one-item had (come k)) rest full)
+              ∙ ap (take cap) (union-then one-item had (come k) rest ∙ ap (union one-item had) (sym (come-all h)));
+          grows = inv .grows;
+          within = inv .within;
+          kept = inv .kept;
+          whole = λ p. ⊎-elim (λ u. absurd (omega arith)) (λ u. absurd (omega (arith, inv .few))) p;
+        }
+
+-- ---- `absorb_items`: there is room for all
+
+pub absorb-whole : (text tape w : List ℕ) (m : Mode) (visible drop : Bool) (s ns d nd o r : ℕ) (w′ : List ℕ)
+    → AbsorbedWithin text tape w m visible drop s ns d nd o (nd + ns) r w′ → Absorbed text tape w m visible drop s ns d nd o r w′
+absorb-whole text tape w m visible drop s ns d nd o r w′ x = x .whole (inr (omega arith))
+
+pub ruleset loops = (absorb-start, absorb-room, absorb-again, absorb-end, absorb-full, absorb-whole, needs)

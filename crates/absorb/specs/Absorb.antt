@@ -1,9 +1,10 @@
 -- What absorbing items leaves: the table's items, where each source row went, and what stays.
 use mathlib.Core.Path.{_≡_}
+use mathlib.Core.Logic.{_⊎_}
 use Prim.Native.Nat.{ℕ, _+_, _*_, _≤_, _<_}
 use mathlib.Core.Bool.{Bool, true, not}
 use mathlib.Core.List.{List, [], _∷_, map}
-use lib.ListN.{getD}
+use lib.ListN.{getD, take}
 use Rattle.meaning.specs.Lists.{pick, keep, any, before, union}
 use Rattle.meaning.specs.Origins.{Item, one-item}
 use Rattle.meaning.specs.Checks.{in-parameter}
@@ -36,3 +37,14 @@ pub record Absorbed (text tape w : List ℕ) (m : Mode) (visible drop : Bool) (s
       (i : ℕ) (x : Item) → i < ns → taken text drop (m .parameter) (getD (items-at text tape w s ns) i x) ≡ true
       → getD (items-at text tape w′ d r) (getD w′ (o + i) 0) x ≡ moved-in text tape w m visible (getD (items-at text tape w s ns) i x)
   pub kept : KeptTwo (d + nd * 16) (d + (nd + ns) * 16) o (o + ns) w w′
+
+-- the same while the table has less than `cap` rows. Where it stops before the end the table is full
+pub record AbsorbedWithin (text tape w : List ℕ) (m : Mode) (visible drop : Bool) (s ns d nd o cap r : ℕ) (w′ : List ℕ) : Type 0 where
+  pub items :
+      items-at text tape w′ d r
+      ≡ take cap (union one-item (items-at text tape w d nd)
+      (map (moved-in text tape w m visible) (keep (taken text drop (m .parameter)) (items-at text tape w s ns))))
+  pub grows : nd ≤ r
+  pub within : r ≤ cap
+  pub kept : KeptTwo (d + nd * 16) (d + cap * 16) o (o + ns) w w′
+  pub whole : (r < cap) ⊎ (nd + ns ≤ cap) → Absorbed text tape w m visible drop s ns d nd o r w′

@@ -37,19 +37,23 @@ pub record TurnRoom (size t k d n o : ℕ) : Type 0 where
   pub word : o + k < size
   pub apart : Apart d (d + n * 16 + 16) (o + k) (o + k + 1)
 
--- for all rows of a source: the table and the note lie behind the tape, within the memory, apart from each other, from the source and from
--- the table of the mode
-pub record Room (size t : ℕ) (m : Mode) (s ns d nd o : ℕ) : Type 0 where
+-- for all rows of a source, up to `cap` rows in the table: it and the note lie behind the tape, within the memory, apart from each other, from
+-- the source and from the table of the mode
+pub record RoomWithin (size t : ℕ) (m : Mode) (s ns d cap o : ℕ) : Type 0 where
   pub tape-table : t ≤ d
   pub tape-note : t ≤ o
-  pub table : d + (nd + ns) * 16 ≤ size
+  pub table : d + cap * 16 ≤ size
   pub note : o + ns ≤ size
-  pub few : nd + ns ≤ 65536
-  pub table-note : Apart d (d + (nd + ns) * 16) o (o + ns)
-  pub table-source : Apart d (d + (nd + ns) * 16) s (s + ns * 16)
+  pub few : cap ≤ 65536
+  pub table-note : Apart d (d + cap * 16) o (o + ns)
+  pub table-source : Apart d (d + cap * 16) s (s + ns * 16)
   pub note-source : Apart o (o + ns) s (s + ns * 16)
-  pub table-mode : Apart d (d + (nd + ns) * 16) (m .visible) (m .visible + m .count * 16)
+  pub table-mode : Apart d (d + cap * 16) (m .visible) (m .visible + m .count * 16)
   pub note-mode : Apart o (o + ns) (m .visible) (m .visible + m .count * 16)
+
+-- and for all of them behind nd rows
+abbrev pub Room : ℕ → ℕ → Mode → ℕ → ℕ → ℕ → ℕ → ℕ → Type 0
+Room size t m s ns d nd o = RoomWithin size t m s ns d (nd + ns) o
 
 -- ---- one turn
 

@@ -15,8 +15,8 @@ ghost use Rattle.meaning.specs.Origins.{one-item};
 ghost use Rattle.tables.specs.Rows.{item-of};
 ghost use Rattle.forms.specs.Memory.{part};
 ghost use Rattle.forms.specs.Forms.{items-at};
-ghost use Rattle.absorb.specs.Absorb.{Placed, Absorbed, taken};
-ghost use Rattle.absorb.specs.Turns.{Space, Place, Taken, TurnRoom, Turned, Room};
+ghost use Rattle.absorb.specs.Absorb.{Placed, Absorbed, AbsorbedWithin, taken};
+ghost use Rattle.absorb.specs.Turns.{Space, Place, Taken, TurnRoom, Turned, RoomWithin, Room};
 
 // The first of n rows that is one with x; n if there is none.
 pub fn find_item(text: &[u8], work: &[u32], t: usize, base: u32, n: u32, x: Row) -> u32
@@ -111,6 +111,39 @@ fn absorb_row(
     n
 }
 
+// The rows of the source at s into the table at d, which has nd rows, while it has less than `cap`: moved through the mode, noted from o on.
+// The number of rows after.
+pub fn absorb_within(
+    text: &[u8],
+    work: &mut [u32],
+    t: usize,
+    m: Mode,
+    visible: bool,
+    drop: bool,
+    s: u32,
+    ns: u32,
+    d: u32,
+    nd: u32,
+    o: u32,
+    cap: u32,
+) -> u32
+    requires { ⌜ RoomWithin (length (now work)) t m s ns d cap o ⌝ }
+    requires { ⌜ nd ≤ cap ⌝ }
+    ensures { λ r. ⌜ AbsorbedWithin (now (text .entry)) (part (now (work .entry)) 0 t) (now (work .entry)) m visible drop s ns d nd o cap r (now (work .exit)) ⌝ }
+{
+    let mut n = nd;
+    let mut k = 0;
+    while k < ns {
+        if n < cap {
+            n = absorb_row(text, work, t, m, visible, drop, s, k, d, n, o);
+            k += 1;
+        } else {
+            return n;
+        }
+    }
+    n
+}
+
 // Every row of the source at s into the table at d, which has nd rows: moved through the mode, noted from o on. The number of rows after.
 pub fn absorb_items(
     text: &[u8],
@@ -128,11 +161,5 @@ pub fn absorb_items(
     requires { ⌜ Room (length (now work)) t m s ns d nd o ⌝ }
     ensures { λ r. ⌜ Absorbed (now (text .entry)) (part (now (work .entry)) 0 t) (now (work .entry)) m visible drop s ns d nd o r (now (work .exit)) ⌝ }
 {
-    let mut n = nd;
-    let mut k = 0;
-    while k < ns {
-        n = absorb_row(text, work, t, m, visible, drop, s, k, d, n, o);
-        k += 1;
-    }
-    n
+    absorb_within(text, work, t, m, visible, drop, s, ns, d, nd, o, nd + ns)
 }

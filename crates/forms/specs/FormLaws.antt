@@ -19,6 +19,10 @@ use Rattle.forms.specs.Forms.{names-at, items-at, equation-row-at}
 abbrev pub Apart : ℕ → ℕ → ℕ → ℕ → Type 0
 Apart a e b f = (f ≤ a) ⊎ (e ≤ b)
 
+pub apart-within : (a e a′ e′ b f : ℕ) → a ≤ a′ → e′ ≤ e → Apart a e b f → Apart a′ e′ b f
+apart-within a e a′ e′ b f h l (inl p) = inl (omega arith)
+apart-within a e a′ e′ b f h l (inr p) = inr (omega arith)
+
 -- ---- what changes little
 
 pub kept-all : (a e : ℕ) (w : List ℕ) → Kept a e w w
@@ -68,7 +72,7 @@ pub kept-two-swap : (a e b f : ℕ) (w w′ : List ℕ) → KeptTwo a e b f w w�
 kept-two-swap a e b f w w′ k = record { size = k .size; kept = λ i p q. k .kept i q p }
 
 module _ (w w′ : List ℕ) where
-  words-from-same : (b c : ℕ) → Same b (b + c) w w′ → words-from w′ b c ≡ words-from w b c
+  pub words-from-same : (b c : ℕ) → Same b (b + c) w w′ → words-from w′ b c ≡ words-from w b c
   unfolding words-from
   words-from-same b zero p = refl
   words-from-same b (suc c) p =
@@ -138,6 +142,20 @@ items-grow text tape w b (suc c) =
     let e : b + 16 + c * 16 ≡ b + suc c * 16 = omega arith in
     ap (λ (xs : List Item). item-of text tape (row-at w b) ∷ xs)
     (items-grow text tape w (b + 16) c ∙ ap (λ (i : ℕ). items-at text tape w (b + 16) c ++ (item-of text tape (row-at w i) ∷ [])) e)
+
+-- a table in two parts
+pub items-split : (text tape w : List ℕ) (b v m : ℕ) → items-at text tape w b (v + m) ≡ items-at text tape w b v ++ items-at text tape w (b + v * 16) m
+unfolding items-at
+items-split text tape w b zero m =
+    let e : b ≡ b + 0 * 16 = omega arith in
+    let c : 0 + m ≡ m = omega arith in
+    ap₂ (λ (i k : ℕ). items-at text tape w i k) e c
+items-split text tape w b (suc v) m =
+    let e : b + 16 + v * 16 ≡ b + suc v * 16 = omega arith in
+    let c : suc v + m ≡ suc (v + m) = omega arith in
+    ap (items-at text tape w b) c
+    ∙ ap (item-of text tape (row-at w b) ∷_)
+    (items-split text tape w (b + 16) v m ∙ ap (λ (i : ℕ). items-at text tape w (b + 16) v ++ items-at text tape w i m) e)
 
 pub length-items : (text tape w : List ℕ) (b c : ℕ) → length (items-at text tape w b c) ≡ c
 unfolding items-at

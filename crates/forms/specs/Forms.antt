@@ -1,14 +1,17 @@
 -- What tables of the working memory stand for: lists of items, nodes, equations, and a whole normal form of the meaning.
 use mathlib.Core.Path.{_≡_}
-use Prim.Native.Nat.{ℕ, zero, suc, _+_, _-_, _*_, _/_, _%_, _≤_}
+use Prim.Native.Nat.{ℕ, zero, suc, _+_, _-_, _*_, _/_, _%_, _≤_, _<_}
 use mathlib.Core.Bool.{Bool, true, false}
 use mathlib.Core.List.{List, [], _∷_, _++_, map}
 use lib.Dec.{eqb}
 use lib.ListN.{length, getD, take, drop}
-use Rattle.meaning.specs.Lists.{pick, each}
+use Rattle.meaning.specs.Lists.{pick, each, sum}
 use Rattle.meaning.specs.Names.{Name}
-use Rattle.meaning.specs.Origins.{Origin, Sort, hidden-sort, Head, visible-head, hidden-head, ResolvedTerm, var, app, ResolvedTerms, none-left, _and-then_, ResolvedSides, ResolvedEquation, Shape, sort-shape, function-shape, variable-shape, Item}
+use Rattle.meaning.specs.Numbers.{node-limit}
+use Rattle.meaning.specs.Origins.{Origin, Sort, hidden-sort, Head, visible-head, hidden-head, ResolvedTerm, var, app, ResolvedTerms, none-left, _and-then_, ResolvedSides, ResolvedEquation, Shape, sort-shape, function-shape, variable-shape, is-sort, is-function, Item}
 use Rattle.meaning.specs.Normal.{Visible, Hidden, Normal}
+use Rattle.meaning.specs.Checks.{equation-nodes}
+use Rattle.meaning.specs.OrderLaws.{Every}
 use Rattle.names.specs.Word.{name-of}
 use Rattle.tables.specs.declared.Row.{Row}
 use Rattle.tables.specs.Rows.{item-of, row-at}
@@ -102,10 +105,23 @@ EquationsStand text tape w f b [] = Unit {0}
 EquationsStand text tape w f b (e ∷ es) =
     EquationStands text tape w f (equation-row-at w b) e × EquationsStand text tape w f (b + 8) es
 
--- every node points at a row that the form has
-pub record Pointing (w : List ℕ) (f : Form) : Type 0 where
-  pub visible : (i : ℕ) → suc i ≤ f .«node_count» → getD w (f .nodes + i) 0 / 16 % 2 ≡ 0 → suc (getD w (f .nodes + i) 0 / 32) ≤ f .«visible_count»
-  pub hidden : (i : ℕ) → suc i ≤ f .«node_count» → getD w (f .nodes + i) 0 / 16 % 2 ≡ 1 → suc (getD w (f .nodes + i) 0 / 32) ≤ f .«hidden_count»
+-- what a node's word points at: a visible function that the form has, or a hidden function or variable, which stands alone
+unfoldable pub node-item : List ℕ → List ℕ → List ℕ → Form → ℕ → Item
+node-item text tape w f v = item-of text tape (node-row w (f .visible) (f .hidden) v)
+
+pub record VisiblePoint (text tape w : List ℕ) (f : Form) (v : ℕ) : Type 0 where
+  pub inside : v / 32 < f .«visible_count»
+  pub function : is-function (node-item text tape w f v .shape) ≡ true
+
+pub record HiddenPoint (text tape w : List ℕ) (f : Form) (v : ℕ) : Type 0 where
+  pub inside : v / 32 < f .«hidden_count»
+  pub no-sort : is-sort (node-item text tape w f v .shape) ≡ false
+  pub alone : is-function (node-item text tape w f v .shape) ≡ false → v % 16 ≡ 0
+
+-- every node points at such a row
+pub record Pointing (text tape w : List ℕ) (f : Form) : Type 0 where
+  pub visible : (i : ℕ) → i < f .«node_count» → getD w (f .nodes + i) 0 / 16 % 2 ≡ 0 → VisiblePoint text tape w f (getD w (f .nodes + i) 0)
+  pub hidden : (i : ℕ) → i < f .«node_count» → getD w (f .nodes + i) 0 / 16 % 2 ≡ 1 → HiddenPoint text tape w f (getD w (f .nodes + i) 0)
 
 -- ---- a normal form
 
@@ -115,10 +131,12 @@ visible-at text tape w f = record {
   items = items-at text tape w (f .visible) (f .«visible_count»);
 }
 
--- the form f of memory w stands for the normal form n
+-- the form f of memory w stands for the normal form n; no equation has more nodes than a text's may have
 pub record Stands (text tape w : List ℕ) (f : Form) (n : Normal) : Type 0 where
   pub visible : visible-at text tape w f ≡ n .visible
   pub hidden : items-at text tape w (f .hidden) (f .«hidden_count») ≡ n .hidden .items
   pub equation-count : f .«equation_count» ≡ length (n .hidden .equations)
+  pub node-count : f .«node_count» ≡ sum equation-nodes (n .hidden .equations)
   pub equations : EquationsStand text tape w f (f .equations) (n .hidden .equations)
-  pub pointing : Pointing w f
+  pub small : Every (λ (e : ResolvedEquation). equation-nodes e ≤ node-limit) (n .hidden .equations)
+  pub pointing : Pointing text tape w f

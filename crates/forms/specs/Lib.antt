@@ -4,3 +4,6 @@ pub mod FormLaws
 pub mod Verdicts
 pub mod Flat
 pub mod FlatMoves
+pub mod Blocks
+pub mod Frames
+pub mod FullLists

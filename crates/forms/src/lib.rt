@@ -30,3 +30,26 @@ pub enum Verdict {
     Fine,
     Stop(u32, u32),
 }
+
+// How an evaluation ends: with a normal form, or refused with the number and the word of the culprit's name.
+pub enum Made {
+    Done(Form),
+    Refused(u32, u32),
+}
+
+// A part of the working memory from `low` up to `high`, in which a normal form is made: its parts in this order, each with room for so many
+// names, rows or nodes, then the notes of visible and of hidden items, and the order table.
+pub struct Block {
+    pub low: u32,
+    pub parameters: u32,
+    pub visible: u32,
+    pub hidden: u32,
+    pub equations: u32,
+    pub nodes: u32,
+    pub visible_notes: u32,
+    pub hidden_notes: u32,
+    pub order: u32,
+    pub high: u32,
+    pub equation_room: u32,
+    pub node_room: u32,
+}

@@ -13,9 +13,9 @@ use Rattle.forms.specs.Memory.{Kept}
 use Rattle.forms.specs.Forms.{node-in, nodes-of, flat-equation}
 use Rattle.forms.specs.FormLaws.{kept-wider, kept-then, kept-set}
 use Rattle.forms.specs.FlatMoves.{move-node, equation-moved}
+use Rattle.forms.specs.Frames.{run-word}
 use Rattle.joining.specs.Joined.{renode, copied}
 use Rattle.joining.specs.Grown.{copy-kept}
-use Rattle.joining.specs.Stays.{run-word}
 
 -- words of w from a up to e are read through the notes to the same nodes while only words of b up to f change
 abbrev pub Steady : List ℕ → ℕ → ℕ → ℕ → ℕ → ℕ → ℕ → Type 0
@@ -44,7 +44,7 @@ module _ (w : List ℕ) (visible hidden a e b f : ℕ) (steady : Steady w visibl
       ∙ word-copied (set u d x) k₁ (suc p) (suc d) c i (omega arith) (omega arith) (omega arith) (omega arith) (omega (arith, length-set u d x)) (omega arith)
       ∙ ap (λ (j : ℕ). renode w visible hidden (getD w j 0)) (sym y)
 
-map-two : {A : Type 0} (f g : ℕ → A) (xs ys : List ℕ) → length xs ≡ length ys → ((i : ℕ) → i < length xs → f (getD xs i 0) ≡ g (getD ys i 0)) → map f xs ≡ map g ys
+pub map-two : {A : Type 0} (f g : ℕ → A) (xs ys : List ℕ) → length xs ≡ length ys → ((i : ℕ) → i < length xs → f (getD xs i 0) ≡ g (getD ys i 0)) → map f xs ≡ map g ys
 map-two f g [] [] e h = refl
 map-two f g [] (y ∷ ys) e h = absurd (omega arith)
 map-two f g (x ∷ xs) [] e h = absurd (omega arith)

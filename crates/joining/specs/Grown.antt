@@ -1,4 +1,4 @@
--- What absorbing keeps: the form stays in its place, its counts do not fall, and no word changes but rows and nodes behind the counts.
+-- What absorbing keeps: the form stays in its place, its counts do not fall and keep to their room, and no word changes but rows and nodes behind the counts.
 use mathlib.Core.Path.{_≡_, refl, ap, _∙_}
 use mathlib.Core.Logic.{_⊎_, inl, inr, ⊎-elim}
 use mathlib.Core.Bool.{Bool, true, false}
@@ -37,6 +37,8 @@ pub record Grown (o : Notes) (f : Form) (w : List ℕ) (r : Form) (w′ : List �
   pub same : r ≡ with-counts f (r .«equation_count») (r .«node_count»)
   pub more-equations : f .«equation_count» ≤ r .«equation_count»
   pub more-nodes : f .«node_count» ≤ r .«node_count»
+  pub few-equations : f .«equation_count» ≤ o .«equation_room» → r .«equation_count» ≤ o .«equation_room»
+  pub few-nodes : f .«node_count» ≤ o .«node_room» → r .«node_count» ≤ o .«node_room»
   pub kept : Behind o f w w′
 
 module _ (o : Notes) where
@@ -46,6 +48,8 @@ module _ (o : Notes) where
     same = refl;
     more-equations = omega arith;
     more-nodes = omega arith;
+    few-equations = λ h. h;
+    few-nodes = λ h. h;
     kept = kept-is-two _ _ _ _ w w (kept-all _ _ w);
   }
 
@@ -63,11 +67,14 @@ module _ (o : Notes) where
     same = y .same ∙ ap (λ (z : Form). with-counts z (h .«equation_count») (h .«node_count»)) (x .same);
     more-equations = omega (arith, x .more-equations, y .more-equations);
     more-nodes = omega (arith, x .more-nodes, y .more-nodes);
+    few-equations = λ l. y .few-equations (x .few-equations l);
+    few-nodes = λ l. y .few-nodes (x .few-nodes l);
     kept = kept-two-then _ _ _ _ w w₁ w₂ (x .kept)
         (wider f g w₁ w₂ (ap (λ (z : Form). z .equations) (x .same)) (ap (λ (z : Form). z .nodes) (x .same)) (x .more-equations) (x .more-nodes) (y .kept));
   }
 
-  module _ (text : List ℕ) (t : ℕ) (f : Form) (q : EquationRow) (h : f .«equation_count» < o .«equation_room») where
+  module _ (text : List ℕ) (t : ℕ) (f : Form) (q : EquationRow) (h : f .«equation_count» < o .«equation_room»)
+      (fits : f .«node_count» + q .count ≤ o .«node_room») where
     settled-grown : (w : List ℕ) → Grown o f w (settled text t w f q .form) (settled text t w f q .work)
     unfolding settled pick with-counts equation-words
     settled-grown w = go (has-equation text t w f q 0 (f .«equation_count»))
@@ -81,6 +88,8 @@ module _ (o : Notes) where
           same = refl;
           more-equations = omega arith;
           more-nodes = omega arith;
+          few-equations = λ l. omega arith;
+          few-nodes = λ l. fits;
           kept = kept-is-two _ _ _ _ w (more .work)
               (kept-wider _ _ (f .equations + f .«equation_count» * 8) (f .equations + o .«equation_room» * 8) w (more .work) (omega arith) (omega arith)
               (kept-sets (equation-words q (f .«node_count»)) w (f .equations + f .«equation_count» * 8)));
@@ -99,14 +108,16 @@ module _ (o : Notes) where
       go false b d e = grown-none f w
       go true true d e = grown-none f w
       go true false d e =
-          let x = settled-grown text t f q (ltb-true (f .«equation_count») (o .«equation_room») d) w₁ in
           let l = ltb-false (o .«node_room») (f .«node_count» + q .count) e in
+          let x = settled-grown text t f q (ltb-true (f .«equation_count») (o .«equation_room») d) l w₁ in
           let k = kept-wider (f .nodes + f .«node_count») (f .nodes + f .«node_count» + q .count) (f .nodes + f .«node_count») (f .nodes + o .«node_room») w w₁ (omega arith) (omega arith)
           (copy-kept w (o .visible) (o .hidden) (g .nodes + q .start) (f .nodes + f .«node_count») (q .count)) in
           record {
             same = x .same;
             more-equations = x .more-equations;
             more-nodes = x .more-nodes;
+            few-equations = x .few-equations;
+            few-nodes = x .few-nodes;
             kept = kept-two-then _ _ _ _ w w₁ (settled text t w₁ f q .work) (kept-two-swap _ _ _ _ w w₁ (kept-is-two _ _ _ _ w w₁ k)) (x .kept);
           }
 

@@ -1,7 +1,9 @@
 pub mod Joined
 pub mod Grown
 pub mod Found
-pub mod Stays
+pub mod Unions
+pub mod More
+pub mod Pointed
 pub mod Copies
 pub mod Settled
-pub mod Pointed
+pub mod Joins

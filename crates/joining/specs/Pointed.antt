@@ -1,45 +1,64 @@
--- Nodes that point at rows, and notes that are right, stay so where their words stay.
-use mathlib.Core.Path.{_≡_, sym, ap, _∙_, subst}
-use mathlib.Core.Bool.{Bool}
+-- Notes that are right, and what goes through them, stay so where their words stay.
+use mathlib.Core.Path.{_≡_, refl, sym, ap, _∙_, subst}
+use mathlib.Core.Bool.{Bool, true, false}
 use mathlib.Core.List.{List}
-use Prim.Native.Nat.{ℕ, suc, _+_, _*_, _/_, _%_, _≤_, _<_}
+use Prim.Native.Nat.{ℕ, _+_, _*_, _/_, _%_, _≤_, _<_}
 use native.Mathlib.Omega.{arith}
+use lib.Dec.{eqb}
 use lib.ListN.{getD}
+use borrow.Author.Tests.{eqb-true, eqb-false, lt-ltb, le-ltb}
+use Rattle.meaning.specs.Lists.{pick}
 use Rattle.meaning.specs.Names.{Name}
 use Rattle.meaning.specs.Origins.{FunctionType}
+use Rattle.meaning.specs.Normal.{move-shape}
 use Rattle.tables.specs.declared.Row.{Row}
 use Rattle.tables.specs.Rows.{item-of, row-at}
 use Rattle.tables.specs.RowLaws.{row-same}
 use Rattle.forms.specs.declared.Form.{Form}
 use Rattle.forms.specs.Memory.{Same}
-use Rattle.forms.specs.Forms.{node-of, Pointing}
+use Rattle.forms.specs.Forms.{node-of}
 use Rattle.forms.specs.FlatMoves.{move-node}
-use Rattle.joining.specs.Found.{Noted}
-use Rattle.joining.specs.Stays.{Stays}
-
-pub pointing-stays : (w w′ : List ℕ) (f : Form) → Stays w w′ f → Pointing w f → Pointing w′ f
-pointing-stays w w′ f stays p =
-    let same : (i : ℕ) → suc i ≤ f .«node_count» → getD w (f .nodes + i) 0 ≡ getD w′ (f .nodes + i) 0 =
-    λ i h. sym (stays .nodes (f .nodes + i) (omega arith) (omega arith)) in
-    record {
-      visible = λ i h e. subst (λ (v : ℕ). suc (v / 32) ≤ f .«visible_count») (same i h) (p .visible i h (ap (λ (v : ℕ). v / 16 % 2) (same i h) ∙ e));
-      hidden = λ i h e. subst (λ (v : ℕ). suc (v / 32) ≤ f .«hidden_count») (same i h) (p .hidden i h (ap (λ (v : ℕ). v / 16 % 2) (same i h) ∙ e));
-    }
+use Rattle.forms.specs.Frames.{Points}
+use Rattle.joining.specs.Joined.{renode, renoded}
+use Rattle.joining.specs.Found.{pointable, Noted}
 
 pub noted-stays : (σ : Name → Name) (φ : Name → FunctionType → Name) (text tape w w′ : List ℕ) (visible : Bool) (o source c base n : ℕ)
     → Same o (o + c) w w′ → Same source (source + c * 16) w w′ → Same base (base + n * 16) w w′
     → Noted σ φ text tape w visible o source c base n → Noted σ φ text tape w′ visible o source c base n
 noted-stays σ φ text tape w w′ visible o source c base n s₁ s₂ s₃ x =
     let word : (i : ℕ) → i < c → getD w′ (o + i) 0 ≡ getD w (o + i) 0 = λ i h. s₁ (o + i) (omega arith) (omega arith) in
+    let here : (i : ℕ) → i < c → row-at w′ (source + i * 16) ≡ row-at w (source + i * 16) =
+    λ i h. row-same w w′ (source + i * 16) (λ j a b. s₂ j (omega arith) (omega arith)) in
+    let points : (i : ℕ) → i < c → pointable visible (item-of text tape (row-at w′ (source + i * 16)) .shape) ≡ true
+    → pointable visible (item-of text tape (row-at w (source + i * 16)) .shape) ≡ true =
+    λ i h z. ap (λ (q : Row). pointable visible (item-of text tape q .shape)) (sym (here i h)) ∙ z in
+    let there : (i : ℕ) → i < c → getD w (o + i) 0 < n → row-at w′ (base + getD w′ (o + i) 0 * 16) ≡ row-at w (base + getD w (o + i) 0 * 16) =
+    λ i h l. ap (λ (r : ℕ). row-at w′ (base + r * 16)) (word i h) ∙ row-same w w′ (base + getD w (o + i) 0 * 16) (λ j a b. s₃ j (omega arith) (omega arith)) in
     record {
       small = x .small;
-      inside = λ i h. subst (λ (r : ℕ). r < n) (sym (word i h)) (x .inside i h);
-      moved = λ i h k.
-          let r = getD w (o + i) 0 in
-          let l = x .inside i h in
-          let there : row-at w′ (base + r * 16) ≡ row-at w (base + r * 16) = row-same w w′ (base + r * 16) (λ j a b. s₃ j (omega arith) (omega arith)) in
-          let here : row-at w′ (source + i * 16) ≡ row-at w (source + i * 16) = row-same w w′ (source + i * 16) (λ j a b. s₂ j (omega arith) (omega arith)) in
-          ap (λ (j : ℕ). node-of visible k (item-of text tape (row-at w′ (base + j * 16)))) (word i h)
-          ∙ ap (λ (q : Row). node-of visible k (item-of text tape q)) there ∙ x .moved i h k
-          ∙ ap (λ (q : Row). move-node σ φ (node-of visible k (item-of text tape q))) (sym here);
+      inside = λ i h z. subst (λ (r : ℕ). r < n) (sym (word i h)) (x .inside i h (points i h z));
+      node = λ i h z k.
+          ap (λ (q : Row). node-of visible k (item-of text tape q)) (there i h (x .inside i h (points i h z))) ∙ x .node i h (points i h z) k
+          ∙ ap (λ (q : Row). move-node σ φ (node-of visible k (item-of text tape q))) (sym (here i h));
+      shape = λ i h z.
+          ap (λ (q : Row). item-of text tape q .shape) (there i h (x .inside i h (points i h z))) ∙ x .shape i h (points i h z)
+          ∙ ap (λ (q : Row). move-shape σ φ (item-of text tape q .shape)) (sym (here i h));
     }
+
+-- a node of g goes through the notes to the same word
+pub renode-stays : (text tape w w′ : List ℕ) (g : Form) (visible hidden v : ℕ) → Same visible (visible + g .«visible_count») w w′
+    → Same hidden (hidden + g .«hidden_count») w w′ → Points text tape w g v → renode w′ visible hidden v ≡ renode w visible hidden v
+unfolding renode pick
+renode-stays text tape w w′ g visible hidden v s₁ s₂ points = go (eqb (v / 16 % 2) 0) refl
+  where
+    go : (b : Bool) → eqb (v / 16 % 2) 0 ≡ b → renode w′ visible hidden v ≡ renode w visible hidden v
+    go true e =
+        let z = eqb-true (v / 16 % 2) 0 e in
+        let l = points .visible z .inside in
+        let low : v % 32 < 16 = omega arith in
+        rw (lt-ltb (v % 32) 16 low) (ap (renoded v) (s₁ (visible + v / 32) (omega arith) (omega arith)))
+    go false e =
+        let n = eqb-false (v / 16 % 2) 0 e in
+        let l = points .hidden (omega arith) .inside in
+        let high : 16 ≤ v % 32 = omega arith in
+        rw (le-ltb (v % 32) 16 high) (ap (renoded v) (s₂ (hidden + v / 32) (omega arith) (omega arith)))

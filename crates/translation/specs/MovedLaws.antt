@@ -7,9 +7,9 @@ use native.Mathlib.Omega.{arith}
 use borrow.Author.Tests.{eq-eqb, ne-eqb}
 use Rattle.meaning.specs.Lists.{pick}
 use Rattle.meaning.specs.Names.{Name}
-use Rattle.meaning.specs.Origins.{Sort, visible-sort, hidden-sort, FunctionType, Shape, sort-shape, function-shape, variable-shape, Item}
+use Rattle.meaning.specs.Origins.{Sort, visible-sort, hidden-sort, FunctionType, Head, visible-head, hidden-head, ResolvedTerm, var, app, ResolvedTerms, none-left, _and-then_, ResolvedSides, ResolvedEquation, Shape, sort-shape, function-shape, variable-shape, Item}
 use Rattle.meaning.specs.Syntax.{Pair}
-use Rattle.meaning.specs.Normal.{Visible, move-sort, move-type, move-shape, move-name, move-item, move-hidden-item}
+use Rattle.meaning.specs.Normal.{Visible, move-sort, move-type, move-shape, move-name, move-item, move-hidden-item, move-head, move-term, move-terms, move-sides, move-equation}
 use Rattle.meaning.specs.Clauses.{renaming, is-formal-sort, new-sort, new-function}
 use Rattle.names.specs.Word.{name-of}
 use Rattle.forms.specs.Forms.{items-at}
@@ -19,20 +19,24 @@ use Rattle.translation.specs.Moved.{is-formal}
 
 -- ---- new names that are the old ones
 
+pub map-kept : {A : Type 0} (f : A → A) (xs : List A) → ((x : A) → f x ≡ x) → map f xs ≡ xs
+map-kept f [] h = refl
+map-kept {A} f (x ∷ xs) h = ap₂ (λ (y : A) (ys : List A). y ∷ ys) (h x) (map-kept f xs h)
+
 module _ (σ : Name → Name) (φ : Name → FunctionType → Name) (s : (a : Name) → σ a ≡ a) (f : (a : Name) (t : FunctionType) → φ a t ≡ a) where
   sort-kept : (x : Sort) → move-sort σ φ x ≡ x
   unfolding move-sort
   sort-kept (visible-sort a) = ap visible-sort (s a)
   sort-kept (hidden-sort o) = refl
 
-  sorts-kept : (xs : List Sort) → map (move-sort σ φ) xs ≡ xs
-  sorts-kept [] = refl
-  sorts-kept (x ∷ xs) = ap₂ (λ (y : Sort) (ys : List Sort). y ∷ ys) (sort-kept x) (sorts-kept xs)
+  type-kept : (t : FunctionType) → move-type σ φ t ≡ t
+  unfolding move-type
+  type-kept t = rw (map-kept (move-sort σ φ) (t .inputs) sort-kept, sort-kept (t .output))
 
   shape-kept : (x : Shape) → move-shape σ φ x ≡ x
-  unfolding move-shape move-type
+  unfolding move-shape
   shape-kept sort-shape = refl
-  shape-kept (function-shape t) = rw (sorts-kept (t .inputs), sort-kept (t .output))
+  shape-kept (function-shape t) = ap function-shape (type-kept t)
   shape-kept (variable-shape x) = ap variable-shape (sort-kept x)
 
   name-kept : (a : Name) (x : Shape) → move-name σ φ a x ≡ a
@@ -41,13 +45,37 @@ module _ (σ : Name → Name) (φ : Name → FunctionType → Name) (s : (a : Na
   name-kept a (function-shape t) = f a t
   name-kept a (variable-shape x) = refl
 
-  item-kept : (i : Item) → move-item σ φ i ≡ i
+  pub item-kept : (i : Item) → move-item σ φ i ≡ i
   unfolding move-item
   item-kept i = rw (name-kept (i .name) (i .shape), shape-kept (i .shape))
 
-  hidden-kept : (i : Item) → move-hidden-item σ φ i ≡ i
+  pub hidden-kept : (i : Item) → move-hidden-item σ φ i ≡ i
   unfolding move-hidden-item
   hidden-kept i = rw (shape-kept (i .shape))
+
+  head-kept : (x : Head) → move-head σ φ x ≡ x
+  unfolding move-head
+  head-kept (visible-head a t) = ap₂ visible-head (f a t) (type-kept t)
+  head-kept (hidden-head o t) = ap (hidden-head o) (type-kept t)
+
+  mutual
+    unfolding move-term move-terms
+
+    term-kept : (x : ResolvedTerm) → move-term σ φ x ≡ x
+    term-kept (var o x) = ap (var o) (sort-kept x)
+    term-kept (app x xs) = ap₂ app (head-kept x) (terms-kept xs)
+
+    terms-kept : (xs : ResolvedTerms) → move-terms σ φ xs ≡ xs
+    terms-kept none-left = refl
+    terms-kept (x and-then xs) = ap₂ _and-then_ (term-kept x) (terms-kept xs)
+
+  sides-kept : (x : ResolvedSides) → move-sides σ φ x ≡ x
+  unfolding move-sides
+  sides-kept x = rw (term-kept (x .left), term-kept (x .right))
+
+  pub equation-kept : (e : ResolvedEquation) → move-equation σ φ e ≡ e
+  unfolding move-equation
+  equation-kept e = rw (sides-kept (e .conclusion), map-kept (move-sides σ φ) (e .conditions) sides-kept)
 
 -- ---- a mode of kind 0
 

@@ -1,0 +1,29 @@
+-- `absorb::absorb_within` meets its contract.
+-- Assumes nothing.
+use Rattle.absorb.proofs.Loops.{Absorbing, loops}
+use Prim.Native.Nat.{_-_}
+use Rattle.absorb.proofs.absorb_within.Statement.{statement}
+use Rattle.absorb.proofs.absorb_within.Tie as tie
+
+abbrev Inv-loop : tie.InvT-loop
+Inv-loop text work₀ t m visible drop s ns d nd o cap n₀ k₀ work n k = Absorbing text work₀ t m visible drop s ns d nd o cap work n k
+
+abbrev μ-loop : tie.MeasureT-loop
+μ-loop text work₀ t m visible drop s ns d nd o cap n₀ k₀ work n k = ns - k
+
+pub absorb-within-spec : {M : Type 1} → statement M
+absorb-within-spec =
+    tie.close
+    (tie.spec
+    Inv-loop
+    μ-loop
+    (λ c. search loops)  -- loop-holds
+    (λ c κs. search loops)  -- absorb-row-requires
+    (λ c. search loops)  -- add-k
+    (λ c. search loops)  -- loop-less
+    (λ c. search loops)  -- loop-again
+    (λ c. search loops)  -- same-length
+    (λ c. search loops)  -- returns
+    (λ c. search loops)  -- same-length-2
+    (λ c. search loops)  -- returns-2
+    )

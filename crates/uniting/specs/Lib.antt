@@ -1,0 +1,9 @@
+pub mod Rooms
+pub mod United
+pub mod Corollaries
+pub mod Standing
+pub mod Noting
+pub mod InBlock
+pub mod Showing
+pub mod Hiding
+pub mod Whole

@@ -1,0 +1,93 @@
+-- What uniting asks of places and counts.
+use Prim.Native.Nat.{ℕ, _+_, _*_, _≤_, _^_}
+use Rattle.meaning.specs.Numbers.{node-limit}
+use Rattle.forms.specs.declared.Form.{Form}
+use Rattle.forms.specs.declared.Block.{Block}
+use Rattle.forms.specs.FormLaws.{Apart}
+use Rattle.forms.specs.Blocks.{BlockLaid, Lies, Outside}
+use Rattle.translation.specs.declared.Mode.{Mode}
+
+-- c words are copied from a to b, which lies apart
+pub record CopyRoom (size a b c : ℕ) : Type 0 where
+  pub room : b + c ≤ size
+  pub source : a + c ≤ 2 ^ 40
+  pub target : b + c ≤ 2 ^ 40
+  pub apart : Apart b (b + c) a (a + c)
+
+-- the names of g's parameters go behind those of f
+pub record NamesRoom (size : ℕ) (g f : Form) : Type 0 where
+  pub few : f .«parameter_count» + g .«parameter_count» ≤ 65536
+  pub room : f .parameters + f .«parameter_count» + g .«parameter_count» ≤ size
+  pub apart :
+      Apart (f .parameters + f .«parameter_count») (f .parameters + f .«parameter_count» + g .«parameter_count»)
+      (g .parameters) (g .parameters + g .«parameter_count»)
+
+-- the hidden items and the equations of g come into f: there is room behind those of f, before the notes of hidden items; the words that may
+-- be written are none of g, none of the mode's table, and none of the notes of visible items
+pub record HiddenRoom (size t : ℕ) (m : Mode) (g f : Form) (b : Block) (notes : ℕ) : Type 0 where
+  pub tape : t ≤ f .hidden
+  pub parameters : f .parameters + f .«parameter_count» ≤ f .hidden
+  pub visible : f .visible + f .«visible_count» * 16 ≤ f .hidden
+  pub hidden : f .hidden + (f .«hidden_count» + g .«hidden_count») * 16 ≤ f .equations
+  pub equations : f .equations + b .«equation_room» * 8 ≤ f .nodes
+  pub nodes : f .nodes + b .«node_room» ≤ b .«hidden_notes»
+  pub hidden-notes : b .«hidden_notes» + g .«hidden_count» ≤ size
+  pub enough : b .«equation_room» * node-limit ≤ b .«node_room»
+  pub few : f .«hidden_count» + g .«hidden_count» ≤ 65536
+  pub few-equations : f .«equation_count» ≤ b .«equation_room»
+  pub few-nodes : f .«node_count» ≤ b .«node_room»
+  pub source-nodes : g .nodes + g .«node_count» ≤ size
+  pub outside : Outside (f .hidden) (b .«hidden_notes» + g .«hidden_count») g
+  pub mode : Apart (f .hidden) (b .«hidden_notes» + g .«hidden_count») (m .visible) (m .visible + m .count * 16)
+  pub notes-rows : Apart (f .hidden) (f .nodes + b .«node_room») notes (notes + g .«visible_count»)
+  pub notes-notes : Apart (b .«hidden_notes») (b .«hidden_notes» + g .«hidden_count») notes (notes + g .«visible_count»)
+
+-- the same where there is room for `cap` hidden rows, however many g has
+pub record HiddenRoomWithin (size t : ℕ) (m : Mode) (g f : Form) (b : Block) (notes cap : ℕ) : Type 0 where
+  pub tape : t ≤ f .hidden
+  pub parameters : f .parameters + f .«parameter_count» ≤ f .hidden
+  pub visible : f .visible + f .«visible_count» * 16 ≤ f .hidden
+  pub hidden : f .hidden + cap * 16 ≤ f .equations
+  pub equations : f .equations + b .«equation_room» * 8 ≤ f .nodes
+  pub nodes : f .nodes + b .«node_room» ≤ b .«hidden_notes»
+  pub hidden-notes : b .«hidden_notes» + g .«hidden_count» ≤ size
+  pub enough : b .«equation_room» * node-limit ≤ b .«node_room»
+  pub have : f .«hidden_count» ≤ cap
+  pub few : cap ≤ 65536
+  pub few-equations : f .«equation_count» ≤ b .«equation_room»
+  pub few-nodes : f .«node_count» ≤ b .«node_room»
+  pub source-nodes : g .nodes + g .«node_count» ≤ size
+  pub outside : Outside (f .hidden) (b .«hidden_notes» + g .«hidden_count») g
+  pub mode : Apart (f .hidden) (b .«hidden_notes» + g .«hidden_count») (m .visible) (m .visible + m .count * 16)
+  pub notes-rows : Apart (f .hidden) (f .nodes + b .«node_room») notes (notes + g .«visible_count»)
+  pub notes-notes : Apart (b .«hidden_notes») (b .«hidden_notes» + g .«hidden_count») notes (notes + g .«visible_count»)
+
+-- the form lies in the block, with at most so many names and rows, and no more equations and nodes than the block has room for
+pub record Inside (b : Block) (names rows hidden-rows : ℕ) (f : Form) : Type 0 where
+  pub lies : Lies b f
+  pub parameters : f .«parameter_count» ≤ names
+  pub visible : f .«visible_count» ≤ rows
+  pub hidden : f .«hidden_count» ≤ hidden-rows
+  pub equations : f .«equation_count» ≤ b .«equation_room»
+  pub nodes : f .«node_count» ≤ b .«node_room»
+
+-- all of g comes into f, which lies in the block; g and the mode's table lie outside it. The block has room for some numbers of names, rows
+-- and notes, and these are enough
+pub record UniteRoom (size t : ℕ) (m : Mode) (g f : Form) (b : Block) : Type 0 where
+  pub names : ℕ
+  pub rows : ℕ
+  pub hidden-rows : ℕ
+  pub sources : ℕ
+  pub laid : BlockLaid size t b names rows hidden-rows sources
+  pub inside : Inside b names rows hidden-rows f
+  pub outside : Outside (b .low) (b .high) g
+  pub mode : Apart (b .low) (b .high) (m .visible) (m .visible + m .count * 16)
+  pub parameters : f .«parameter_count» + g .«parameter_count» ≤ names
+  pub visible : f .«visible_count» + g .«visible_count» ≤ rows
+  pub hidden : f .«hidden_count» + g .«hidden_count» ≤ hidden-rows
+  pub visible-source : g .«visible_count» ≤ sources
+  pub hidden-source : g .«hidden_count» ≤ sources
+  pub few-parameters : f .«parameter_count» + g .«parameter_count» ≤ 65536
+  pub few-visible : f .«visible_count» + g .«visible_count» ≤ 65536
+  pub few-hidden : f .«hidden_count» + g .«hidden_count» ≤ 65536
+  pub source-nodes : g .nodes + g .«node_count» ≤ size

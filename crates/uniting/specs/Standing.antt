@@ -1,0 +1,97 @@
+-- Forms that stand go on standing: where two parts of the memory change that are none of theirs, and with more names and rows.
+use mathlib.Core.Path.{_≡_, refl, sym, subst}
+use mathlib.Core.Logic.{inl}
+use Prim.Native.Nat.{ℕ, _+_, _≤_}
+use native.Mathlib.Omega.{arith}
+use mathlib.Core.List.{List, [], _∷_}
+use Rattle.meaning.specs.Lists.{sum}
+use Rattle.meaning.specs.Names.{Name}
+use Rattle.meaning.specs.Origins.{Item, ResolvedEquation}
+use Rattle.meaning.specs.Normal.{Normal, nothing-visible, nothing-hidden, empty}
+use Rattle.forms.specs.declared.Form.{Form}
+use Rattle.forms.specs.declared.Block.{Block}
+use Rattle.forms.specs.declared.EquationRow.{EquationRow}
+use Rattle.forms.specs.Memory.{part, KeptTwo}
+use Rattle.forms.specs.Forms.{names-at, items-at, node-item, nodes-of, equation-row-at, EquationStands, EquationsStand, Pointing, visible-at, Stands}
+use Rattle.forms.specs.FormLaws.{apart-within, kept-two-same, tape-same}
+use Rattle.forms.specs.Blocks.{Lies, Outside}
+use Rattle.forms.specs.Frames.{stands-stays}
+use Rattle.uniting.specs.United.{empty-in, with-items}
+
+-- ---- what changes is none of the form's
+
+pub outside-narrower : (low high a e : ℕ) (f : Form) → low ≤ a → e ≤ high → Outside low high f → Outside a e f
+outside-narrower low high a e f h l o = record {
+  parameters = apart-within low high a e _ _ h l (o .parameters);
+  visible = apart-within low high a e _ _ h l (o .visible);
+  hidden = apart-within low high a e _ _ h l (o .hidden);
+  equations = apart-within low high a e _ _ h l (o .equations);
+  nodes = apart-within low high a e _ _ h l (o .nodes);
+}
+
+pub stands-kept-two : (text : List ℕ) (t : ℕ) (w w′ : List ℕ) (a e b d : ℕ) (f : Form) (n : Normal) → t ≤ a → t ≤ b → KeptTwo a e b d w w′
+    → Outside a e f → Outside b d f → Stands text (part w 0 t) w f n → Stands text (part w′ 0 t) w′ f n
+stands-kept-two text t w w′ a e b d f n h l k o p s =
+    subst (λ (tape : List ℕ). Stands text tape w′ f n) (sym (tape-same w w′ t (k .size) (λ i u v. k .kept i (inl (omega arith)) (inl (omega arith)))))
+    (stands-stays text (part w 0 t) w w′ f
+    (record {
+      size = k .size;
+      visible = kept-two-same a e b d _ _ w w′ (o .visible) (p .visible) k;
+      hidden = kept-two-same a e b d _ _ w w′ (o .hidden) (p .hidden) k;
+      nodes = kept-two-same a e b d _ _ w w′ (o .nodes) (p .nodes) k;
+    }) n (kept-two-same a e b d _ _ w w′ (o .parameters) (p .parameters) k) (kept-two-same a e b d _ _ w w′ (o .equations) (p .equations) k) s)
+
+-- ---- with more names and rows
+
+module _ (text tape w : List ℕ) (f : Form) (p v h : ℕ) where
+  equation-as : (r : EquationRow) (e : ResolvedEquation) → EquationStands text tape w f r e → EquationStands text tape w (with-items f p v h) r e
+  unfolding with-items nodes-of
+  equation-as r e s =
+      record { home = s .home; position = s .position; tag = s .tag; conditions = s .conditions; within = s .within; nodes = s .nodes }
+
+  equations-as : (b : ℕ) (es : List ResolvedEquation) → EquationsStand text tape w f b es → EquationsStand text tape w (with-items f p v h) b es
+  equations-as b [] s = tt
+  equations-as b (e ∷ es) s = (equation-as (equation-row-at w b) e (s .0), equations-as (b + 8) es (s .1))
+
+  module _ (more-visible : f .«visible_count» ≤ v) (more-hidden : f .«hidden_count» ≤ h) where
+    pointing-as : Pointing text tape w f → Pointing text tape w (with-items f p v h)
+    unfolding with-items node-item
+    pointing-as q = record {
+      visible = λ i l e. let x = q .visible i l e in record { inside = omega (arith, x .inside); function = x .function };
+      hidden = λ i l e. let x = q .hidden i l e in record { inside = omega (arith, x .inside); no-sort = x .no-sort; alone = x .alone };
+    }
+
+    pub stands-more : (n : Normal) (names : List Name) (seen unseen : List Item) → Stands text tape w f n → names-at text w (f .parameters) p ≡ names
+        → items-at text tape w (f .visible) v ≡ seen → items-at text tape w (f .hidden) h ≡ unseen
+        → Stands text tape w (with-items f p v h) (record {
+          visible = record { parameters = names; items = seen };
+          hidden = record { items = unseen; equations = n .hidden .equations };
+        })
+    unfolding with-items visible-at
+    stands-more n names seen unseen s a b c = record {
+      visible = λ i. record { parameters = a i; items = b i };
+      hidden = c;
+      equation-count = s .equation-count;
+      node-count = s .node-count;
+      equations = equations-as (f .equations) (n .hidden .equations) (s .equations);
+      small = s .small;
+      pointing = pointing-as (s .pointing);
+    }
+
+-- ---- nothing
+
+pub empty-lies : (b : Block) → Lies b (empty-in b)
+unfolding empty-in
+empty-lies b = record { parameters = refl; visible = refl; hidden = refl; equations = refl; nodes = refl }
+
+pub empty-stands : (text tape w : List ℕ) (b : Block) → Stands text tape w (empty-in b) empty
+unfolding empty-in empty nothing-visible nothing-hidden visible-at names-at items-at sum
+empty-stands text tape w b = record {
+  visible = refl;
+  hidden = refl;
+  equation-count = refl;
+  node-count = refl;
+  equations = tt;
+  small = tt;
+  pointing = record { visible = λ i h. absurd (omega arith); hidden = λ i h. absurd (omega arith) };
+}

@@ -1,0 +1,159 @@
+-- What uniting leaves: the counts, the words that change, and what the form stands for.
+use mathlib.Core.Path.{_≡_}
+use mathlib.Core.Logic.{_⊎_}
+use Prim.Native.Nat.{ℕ, _+_, _≤_, _<_}
+use mathlib.Core.Bool.{Bool, true, false}
+use mathlib.Core.List.{List, _++_, map}
+use lib.ListN.{getD, take}
+use Rattle.meaning.specs.Lists.{union}
+use Rattle.meaning.specs.Names.{Name}
+use Rattle.meaning.specs.Origins.{FunctionType, one-item, one-equation}
+use Rattle.meaning.specs.Normal.{Visible, Hidden, Normal, move-item, move-hidden-item, move-equation}
+use Rattle.forms.specs.declared.Form.{Form}
+use Rattle.forms.specs.declared.Block.{Block}
+use Rattle.forms.specs.Memory.{part, Kept, KeptTwo}
+use Rattle.forms.specs.Forms.{items-at, visible-at, Stands}
+use Rattle.forms.specs.Blocks.{Lies}
+use Rattle.translation.specs.declared.Mode.{Mode}
+use Rattle.translation.specs.Translation.{sort-name, function-name}
+use Rattle.absorb.specs.Absorb.{Absorbed, AbsorbedWithin}
+use Rattle.joining.specs.Joined.{with-counts}
+use Rattle.joining.specs.Found.{Noted}
+
+-- ---- forms
+
+-- the form in the block that has nothing
+unfoldable pub empty-in : Block → Form
+empty-in b = record {
+  parameters = b .parameters;
+  «parameter_count» = 0;
+  visible = b .visible;
+  «visible_count» = 0;
+  hidden = b .hidden;
+  «hidden_count» = 0;
+  equations = b .equations;
+  «equation_count» = 0;
+  nodes = b .nodes;
+  «node_count» = 0;
+}
+
+-- the form with other numbers of parameters, of visible and of hidden items
+unfoldable pub with-items : Form → ℕ → ℕ → ℕ → Form
+with-items f parameters visible hidden = record {
+  parameters = f .parameters;
+  «parameter_count» = parameters;
+  visible = f .visible;
+  «visible_count» = visible;
+  hidden = f .hidden;
+  «hidden_count» = hidden;
+  equations = f .equations;
+  «equation_count» = f .«equation_count»;
+  nodes = f .nodes;
+  «node_count» = f .«node_count»;
+}
+
+-- ---- normal forms
+
+module _ (σ : Name → Name) (φ : Name → FunctionType → Name) where
+  -- what comes of a visible part and of another that is moved onto it: what is one becomes one
+  unfoldable pub visible-onto : Visible → Visible → Visible
+  visible-onto to from = record {
+    parameters = to .parameters ++ from .parameters;
+    items = union one-item (to .items) (map (move-item σ φ) (from .items));
+  }
+
+  unfoldable pub hidden-onto : Hidden → Hidden → Hidden
+  hidden-onto to from = record {
+    items = union one-item (to .items) (map (move-hidden-item σ φ) (from .items));
+    equations = union one-equation (to .equations) (map (move-equation σ φ) (from .equations));
+  }
+
+  unfoldable pub moved-onto : Normal → Normal → Normal
+  moved-onto to from = record { visible = visible-onto (to .visible) (from .visible); hidden = hidden-onto (to .hidden) (from .hidden) }
+
+-- a hidden part with as many equations as there is room for
+unfoldable pub within : ℕ → Hidden → Hidden
+within room h = record { items = h .items; equations = take room (h .equations) }
+
+-- ---- memory
+
+-- the c words from a on stand from b on too
+pub record Copied (w : List ℕ) (a b c : ℕ) (w′ : List ℕ) : Type 0 where
+  pub words : (i : ℕ) → i < c → getD w′ (b + i) 0 ≡ getD w (a + i) 0
+  pub kept : Kept b (b + c) w w′
+
+-- the names of g's parameters stand behind those of f
+pub record NamesUnited (w : List ℕ) (g f r : Form) (w′ : List ℕ) : Type 0 where
+  pub form : r ≡ with-items f (f .«parameter_count» + g .«parameter_count») (f .«visible_count») (f .«hidden_count»)
+  pub copied : Copied w (g .parameters) (f .parameters + f .«parameter_count») (g .«parameter_count») w′
+
+-- the visible items of g are absorbed into those of f
+pub record VisibleUnited (text : List ℕ) (t : ℕ) (w : List ℕ) (m : Mode) (drop : Bool) (g f : Form) (notes : ℕ) (r : Form) (w′ : List ℕ) : Type 0 where
+  pub form : r ≡ with-items f (f .«parameter_count») (r .«visible_count») (f .«hidden_count»)
+  pub absorbed : Absorbed text (part w 0 t) w m true drop (g .visible) (g .«visible_count») (f .visible) (f .«visible_count») notes (r .«visible_count») w′
+
+-- and the hidden ones, up to `cap`
+pub record ItemsUnited (text : List ℕ) (t : ℕ) (w : List ℕ) (m : Mode) (g f : Form) (notes cap : ℕ) (r : Form) (w′ : List ℕ) : Type 0 where
+  pub form : r ≡ with-items f (f .«parameter_count») (f .«visible_count») (r .«hidden_count»)
+  pub absorbed :
+      AbsorbedWithin text (part w 0 t) w m false false (g .hidden) (g .«hidden_count») (f .hidden) (f .«hidden_count») notes cap (r .«hidden_count») w′
+
+module _ (text : List ℕ) (t : ℕ) (w : List ℕ) (m : Mode) where
+  abbrev pub sorts : Name → Name
+  sorts = sort-name text (part w 0 t) w m
+
+  abbrev pub functions : Name → FunctionType → Name
+  functions = function-name text (part w 0 t) w m
+
+-- the hidden items and the equations of g came into f, which has taken up the visible items of g, noted from `notes` on
+pub record HiddenUnited (text : List ℕ) (t : ℕ) (w : List ℕ) (m : Mode) (g f : Form) (b : Block) (notes : ℕ) (r : Form) (w′ : List ℕ) : Type 0 where
+  pub form :
+      r ≡ with-counts (with-items f (f .«parameter_count») (f .«visible_count») (r .«hidden_count»)) (r .«equation_count») (r .«node_count»)
+  pub few : r .«hidden_count» ≤ f .«hidden_count» + g .«hidden_count»
+  pub equations : r .«equation_count» ≤ b .«equation_room»
+  pub nodes : r .«node_count» ≤ b .«node_room»
+  pub kept : KeptTwo (f .hidden) (f .nodes + b .«node_room») (b .«hidden_notes») (b .«hidden_notes» + g .«hidden_count») w w′
+  pub stands : (from to : Normal) → Stands text (part w 0 t) w g from → Stands text (part w 0 t) w f to
+      → Noted (sorts text t w m) (functions text t w m) text (part w 0 t) w true notes (g .visible) (g .«visible_count») (f .visible) (f .«visible_count»)
+      → Stands text (part w′ 0 t) w′ r (record {
+        visible = to .visible;
+        hidden = within (b .«equation_room») (hidden-onto (sorts text t w m) (functions text t w m) (to .hidden) (from .hidden));
+      })
+
+-- all hidden items of g came into f: r is not full, or there was room for all
+abbrev pub AllIn : ℕ → Form → Form → Form → Type 0
+AllIn cap g f r = (r .«hidden_count» < cap) ⊎ (f .«hidden_count» + g .«hidden_count» ≤ cap)
+
+-- the same with no more than `cap` hidden items. Where not all came in the equations say nothing
+pub record HiddenUnitedWithin (text : List ℕ) (t : ℕ) (w : List ℕ) (m : Mode) (g f : Form) (b : Block) (notes cap : ℕ) (r : Form) (w′ : List ℕ) : Type 0 where
+  pub form :
+      r ≡ with-counts (with-items f (f .«parameter_count») (f .«visible_count») (r .«hidden_count»)) (r .«equation_count») (r .«node_count»)
+  pub few : r .«hidden_count» ≤ cap
+  pub equations : r .«equation_count» ≤ b .«equation_room»
+  pub nodes : r .«node_count» ≤ b .«node_room»
+  pub kept : KeptTwo (f .hidden) (f .nodes + b .«node_room») (b .«hidden_notes») (b .«hidden_notes» + g .«hidden_count») w w′
+  pub seen : visible-at text (part w′ 0 t) w′ r ≡ visible-at text (part w 0 t) w f
+  pub items : (from to : Normal) → Stands text (part w 0 t) w g from → Stands text (part w 0 t) w f to
+      → items-at text (part w′ 0 t) w′ (r .hidden) (r .«hidden_count»)
+      ≡ take cap (hidden-onto (sorts text t w m) (functions text t w m) (to .hidden) (from .hidden) .items)
+  pub stands : AllIn cap g f r → (from to : Normal) → Stands text (part w 0 t) w g from → Stands text (part w 0 t) w f to
+      → Noted (sorts text t w m) (functions text t w m) text (part w 0 t) w true notes (g .visible) (g .«visible_count») (f .visible) (f .«visible_count»)
+      → Stands text (part w′ 0 t) w′ r (record {
+        visible = to .visible;
+        hidden = within (b .«equation_room») (hidden-onto (sorts text t w m) (functions text t w m) (to .hidden) (from .hidden));
+      })
+
+-- all of g came into f
+pub record United (text : List ℕ) (t : ℕ) (w : List ℕ) (m : Mode) (g f : Form) (b : Block) (r : Form) (w′ : List ℕ) : Type 0 where
+  pub lies : Lies b r
+  pub names : r .«parameter_count» ≡ f .«parameter_count» + g .«parameter_count»
+  pub visible : r .«visible_count» ≤ f .«visible_count» + g .«visible_count»
+  pub hidden : r .«hidden_count» ≤ f .«hidden_count» + g .«hidden_count»
+  pub equations : r .«equation_count» ≤ b .«equation_room»
+  pub nodes : r .«node_count» ≤ b .«node_room»
+  pub kept : Kept (b .low) (b .high) w w′
+  pub stands : (from to : Normal) → Stands text (part w 0 t) w g from → Stands text (part w 0 t) w f to
+      → Stands text (part w′ 0 t) w′ r (record {
+        visible = visible-onto (sorts text t w m) (functions text t w m) (to .visible) (from .visible);
+        hidden = within (b .«equation_room») (hidden-onto (sorts text t w m) (functions text t w m) (to .hidden) (from .hidden));
+      })

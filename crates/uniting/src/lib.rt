@@ -1,0 +1,215 @@
+// One normal form united with another, which lies in a block of the working memory, through a translation: the names of its parameters go
+// behind, its items are absorbed and noted, and its equations are joined through the notes.
+use absorb::absorb_items;
+use absorb::absorb_within;
+use forms::Block;
+use forms::Form;
+use joining::Notes;
+use joining::equations::absorb_equations;
+use tables::entries::put_word;
+use tables::entries::word_at;
+use translation::Mode;
+ghost use mathlib.Core.Path.{_≡_};
+ghost use Prim.Native.Nat.{_≤_};
+ghost use lib.ListN.{length, getD, set};
+ghost use Rattle.absorb.specs.Turns.{RoomWithin, Room};
+ghost use Rattle.uniting.specs.Rooms.{CopyRoom, NamesRoom, HiddenRoom, HiddenRoomWithin, UniteRoom};
+ghost use Rattle.uniting.specs.United.{empty-in, with-items, Copied, NamesUnited, VisibleUnited, ItemsUnited, HiddenUnited, HiddenUnitedWithin, United};
+
+// The form in the block that has nothing.
+pub fn empty_form(b: Block) -> Form
+    ensures { λ r. ⌜ r ≡ empty-in b ⌝ }
+{
+    Form {
+        parameters: b.parameters,
+        parameter_count: 0,
+        visible: b.visible,
+        visible_count: 0,
+        hidden: b.hidden,
+        hidden_count: 0,
+        equations: b.equations,
+        equation_count: 0,
+        nodes: b.nodes,
+        node_count: 0,
+    }
+}
+
+// The form with other numbers of parameters, of visible and of hidden items.
+fn with_items(f: Form, parameters: u32, visible: u32, hidden: u32) -> Form
+    ensures { λ r. ⌜ r ≡ with-items f parameters visible hidden ⌝ }
+{
+    Form {
+        parameters: f.parameters,
+        parameter_count: parameters,
+        visible: f.visible,
+        visible_count: visible,
+        hidden: f.hidden,
+        hidden_count: hidden,
+        equations: f.equations,
+        equation_count: f.equation_count,
+        nodes: f.nodes,
+        node_count: f.node_count,
+    }
+}
+
+// The word at a, to b.
+fn copy_word(work: &mut [u32], a: usize, b: usize)
+    ensures { λ r. ⌜ now (work .exit) ≡ set (now (work .entry)) b (getD (now (work .entry)) a 0) ⌝ }
+{
+    let v = word_at(work, a);
+    put_word(work, b, v);
+}
+
+// The c words from a on, to b.
+fn copy_words(work: &mut [u32], a: usize, b: usize, c: u32)
+    requires { ⌜ CopyRoom (length (now work)) a b c ⌝ }
+    ensures { λ r. ⌜ Copied (now (work .entry)) a b c (now (work .exit)) ⌝ }
+{
+    let n = c as usize;
+    let mut i = 0;
+    while i < n {
+        copy_word(work, a + i, b + i);
+        i += 1;
+    }
+}
+
+// The names of g's parameters behind those of f.
+pub fn unite_parameters(work: &mut [u32], g: Form, f: Form) -> Form
+    requires { ⌜ NamesRoom (length (now work)) g f ⌝ }
+    ensures { λ r. ⌜ NamesUnited (now (work .entry)) g f r (now (work .exit)) ⌝ }
+{
+    let source = g.parameters;
+    let base = f.parameters;
+    let more = g.parameter_count;
+    let have = f.parameter_count;
+    copy_words(work, source as usize, base as usize + have as usize, more);
+    with_items(f, have + more, f.visible_count, f.hidden_count)
+}
+
+// The visible items of g, moved, absorbed into those of f, and noted from `notes` on. Where `drop` says so, those that stand in the mode's
+// parameter are left out.
+pub fn unite_visible(
+    text: &[u8],
+    work: &mut [u32],
+    t: usize,
+    m: Mode,
+    drop: bool,
+    g: Form,
+    f: Form,
+    notes: u32,
+) -> Form
+    requires { ⌜ Room (length (now work)) t m (g .visible) (g .«visible_count») (f .visible) (f .«visible_count») notes ⌝ }
+    ensures { λ r. ⌜ VisibleUnited (now (text .entry)) t (now (work .entry)) m drop g f notes r (now (work .exit)) ⌝ }
+{
+    let source = g.visible;
+    let rows = g.visible_count;
+    let base = f.visible;
+    let have = f.visible_count;
+    let n = absorb_items(
+        text,
+        work,
+        t,
+        m,
+        true,
+        drop,
+        source,
+        rows,
+        base,
+        have,
+        notes,
+    );
+    with_items(f, f.parameter_count, n, f.hidden_count)
+}
+
+// The hidden items of g, moved, absorbed into those of f while these are less than `cap`, and noted from `notes` on.
+fn unite_hidden_items(
+    text: &[u8],
+    work: &mut [u32],
+    t: usize,
+    m: Mode,
+    g: Form,
+    f: Form,
+    notes: u32,
+    cap: u32,
+) -> Form
+    requires { ⌜ RoomWithin (length (now work)) t m (g .hidden) (g .«hidden_count») (f .hidden) cap notes ⌝ }
+    requires { ⌜ f .«hidden_count» ≤ cap ⌝ }
+    ensures { λ r. ⌜ ItemsUnited (now (text .entry)) t (now (work .entry)) m g f notes cap r (now (work .exit)) ⌝ }
+{
+    let source = g.hidden;
+    let rows = g.hidden_count;
+    let base = f.hidden;
+    let have = f.hidden_count;
+    let n = absorb_within(
+        text,
+        work,
+        t,
+        m,
+        false,
+        false,
+        source,
+        rows,
+        base,
+        have,
+        notes,
+        cap,
+    );
+    with_items(f, f.parameter_count, f.visible_count, n)
+}
+
+// The hidden items and the equations of g, moved, into those of f, whose visible items have taken up those of g: where each went is noted
+// from `notes` on. No more than `cap` hidden items: where these are all, not all may have come in, and the equations say nothing.
+pub fn unite_hidden_within(
+    text: &[u8],
+    work: &mut [u32],
+    t: usize,
+    m: Mode,
+    g: Form,
+    f: Form,
+    b: Block,
+    notes: u32,
+    cap: u32,
+) -> Form
+    requires { ⌜ HiddenRoomWithin (length (now work)) t m g f b notes cap ⌝ }
+    ensures { λ r. ⌜ HiddenUnitedWithin (now (text .entry)) t (now (work .entry)) m g f b notes cap r (now (work .exit)) ⌝ }
+{
+    let hidden = b.hidden_notes;
+    let h = unite_hidden_items(text, work, t, m, g, f, hidden, cap);
+    let o = Notes {
+        visible: notes,
+        hidden,
+        equation_room: b.equation_room,
+        node_room: b.node_room,
+    };
+    absorb_equations(text, work, t, g, o, h)
+}
+
+// The same with room for all of them.
+pub fn unite_hidden(
+    text: &[u8],
+    work: &mut [u32],
+    t: usize,
+    m: Mode,
+    g: Form,
+    f: Form,
+    b: Block,
+    notes: u32,
+) -> Form
+    requires { ⌜ HiddenRoom (length (now work)) t m g f b notes ⌝ }
+    ensures { λ r. ⌜ HiddenUnited (now (text .entry)) t (now (work .entry)) m g f b notes r (now (work .exit)) ⌝ }
+{
+    let have = f.hidden_count;
+    let more = g.hidden_count;
+    unite_hidden_within(text, work, t, m, g, f, b, notes, have + more)
+}
+
+// All of g, moved, united with f, which lies in the block.
+pub fn unite(text: &[u8], work: &mut [u32], t: usize, m: Mode, g: Form, f: Form, b: Block) -> Form
+    requires { ⌜ UniteRoom (length (now work)) t m g f b ⌝ }
+    ensures { λ r. ⌜ United (now (text .entry)) t (now (work .entry)) m g f b r (now (work .exit)) ⌝ }
+{
+    let notes = b.visible_notes;
+    let named = unite_parameters(work, g, f);
+    let seen = unite_visible(text, work, t, m, false, g, named, notes);
+    unite_hidden(text, work, t, m, g, seen, b, notes)
+}
