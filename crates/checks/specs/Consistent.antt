@@ -1,9 +1,8 @@
 -- The checks in their order, and what they leave of the memory: its order table alone changes.
-use mathlib.Core.Path.{_≡_, refl, sym, ap, ap₂, _∙_}
+use mathlib.Core.Path.{_≡_, refl, sym, ap, _∙_}
 use mathlib.Core.Bool.{Bool, true, false, _&&_}
-use mathlib.Core.List.{List, [], _∷_, _++_, append-nil}
-use Prim.Native.Nat.{ℕ, zero, suc, _+_, _*_, _^_, _≤_, _<_}
-use native.Mathlib.Omega.{arith}
+use mathlib.Core.List.{List, [], _++_, append-nil}
+use Prim.Native.Nat.{ℕ, _+_, _*_, _^_, _≤_, _<_}
 use lib.Dec.{leb}
 use Rattle.meaning.specs.Lists.{pick}
 use Rattle.meaning.specs.Names.{Name}
@@ -12,12 +11,11 @@ use Rattle.meaning.specs.Origins.{Item}
 use Rattle.meaning.specs.Normal.{Visible}
 use Rattle.meaning.specs.Checks.{Check, _>>_, unless, fits, consistent}
 use Rattle.names.specs.Word.{name-of}
-use Rattle.tables.specs.Rows.{item-of, row-at}
 use Rattle.forms.specs.declared.Verdict.{Verdict}
 use Rattle.forms.specs.declared.Verdict.the-variants.{Fine, Stop}
 use Rattle.forms.specs.Memory.{part, Kept}
 use Rattle.forms.specs.Forms.{names-at, items-at}
-use Rattle.forms.specs.FormLaws.{Apart}
+use Rattle.forms.specs.FormLaws.{Apart, items-split}
 use Rattle.forms.specs.Verdicts.{told}
 use Rattle.checks.specs.declared.Test.the-variants.{Sorts, Functions, Overloading}
 use Rattle.checks.specs.Clashes.{wrong, clash-name, repeated-name}
@@ -85,19 +83,6 @@ pub record Checked (text w w′ : List ℕ) (t q np b n p : ℕ) (r : Verdict) :
   pub kept : Kept p (p + (np + n)) w w′
 
 -- ---- visible rows, and own hidden ones behind them
-
-items-split : (text tape w : List ℕ) (b v m : ℕ) → items-at text tape w b (v + m) ≡ items-at text tape w b v ++ items-at text tape w (b + v * 16) m
-unfolding items-at
-items-split text tape w b zero m =
-    let e : b ≡ b + 0 * 16 = omega arith in
-    let c : 0 + m ≡ m = omega arith in
-    ap₂ (λ (i k : ℕ). items-at text tape w i k) e c
-items-split text tape w b (suc v) m =
-    let e : b + 16 + v * 16 ≡ b + suc v * 16 = omega arith in
-    let c : suc v + m ≡ suc (v + m) = omega arith in
-    ap (items-at text tape w b) c
-    ∙ ap (item-of text tape (row-at w b) ∷_)
-    (items-split text tape w (b + 16) v m ∙ ap (λ (i : ℕ). items-at text tape w (b + 16) v ++ items-at text tape w i m) e)
 
 -- v visible rows and m of M's own behind them
 pub checked-own : (text w w′ : List ℕ) (t q np b v m p : ℕ) (r : Verdict) → Checked text w w′ t q np b (v + m) p r

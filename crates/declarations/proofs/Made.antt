@@ -1,5 +1,5 @@
 -- The ways through making rows, one law each: s are nine sorts, v a sort's word, b a test's answer.
-use mathlib.Core.Path.{_≡_, refl, sym, ap, ap₂, _∙_}
+use mathlib.Core.Path.{_≡_, refl, sym, ap, _∙_}
 use mathlib.Core.Bool.{Bool, true, false}
 use mathlib.Core.List.{List, [], _∷_, _++_, map, map-append, append-nil, append-assoc}
 use mathlib.Core.Logic.{inl}
@@ -14,7 +14,6 @@ use lib.Dec.{eqb, ltb}
 use lib.ListN.{length, getD, set, take, drop, length-set, length-take, List·getD-eq-default}
 use lib.Seq.{sets, take-suc-set, take-set-le, getD-set-same, getD-take, getD-drop}
 use Rattle.meaning.specs.Lists.{pick}
-use Rattle.meaning.specs.Names.{Name}
 use Rattle.meaning.specs.Origins as meant
 use Rattle.tables.specs.Entries.{role-at, word-at, name-at, last-with, inputs-from, is-function-role, is-parameter-role, is-export-role, arity-at, section-at, origin-at, sort-place}
 use Rattle.tables.specs.Kinds.{kind-at}
@@ -26,9 +25,9 @@ use Rattle.tables.specs.declared.Row.{Row}
 use Rattle.forms.specs.Memory.{part, Same, Kept}
 use Rattle.forms.specs.Forms.{items-at}
 use Rattle.forms.specs.FormLaws.{kept-all, kept-wider, kept-then, kept-sets, kept-same, items-same, tape-same, items-grow}
-use Rattle.declarations.specs.Scans.{found}
-use Rattle.declarations.specs.Sorts.{Ready, is-row, is-seen, resolved-in}
+use Rattle.declarations.specs.Sorts.{Ready, resolved-in}
 use Rattle.declarations.specs.Items.{resolved-at, resolved-from, own-shape, own-item, InputSorts, OwnSorts, OwnRow, own-role, is-own, own-count, own-items, Roomy, Put, Appended}
+use Rattle.declarations.specs.Frames.{item-same, count-short}
 use Rattle.declarations.specs.declared.Own.{Own}
 
 -- ---- sorts
@@ -181,47 +180,7 @@ module _ (tape : List ℕ) (i r : ℕ) (e : r ≡ role-at tape i) where
   unfolding is-own own-role pick
   own-seen-high h hidden q = rw (q, ← e, le-ltb r 3 h)
 
--- ---- the items stay the same while the rows that are looked at stay
-
-module _ (text tape w w′ : List ℕ) (own : Own) (s : Same (own .rows) (own .rows + own .count * 16) w w′) where
-  row-same : (n : Name) (i : ℕ) → i < own .count → is-row text w′ (own .rows) 0 n i ≡ is-row text w (own .rows) 0 n i
-  unfolding is-row
-  row-same n i h = rw (s (own .rows + i * 16 + 2) (omega arith) (omega arith), s (own .rows + i * 16 + 1) (omega arith) (omega arith))
-
-  rows-same : (n : Name) (c i : ℕ) → i + c ≤ own .count → found (is-row text w′ (own .rows) 0 n) i c ≡ found (is-row text w (own .rows) 0 n) i c
-  unfolding found
-  rows-same n zero i h = refl
-  rows-same n (suc c) i h = ap₂ (λ (x y : Bool). pick x true y) (row-same n i (omega arith)) (rows-same n c (suc i) (omega arith))
-
-  resolved-same : (n : Name) → resolved-in text tape w′ own n ≡ resolved-in text tape w own n
-  unfolding resolved-in is-seen
-  resolved-same n = rw (rows-same n (own .count) 0 (omega arith))
-
-  inputs-same : (c i : ℕ) → resolved-from text tape w′ own i c ≡ resolved-from text tape w own i c
-  unfolding resolved-from resolved-at
-  inputs-same zero i = refl
-  inputs-same (suc c) i = ap₂ _∷_ (resolved-same (name-at text tape i)) (inputs-same c (suc i))
-
-  shape-same : (d k : ℕ) → own-shape text tape w′ own d k ≡ own-shape text tape w own d k
-  unfolding own-shape resolved-at
-  shape-same d zero = refl
-  shape-same d (suc zero) = rw (resolved-same (name-at text tape (sort-place tape d)))
-  shape-same d (suc (suc n)) = rw (inputs-same n (d + 1), resolved-same (name-at text tape (d + 1 + n)))
-
-  item-same : (d : ℕ) → own-item text tape w′ own d ≡ own-item text tape w own d
-  unfolding own-item
-  item-same d = rw (shape-same d (kind-at tape d))
-
 -- ---- all items: those before i are the rows from n up to k
-
-count-short : (tape : List ℕ) (hidden : Bool) (i c : ℕ) → own-count tape hidden i c ≤ c
-unfolding own-count pick
-count-short tape hidden i zero = omega arith
-count-short tape hidden i (suc c) = go (is-own tape hidden i) (count-short tape hidden (suc i) c)
-  where
-    go : (b : Bool) → own-count tape hidden (suc i) c ≤ c → pick b (suc (own-count tape hidden (suc i) c)) (own-count tape hidden (suc i) c) ≤ suc c
-    go true h = omega arith
-    go false h = omega arith
 
 pub record Appending (text : List ℕ) (t : ℕ) (own : Own) (hidden : Bool) (base n : ℕ) (w₀ w : List ℕ) (k i : ℕ) : Type 0 where
   pub ready : Ready w₀ t own
@@ -251,8 +210,11 @@ module _ (text : List ℕ) (t : ℕ) (own : Own) (hidden : Bool) (base n : ℕ) 
   same-tape = tape-same w₀ w t (g .kept .size) (λ j h l. g .kept .below j (omega (arith, g .roomy .behind)))
 
   pub append-end : own .end ≤ i → Appended text t own hidden base n w₀ w k
-  unfolding own-items
-  append-end h = let z : own .end - i ≡ 0 = omega arith in record { kept = g .kept; items = rw (z, append-nil) at (g .so-far) }
+  unfolding own-count own-items
+  append-end h =
+      let z : own .end - i ≡ 0 = omega arith in
+      let c : k + 0 ≡ n + own-count (part w₀ 0 t) hidden (own .from) (own .end - own .from) = rw z at (g .left) in
+      record { kept = g .kept; count = omega (arith, c); items = rw (z, append-nil) at (g .so-far) }
 
   module _ (b : Bool) (e : b ≡ is-own (part w 0 t) hidden i) (h : i < own .end) where
     one-less : own .end - i ≡ suc (own .end - (i + 1))

@@ -17,6 +17,8 @@ use Rattle.meaning.specs.Origins.{Sort, Item}
 use Rattle.meaning.specs.Normal.{Visible}
 use Rattle.meaning.specs.Own.{resolved, function-type, own-sort, own-function, own-section, own-visible, own-variable, own-hidden-items}
 use Rattle.meaning.specs.Evaluate.{seen-sorts}
+use Rattle.meaning.specs.OrderLaws.{Every}
+use Rattle.limits.specs.Limits.{InputsWithin, Limited}
 use Rattle.names.specs.Word.{name-of}
 use Rattle.tape.specs.Tape.{Entry, entry, flat-function, flat-signature, flat-parameter, flat-import, flat-group, flat-equation, flat-module}
 use Rattle.tables.specs.Entries.{role-at, name-at, inputs-from, names-from, is-function-role, is-parameter-role, is-export-role, arity-at, last-with, next-with, sort-place, home-at, section-at, origin-at, declared-at}
@@ -29,25 +31,26 @@ use Rattle.declarations.specs.declared.Own.{Own}
 
 -- a function has no more inputs than a text may give it
 abbrev pub Few : List Function → Type 0
-Few [] = Unit {0}
-Few (f ∷ fs) = (length (f .inputs) ≤ 8) × Few fs
+Few fs = Every InputsWithin fs
 
 abbrev pub FewEach : List Parameter → Type 0
-FewEach [] = Unit {0}
-FewEach (p ∷ ps) = Few (p .signature .functions) × FewEach ps
+FewEach ps = Every (λ (p : Parameter). Few (p .signature .functions)) ps
 
 pub record FewInputs (m : Module) : Type 0 where
   pub parameters : FewEach (m .parameters)
   pub exports : Few (m .exports .functions)
   pub hidden : Few (m .hidden .functions)
 
+pub few-inputs : (m : Module) → Limited m → FewInputs m
+few-inputs m l = record { parameters = l .parameters; exports = l .exports; hidden = l .hidden }
+
 -- ---- roles and sections
 
-quiet-seen : (r : ℕ) → 7 ≤ r → own-role false r ≡ false
+pub quiet-seen : (r : ℕ) → 7 ≤ r → own-role false r ≡ false
 unfolding own-role pick
 quiet-seen r h = rw (le-ltb r 3 (omega arith), le-ltb r 7 h)
 
-quiet-hidden : (r : ℕ) → r < 7 → own-role true r ≡ false
+pub quiet-hidden : (r : ℕ) → r < 7 → own-role true r ≡ false
 unfolding own-role pick
 quiet-hidden r h = rw (ne-eqb r 17 (λ q. omega arith), lt-ltb r 7 h)
 

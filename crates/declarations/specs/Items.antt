@@ -98,6 +98,7 @@ pub record Put (text : List ℕ) (t : ℕ) (own : Own) (base k d : ℕ) (w w′ 
 -- the module's items are the rows from n up to r of the table at base, and all else stays
 pub record Appended (text : List ℕ) (t : ℕ) (own : Own) (hidden : Bool) (base n : ℕ) (w w′ : List ℕ) (r : ℕ) : Type 0 where
   pub kept : Kept (base + n * 16) (base + r * 16) w w′
+  pub count : r ≡ n + own-count (part w 0 t) hidden (own .from) (own .end - own .from)
   pub items :
       items-at text (part w 0 t) w′ base r
       ≡ items-at text (part w 0 t) w base n ++ own-items text (part w 0 t) w own hidden (own .from) (own .end - own .from)

@@ -10,4 +10,4 @@ pub mod ItemLaws
 pub mod CheckLaws
 pub mod VariableLaws
 pub mod OnceLaws
-pub mod UnionLaws
+pub mod Frames

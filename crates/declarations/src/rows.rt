@@ -87,7 +87,7 @@ fn put_own(text: &[u8], work: &mut [u32], t: usize, own: Own, base: u32, k: u32,
 }
 
 // Does the entry at i declare an item: a hidden one, or a visible one?
-fn is_own(tape: &[u32], hidden: bool, i: u32) -> bool
+pub fn is_own(tape: &[u32], hidden: bool, i: u32) -> bool
     ensures { λ r. ⌜ r ≡ is-own (now (tape .entry)) hidden i ⌝ }
 {
     let role = role_at(tape, i as usize);

@@ -1,7 +1,7 @@
 -- What the places of the code ask, one law each: the hypotheses are the facts that the place has.
 use mathlib.Core.Path.{_≡_, refl, sym, ap, _∙_}
 use mathlib.Core.Logic.{⊎-elim, inl, inr}
-use mathlib.Core.Bool.{Bool, true, false, false≢true}
+use mathlib.Core.Bool.{Bool, true, false}
 use mathlib.Core.List.{List}
 use Prim.Native.Nat.{ℕ, _+_, _*_, _-_, _^_, _≤_, _<_}
 use native.Mathlib.Omega.{arith}
@@ -19,7 +19,7 @@ use Rattle.tables.specs.Rows.{words-from}
 use Rattle.forms.specs.Memory.{Kept}
 use Rattle.forms.specs.FormLaws.{kept-all, kept-wider, kept-then}
 use Rattle.order.specs.Order.{name-in, upto, name-order, InOrder, Spot, Inserted, PutInOrder, NamesApart}
-use Rattle.order.specs.Sorting.{lt-or-ge, ordered-names, insert-ordered}
+use Rattle.order.specs.Sorting.{lt-or-ge, yes-below, no-above, ordered-names, insert-ordered}
 
 -- ---- `name_in`
 
@@ -58,11 +58,17 @@ module _ (text w : List ℕ) (b s p n x : ℕ) where
 
   module _ (ord : InOrder text w b s p n) (lo hi mid : ℕ) (inv : Narrowed text w b s p n x lo hi) (l : lo ≤ mid) (h : mid < hi) (r : Bool)
       (er : r ≡ not-after (name-in text w b s (getD w (p + mid) 0)) (name-of text x)) where
+    abbrev early : ℕ → Bool
+    early i = not-after (called i) (name-of text x)
+
+    steady : (i j : ℕ) → i ≤ j → j < n → early j ≡ true → early i ≡ true
+    steady i j m k e = names-ordered .transitive (called i) (called j) (name-of text x) (ordered-names text w b s p n ord i j m k) e
+
     pub narrow-up : r ≡ true → Narrowed text w b s p n x (mid + 1) hi
     narrow-up t = record {
       low = omega arith;
       high = inv .high;
-      before = λ i m. names-ordered .transitive (called i) (called mid) (name-of text x) (ordered-names text w b s p n ord i mid (omega arith) (omega (arith, inv .high))) (sym er ∙ t);
+      before = yes-below early n steady mid (omega (arith, inv .high)) (sym er ∙ t);
       behind = inv .behind;
     }
 
@@ -71,13 +77,8 @@ module _ (text w : List ℕ) (b s p n x : ℕ) where
       low = l;
       high = omega (arith, inv .high);
       before = inv .before;
-      behind = λ i m k. later i m k (not-after (called i) (name-of text x)) refl;
+      behind = no-above early n steady mid (sym er ∙ t);
     }
-      where
-        later : (i : ℕ) → mid ≤ i → i < n → (q : Bool) → not-after (called i) (name-of text x) ≡ q → not-after (called i) (name-of text x) ≡ false
-        later i m k true e =
-            absurd (false≢true (sym (sym er ∙ t) ∙ names-ordered .transitive (called mid) (called i) (name-of text x) (ordered-names text w b s p n ord mid i m k) e))
-        later i m k false e = e
 
   pub narrow-end : (lo hi : ℕ) → Narrowed text w b s p n x lo hi → hi ≤ lo → Spot text w b s p n x lo
   narrow-end lo hi inv h = record {

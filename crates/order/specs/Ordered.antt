@@ -1,42 +1,24 @@
 -- What an order table points at: the items of a table of rows, or names, in the order of their names.
 use mathlib.Core.Path.{_≡_, refl, sym, ap, _∙_}
-use mathlib.Core.Bool.{Bool, true, false}
 use mathlib.Core.List.{List, [], _∷_, _++_, map}
 use Prim.Native.Nat.{ℕ, zero, suc, _+_, _*_}
 use native.Mathlib.Omega.{arith}
 use lib.ListN.{getD}
-use Rattle.meaning.specs.Lists.{pick, place-in, sorted-onto}
 use Rattle.meaning.specs.Names.{Name, not-after, by-name}
 use Rattle.meaning.specs.Origins.{Item}
+use Rattle.meaning.specs.OrderLaws.{sorted-map}
 use Rattle.names.specs.Word.{name-of}
 use Rattle.tables.specs.Rows.{words-from, row-at, item-of}
 use Rattle.forms.specs.Forms.{names-at, items-at}
 use Rattle.forms.specs.FormLaws.{items-grow}
 use Rattle.order.specs.Order.{name-in, upto, name-order, InOrder}
 
--- ---- sorting what is made of each
+-- ---- what is made of each
 
 module _ {A B : Type 0} (f : B → A) where
-  map-more : (xs : List B) (x : B) → map f (xs ++ (x ∷ [])) ≡ map f xs ++ (f x ∷ [])
+  pub map-more : (xs : List B) (x : B) → map f (xs ++ (x ∷ [])) ≡ map f xs ++ (f x ∷ [])
   map-more [] x = refl
   map-more (y ∷ ys) x = ap (f y ∷_) (map-more ys x)
-
-  module _ (le : A → A → Bool) where
-    placed-map : (a : B) (xs : List B) → map f (place-in (λ x y. le (f x) (f y)) a xs) ≡ place-in le (f a) (map f xs)
-    unfolding place-in pick
-    placed-map a [] = refl
-    placed-map a (x ∷ xs) = go (le (f x) (f a)) (placed-map a xs)
-      where
-        go : (b : Bool) → map f (place-in (λ x y. le (f x) (f y)) a xs) ≡ place-in le (f a) (map f xs)
-            → map f (pick b (x ∷ place-in (λ x y. le (f x) (f y)) a xs) (a ∷ x ∷ xs)) ≡ pick b (f x ∷ place-in le (f a) (map f xs)) (f a ∷ f x ∷ map f xs)
-        go true e = ap (f x ∷_) e
-        go false e = refl
-
-    sorted-map : (done xs : List B) → map f (sorted-onto (λ x y. le (f x) (f y)) done xs) ≡ sorted-onto le (map f done) (map f xs)
-    unfolding sorted-onto
-    sorted-map done [] = refl
-    sorted-map done (x ∷ xs) =
-        sorted-map (place-in (λ x y. le (f x) (f y)) x done) xs ∙ ap (λ (d : List A). sorted-onto le d (map f xs)) (placed-map x done)
 
 -- ---- items
 
@@ -49,7 +31,7 @@ module _ (text tape w : List ℕ) (b : ℕ) where
   unfolding item-of row-at name-in
   row-called k = let e : b + k * 16 + 1 ≡ b + 1 + k * 16 = omega arith in ap (λ (i : ℕ). name-of text (getD w i 0)) e
 
-  items-upto : (n : ℕ) → map (row-item text tape w b) (upto n) ≡ items-at text tape w b n
+  pub items-upto : (n : ℕ) → map (row-item text tape w b) (upto n) ≡ items-at text tape w b n
   unfolding upto items-at
   items-upto zero = refl
   items-upto (suc n) =
@@ -64,13 +46,13 @@ module _ (text tape w : List ℕ) (b : ℕ) where
       let f = row-item text tape w b in
       let called : name-in text w (b + 1) 16 ≡ (λ k. f k .name) = λ i k. sym (row-called k) i in
       ap (map f) (ord .words ∙ ap (λ (c : ℕ → Name). by-name c (upto n)) called)
-      ∙ sorted-map f (λ x y. not-after (x .name) (y .name)) [] (upto n)
+      ∙ sorted-map f (λ x y. not-after (f x .name) (f y .name)) (λ x y. not-after (x .name) (y .name)) (λ a b. refl) [] (upto n)
       ∙ ap (by-name (λ (i : Item). i .name)) (items-upto n)
 
 -- ---- names
 
 module _ (text w : List ℕ) where
-  names-grow : (b c : ℕ) → names-at text w b (suc c) ≡ names-at text w b c ++ (name-in text w b 1 c ∷ [])
+  pub names-grow : (b c : ℕ) → names-at text w b (suc c) ≡ names-at text w b c ++ (name-in text w b 1 c ∷ [])
   unfolding names-at name-in
   names-grow b zero = let e : b ≡ b + 0 * 1 = omega arith in ap (λ (i : ℕ). name-of text (getD w i 0) ∷ []) e
   names-grow b (suc c) =
@@ -91,4 +73,4 @@ module _ (text w : List ℕ) where
   unfolding name-order
   ordered-called b p n ord =
       let f = name-in text w b 1 in
-      ap (map f) (ord .words) ∙ sorted-map f not-after [] (upto n) ∙ ap (by-name (λ (x : Name). x)) (names-upto b n)
+      ap (map f) (ord .words) ∙ sorted-map f (λ x y. not-after (f x) (f y)) not-after (λ a b. refl) [] (upto n) ∙ ap (by-name (λ (x : Name). x)) (names-upto b n)

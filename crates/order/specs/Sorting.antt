@@ -1,7 +1,7 @@
 -- Laws of the order table: a name more is put in its place, and what lies apart may change.
 use mathlib.Core.Path.{_≡_, refl, sym, ap, ap₂, _∙_}
 use mathlib.Core.Logic.{_⊎_, inl, inr, ⊎-elim}
-use mathlib.Core.Bool.{Bool, true, false}
+use mathlib.Core.Bool.{Bool, true, false, false≢true}
 use mathlib.Core.List.{List, [], _∷_, _++_}
 use Prim.Native.Nat.{ℕ, zero, suc, _+_, _*_, _≤_, _<_}
 use native.Mathlib.Omega.{arith}
@@ -25,27 +25,27 @@ put-at zero v xs = v ∷ xs
 put-at (suc k) v [] = v ∷ []
 put-at (suc k) v (x ∷ xs) = x ∷ put-at k v xs
 
-sorted-more : {A : Type 0} (le : A → A → Bool) (done xs : List A) (x : A)
+pub sorted-more : {A : Type 0} (le : A → A → Bool) (done xs : List A) (x : A)
     → sorted-onto le done (xs ++ (x ∷ [])) ≡ place-in le x (sorted-onto le done xs)
 unfolding sorted-onto
 sorted-more le done [] x = refl
 sorted-more le done (y ∷ ys) x = sorted-more le (place-in le y done) ys x
 
-placed-alike : {A : Type 0} (le le′ : A → A → Bool) (a : A) (xs : List A) → Every (λ x. le′ x a ≡ le x a) xs
+pub placed-alike : {A : Type 0} (le le′ : A → A → Bool) (a : A) (xs : List A) → Every (λ x. le′ x a ≡ le x a) xs
     → place-in le′ a xs ≡ place-in le a xs
 unfolding place-in pick
 placed-alike le le′ a [] h = refl
 placed-alike le le′ a (x ∷ xs) h = rw (h .0, placed-alike le le′ a xs (h .1))
 
-every-more : {A : Type 0} (P : A → Type 0) (xs : List A) (x : A) → Every P xs → P x → Every P (xs ++ (x ∷ []))
+pub every-more : {A : Type 0} (P : A → Type 0) (xs : List A) (x : A) → Every P xs → P x → Every P (xs ++ (x ∷ []))
 every-more P [] x h q = (q, tt)
 every-more P (y ∷ ys) x h q = (h .0, every-more P ys x (h .1) q)
 
-every-weaker : {A : Type 0} (P Q : A → Type 0) → ((x : A) → P x → Q x) → (xs : List A) → Every P xs → Every Q xs
+pub every-weaker : {A : Type 0} (P Q : A → Type 0) → ((x : A) → P x → Q x) → (xs : List A) → Every P xs → Every Q xs
 every-weaker P Q f [] h = tt
 every-weaker P Q f (x ∷ xs) h = (f x (h .0), every-weaker P Q f xs (h .1))
 
-below-upto : (n : ℕ) → Every (λ k. k < n) (upto n)
+pub below-upto : (n : ℕ) → Every (λ k. k < n) (upto n)
 unfolding upto
 below-upto zero = tt
 below-upto (suc n) =
@@ -110,7 +110,7 @@ pairs-of-words R w p (suc n) (suc i) (suc j) h l m =
     rw (word-later w p i, word-later w p j) (pairs-of-words R w (suc p) n i j (h .1) (omega arith) (omega arith))
 
 -- the place k of a among words in order
-placed-at : (le : ℕ → ℕ → Bool) (a : ℕ) (w : List ℕ) (p n k : ℕ) → k ≤ n → ((i : ℕ) → i < k → le (getD w (p + i) 0) a ≡ true)
+pub placed-at : (le : ℕ → ℕ → Bool) (a : ℕ) (w : List ℕ) (p n k : ℕ) → k ≤ n → ((i : ℕ) → i < k → le (getD w (p + i) 0) a ≡ true)
     → ((i : ℕ) → k ≤ i → i < n → le (getD w (p + i) 0) a ≡ false) → place-in le a (words-from w p n) ≡ put-at k a (words-from w p n)
 unfolding place-in put-at words-from pick
 placed-at le a w p zero zero h f g = refl
@@ -127,7 +127,7 @@ words-moved w w′ p (suc n) h =
     ap₂ (λ (x : ℕ) (xs : List ℕ). x ∷ xs) (ap (λ (i : ℕ). getD w′ i 0) (sym (add-one p)) ∙ h p (omega arith) (omega arith))
     (words-moved w w′ (suc p) n (λ i l m. h i (omega arith) (omega arith)))
 
-words-put : (w w′ : List ℕ) (p n k a e v : ℕ) → k ≤ n → a ≡ p + k → e ≡ p + n → Inserted a e v w w′ → words-from w′ p (suc n) ≡ put-at k v (words-from w p n)
+pub words-put : (w w′ : List ℕ) (p n k a e v : ℕ) → k ≤ n → a ≡ p + k → e ≡ p + n → Inserted a e v w w′ → words-from w′ p (suc n) ≡ put-at k v (words-from w p n)
 unfolding words-from put-at
 words-put w w′ p n zero a e v h ea ee ins =
     let q : p ≡ a = omega arith in
@@ -143,6 +143,18 @@ lt-or-ge i j = go (ltb i j) refl
     go : (b : Bool) → ltb i j ≡ b → (i < j) ⊎ (j ≤ i)
     go true e = inl (ltb-true i j e)
     go false e = inr (ltb-false i j e)
+
+-- where an answer that holds at one place holds at all before it, the answer at one place tells those on one side
+module _ (yes : ℕ → Bool) (n : ℕ) (steady : (i j : ℕ) → i ≤ j → j < n → yes j ≡ true → yes i ≡ true) (mid : ℕ) where
+  pub yes-below : mid < n → yes mid ≡ true → (i : ℕ) → i < mid + 1 → yes i ≡ true
+  yes-below l e i h = steady i mid (omega arith) l e
+
+  pub no-above : yes mid ≡ false → (i : ℕ) → mid ≤ i → i < n → yes i ≡ false
+  no-above e i h l = go (yes i) refl
+    where
+      go : (q : Bool) → yes i ≡ q → yes i ≡ false
+      go true f = absurd (false≢true (sym e ∙ steady mid i h l f))
+      go false f = f
 
 -- of two in order the name of the first is not after the other's
 pub ordered-names : (text w : List ℕ) (b s p n : ℕ) → InOrder text w b s p n → (i j : ℕ) → i ≤ j → j < n

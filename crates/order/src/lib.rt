@@ -25,7 +25,7 @@ pub fn number_in(w: &[u32], p: u32, i: u32) -> u32
 }
 
 // The half way from lo to hi.
-fn middle(lo: u32, hi: u32) -> u32
+pub fn middle(lo: u32, hi: u32) -> u32
     requires { ⌜ lo < hi ⌝ }
     ensures { λ r. ⌜ lo ≤ r ⌝ }
     ensures { λ r. ⌜ r < hi ⌝ }
@@ -62,7 +62,7 @@ fn find_place(text: &[u8], w: &[u32], b: u32, s: u32, p: u32, n: u32, x: u32) ->
 }
 
 // The words from a up to e move up by one, and v is put at a.
-fn insert_word(w: &mut [u32], a: usize, e: usize, v: u32)
+pub fn insert_word(w: &mut [u32], a: usize, e: usize, v: u32)
     requires { ⌜ a ≤ e ⌝ }
     requires { ⌜ e < length (now w) ⌝ }
     ensures { λ r. ⌜ Inserted a e v (now (w .entry)) (now (w .exit)) ⌝ }

@@ -11,9 +11,11 @@ use borrow.Author.Tests.{lt-ltb}
 use lib.ListN.{length, getD, set, length-set, length-append}
 use lib.Seq.{sets, getD-set-same}
 use Rattle.meaning.specs.Lists.{pick, each}
+use Rattle.meaning.specs.OrderLaws.{Every}
 use Rattle.meaning.specs.Syntax.{Sides}
 use Rattle.meaning.specs.Origins.{ResolvedSides}
 use Rattle.meaning.specs.Typing.{typed-sides}
+use Rattle.limits.specs.EveryLaws.{every-append}
 use Rattle.tape.specs.Tape.{Entry, entry}
 use Rattle.tape.specs.Tape as on-tape
 use Rattle.tables.specs.Entries.{role-at}
@@ -26,7 +28,7 @@ use Rattle.typing.specs.declared.Answer.the-variants.{Ill}
 use Rattle.typing.specs.declared.Passed.the-variants.{Counted, Wrong}
 use Rattle.typing.specs.Typing.{Out, tape-in, items-in}
 use Rattle.typing.specs.Equations.{Pass, passed, sides-at, begins-at, after-sides, sides-from}
-use Rattle.typing.specs.Meant.{map-append, Spells, spells-front, spells-back, Layout, node-here, tape-stays, sets-kept, begins}
+use Rattle.typing.specs.Meant.{map-append, Spells, spells-front, spells-back, Layout, node-here, Pointed, tape-stays, sets-kept, begins}
 use Rattle.typing.specs.Sides.{WellSides, AgreeSides, sides-typed}
 
 -- two sides, and the role of the entry behind them
@@ -78,6 +80,7 @@ module _ (text : List ℕ) (k : Known) (w₀ : List ℕ) (role : ℕ) where
     pub below : (j : ℕ) → j < q → getD (o .memory) j 0 ≡ getD w j 0
     pub stand : Stand q words (o .memory)
     pub nodes : map (node-here text k w₀) words ≡ each flat-sides ss
+    pub pointed : Every (Pointed text k w₀) words
     pub room : length words ≤ size
 
   abbrev pub AgreeChosen : Option (List ResolvedSides) → ℕ → ℕ → ℕ → ℕ → ℕ → ℕ → List ℕ → Pass → Type 0
@@ -119,6 +122,7 @@ module _ (text : List ℕ) (k : Known) (w₀ : List ℕ) (role : ℕ) where
                 (stand-stays (h .words) q u _ (λ j a b. r .below j b) (stand-sets (h .words) q w (omega (arith, h .room, kept .size, l .inside))))
                 (r .stand);
             nodes = map-append (node-here text k w₀) (h .words) (r .words) ∙ ap₂ _++_ (h .nodes) (r .nodes);
+            pointed = every-append (Pointed text k w₀) (h .words) (r .words) (h .pointed) (r .pointed);
             room = omega (arith, length-append (h .words) (r .words), h .room, r .room);
           }
 
@@ -137,6 +141,7 @@ module _ (text : List ℕ) (k : Known) (w₀ : List ℕ) (role : ℕ) where
             below = λ j a. r .below j a ∙ f .below j a;
             stand = r .stand;
             nodes = r .nodes;
+            pointed = r .pointed;
             room = omega (arith, r .room);
           }
 
@@ -213,6 +218,7 @@ module _ (text : List ℕ) (k : Known) (w₀ : List ℕ) (role : ℕ) where
           below = λ j a. refl;
           stand = tt;
           nodes = refl;
+          pointed = tt;
           room = omega arith;
         })
     pass-typed (m ∷ ms) zero i q n w h g s kept x y z e = absurd (omega arith)

@@ -8,11 +8,13 @@ use Prim.Native.Nat.{ℕ, suc, _+_, _<_, _≤_}
 use native.Mathlib.Omega.{arith}
 use lib.ListN.{length, getD, length-append}
 use Rattle.meaning.specs.Lists.{pick, each}
+use Rattle.meaning.specs.OrderLaws.{Every}
 use Rattle.meaning.specs.Names.{Name}
 use Rattle.meaning.specs.Syntax.{Sides, Equation, conditions-of}
 use Rattle.meaning.specs.Origins.{ResolvedSides, ResolvedEquation, Item}
 use Rattle.meaning.specs.Checks.{Outcome, fine, stop}
 use Rattle.meaning.specs.Typing.{typed-sides, typed-conditions, joined-sides, made-equation}
+use Rattle.limits.specs.EveryLaws.{every-append}
 use Rattle.tape.specs.Tape.{Entry, entry, tag-role, condition-role, conclusion-role}
 use Rattle.tape.specs.Tape as on-tape
 use Rattle.forms.specs.Memory.{Kept}
@@ -21,7 +23,7 @@ use Rattle.typing.specs.declared.Known.{Known}
 use Rattle.typing.specs.declared.Passed.the-variants.{Counted, Wrong}
 use Rattle.typing.specs.Typing.{tape-in, items-in}
 use Rattle.typing.specs.Equations.{Pass, begins-at, sides-from, after-conclusion, equation-at}
-use Rattle.typing.specs.Meant.{map-append, Spells, Layout, node-here}
+use Rattle.typing.specs.Meant.{map-append, Spells, Layout, node-here, Pointed}
 use Rattle.typing.specs.Sides.{spells-size}
 use Rattle.typing.specs.Chosen.{Mark, flat-mark, mark-size, joined-chosen, Stand, stand-stays, stand-append, chosen, Chosen, AgreeChosen, pass-typed}
 
@@ -34,7 +36,7 @@ marked role s = record { role = role; sides = s }
 abbrev pub marks-of : Equation → List Mark
 marks-of e = map (marked condition-role) (e .before) ++ (marked conclusion-role (e .conclusion) ∷ map (marked condition-role) (e .after))
 
-each-append : {A B : Type 0} (f : A → List B) (xs ys : List A) → each f (xs ++ ys) ≡ each f xs ++ each f ys
+pub each-append : {A B : Type 0} (f : A → List B) (xs ys : List A) → each f (xs ++ ys) ≡ each f xs ++ each f ys
 unfolding each
 each-append f [] ys = refl
 each-append {A} {B} f (x ∷ xs) ys = ap (λ (r : List B). f x ++ r) (each-append f xs ys) ∙ sym (append-assoc (f x) (each f xs) (each f ys))
@@ -144,6 +146,7 @@ module _ (text : List ℕ) (k : Known) (w₀ : List ℕ) where
     pub below : (j : ℕ) → j < q → getD (o .memory) j 0 ≡ getD w j 0
     pub stand : Stand q words (o .memory)
     pub nodes : map (node-here text k w₀) words ≡ flat-equation r
+    pub pointed : Every (Pointed text k w₀) words
     pub room : length words ≤ size + size
 
   abbrev pub AgreeEquation : Outcome ResolvedEquation → ℕ → ℕ → ℕ → ℕ → ℕ → List ℕ → Pass → Type 0
@@ -179,6 +182,7 @@ module _ (text : List ℕ) (k : Known) (w₀ : List ℕ) where
           nodes =
               map-append (node-here text k w₀) (h .words) (g .words)
               ∙ ap₂ _++_ (h .nodes ∙ none-behind (flat-sides c)) (g .nodes);
+          pointed = every-append (Pointed text k w₀) (h .words) (g .words) (h .pointed) (g .pointed);
           room = omega (arith, length-append (h .words) (g .words), h .room, g .room);
         })
 

@@ -7,3 +7,4 @@ pub mod Chosen
 pub mod Equated
 pub mod Rows
 pub mod Listed
+pub mod Typed

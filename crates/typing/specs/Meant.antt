@@ -2,7 +2,7 @@
 -- the words written are its nodes; and it is ill typed where the meaning has no sort for it.
 use mathlib.Core.Path.{_≡_, refl, sym, ap, ap₂, _∙_}
 use mathlib.Core.Logic.{inl}
-use mathlib.Core.Bool.{Bool, true, false, _&&_, false≢true}
+use mathlib.Core.Bool.{Bool, true, false, _&&_, false≢true, true≢false}
 use mathlib.Core.Option.{Option, none, some}
 use mathlib.Core.List.{List, [], _∷_, _++_, map, append-assoc}
 use Prim.Native.Nat.{ℕ, zero, suc, _+_, _-_, _*_, _/_, _%_, _<_, _≤_}
@@ -10,15 +10,17 @@ use native.Mathlib.Numerals.{add-one}
 use native.Mathlib.Nat.{add-zero}
 use native.Mathlib.Omega.{arith}
 use lib.Dec.{eqb, ltb, leb}
-use borrow.Author.Tests.{eq-eqb, ne-eqb, lt-ltb, ltb-true, ltb-false, leb-true, leb-false}
+use borrow.Author.Tests.{eq-eqb, ne-eqb, lt-ltb, le-ltb, ltb-true, ltb-false, leb-true, leb-false}
 use lib.ListN.{length, getD, set, take, drop, length-append, length-map, length-take}
 use lib.Seq.{sets, sets-eq, set-comm, take-append-seam}
 use Rattle.meaning.specs.Lists.{pick, first, before, or-else, agree}
+use Rattle.meaning.specs.OrderLaws.{Every}
 use Rattle.meaning.specs.Names.{Name}
 use Rattle.meaning.specs.Syntax.{Term, node, Terms, no-terms, _then_}
-use Rattle.meaning.specs.Origins.{Section, export-section, hidden-section, parameter-section, Origin, Sort, same-sort, FunctionType, visible-head, hidden-head, var, app, Shape, sort-shape, function-shape, variable-shape, Item}
+use Rattle.meaning.specs.Origins.{Section, export-section, hidden-section, parameter-section, Origin, Sort, same-sort, FunctionType, visible-head, hidden-head, var, app, Shape, sort-shape, function-shape, variable-shape, is-sort, is-function, Item}
 use Rattle.meaning.specs.Normal.{is-called}
 use Rattle.meaning.specs.Typing.{Typed, TypedList, head-of, of-shape, found-with, no-arguments, takes, is-variable, joined-typed, applied, alone, with-arguments, typed, typed-list}
+use Rattle.limits.specs.EveryLaws.{every-append}
 use Rattle.tape.specs.Tape.{Entry, entry, alone-role, head-role, close-role, flat-node}
 use Rattle.tape.specs.Tape as on-tape
 use Rattle.tables.specs.Entries.{role-at, name-at}
@@ -138,30 +140,58 @@ module _ (text : List ℕ) (k : Known) (w₀ : List ℕ) where
   unfoldable pub node-here : ℕ → Node
   node-here v = node-of (eqb (v / 16 % 2) 0) (v % 16) (known-item (known-row k v))
 
-  node-settled : (row n : ℕ) → n ≤ 9 → node-here (node-word k row n) ≡ node-of (ltb row (k .visible)) n (known-item row)
-  unfolding node-here node-word known-row pick
-  node-settled row n l = go (ltb row (k .visible)) refl
-    where
-      told : (t : Bool) (v : ℕ) → eqb (v / 16 % 2) 0 ≡ t → v % 16 ≡ n → pick t (v / 32) (k .visible + (v / 32 - k .hidden)) ≡ row
-          → node-of (eqb (v / 16 % 2) 0) (v % 16) (known-item (pick (eqb (v / 16 % 2) 0) (v / 32) (k .visible + (v / 32 - k .hidden)))) ≡ node-of t n (known-item row)
-      told t v a b c = rw (a, b, c)
+  -- what the word of a row's node tells: the row, its number of arguments, and whether the row is a visible one
+  record Told (row n v : ℕ) : Type 0 where
+    pub row-is : known-row k v ≡ row
+    pub arguments : v % 16 ≡ n
+    pub seen : eqb (v / 16 % 2) 0 ≡ ltb row (k .visible)
 
-      go : (t : Bool) → ltb row (k .visible) ≡ t
-          → node-of (eqb (pick t (row * 32 + n) ((k .hidden + (row - k .visible)) * 32 + 16 + n) / 16 % 2) 0) (pick t (row * 32 + n) ((k .hidden + (row - k .visible)) * 32 + 16 + n) % 16)
-          (known-item (pick (eqb (pick t (row * 32 + n) ((k .hidden + (row - k .visible)) * 32 + 16 + n) / 16 % 2) 0) (pick t (row * 32 + n) ((k .hidden + (row - k .visible)) * 32 + 16 + n) / 32) (k .visible + (pick t (row * 32 + n) ((k .hidden + (row - k .visible)) * 32 + 16 + n) / 32 - k .hidden))))
-          ≡ node-of t n (known-item row)
+  word-told : (row n : ℕ) → n ≤ 9 → Told row n (node-word k row n)
+  unfolding node-word known-row pick
+  word-told row n l = go (ltb row (k .visible)) refl
+    where
+      told : (t : Bool) (v : ℕ) → ltb row (k .visible) ≡ t → eqb (v / 16 % 2) 0 ≡ t → v % 16 ≡ n → pick t (v / 32) (k .visible + (v / 32 - k .hidden)) ≡ row → Told row n v
+      told t v e a b c = record { row-is = rw a c; arguments = b; seen = a ∙ sym e }
+
+      go : (t : Bool) → ltb row (k .visible) ≡ t → Told row n (pick t (row * 32 + n) ((k .hidden + (row - k .visible)) * 32 + 16 + n))
       go true e =
           let a : (row * 32 + n) / 16 % 2 ≡ 0 = omega arith in
-          let b : (row * 32 + n) % 16 ≡ n = omega arith in
-          let c : (row * 32 + n) / 32 ≡ row = omega arith in
-          told true (row * 32 + n) (eq-eqb ((row * 32 + n) / 16 % 2) 0 a) b c
+          told true (row * 32 + n) e (eq-eqb ((row * 32 + n) / 16 % 2) 0 a) (omega arith) (omega arith)
       go false e =
           let h = ltb-false row (k .visible) e in
           let v = (k .hidden + (row - k .visible)) * 32 + 16 + n in
           let a : v / 16 % 2 ≡ 1 = omega arith in
-          let b : v % 16 ≡ n = omega arith in
           let c : k .visible + (v / 32 - k .hidden) ≡ row = omega arith in
-          told false v (ne-eqb (v / 16 % 2) 0 (λ z. absurd (omega arith))) b c
+          told false v e (ne-eqb (v / 16 % 2) 0 (λ z. absurd (omega arith))) (omega arith) c
+
+  node-settled : (row n : ℕ) → n ≤ 9 → node-here (node-word k row n) ≡ node-of (ltb row (k .visible)) n (known-item row)
+  unfolding node-here
+  node-settled row n l = let t = word-told row n l in rw (t .seen, t .arguments, t .row-is)
+
+  -- the word points at a known row that can stand there: a function, or else a variable, which is hidden and stands alone
+  pub record Pointed (v : ℕ) : Type 0 where
+    pub inside : known-row k v < k .count
+    pub seen : v / 16 % 2 ≡ 0 → known-row k v < k .visible
+    pub no-sort : is-sort (known-item (known-row k v) .shape) ≡ false
+    pub alone : is-function (known-item (known-row k v) .shape) ≡ false → v % 16 ≡ 0
+    pub behind : is-function (known-item (known-row k v) .shape) ≡ false → eqb (v / 16 % 2) 0 ≡ false
+
+  -- a row that can stand at a node with n arguments
+  record Standing (row n : ℕ) : Type 0 where
+    pub no-sort : is-sort (known-item row .shape) ≡ false
+    pub alone : is-function (known-item row .shape) ≡ false → n ≡ 0
+    pub behind : is-function (known-item row .shape) ≡ false → k .visible ≤ row
+
+  word-pointed : (row n : ℕ) → n ≤ 9 → row < k .count → Standing row n → Pointed (node-word k row n)
+  word-pointed row n l h s =
+      let t = word-told row n l in
+      record {
+        inside = rw (t .row-is) h;
+        seen = λ e. rw (t .row-is) (ltb-true row (k .visible) (sym (t .seen) ∙ eq-eqb (node-word k row n / 16 % 2) 0 e));
+        no-sort = rw (t .row-is) (s .no-sort);
+        alone = rw (t .row-is) (λ e. t .arguments ∙ s .alone e);
+        behind = rw (t .row-is) (λ e. t .seen ∙ le-ltb row (k .visible) (s .behind e));
+      }
 
   item-shape : (row : ℕ) → known-item row .shape ≡ shape-of text (tape-in k w₀) (row-at w₀ (k .base + row * 16) .kind) (row-at w₀ (k .base + row * 16) .sorts)
   unfolding item-of
@@ -173,10 +203,11 @@ module _ (text : List ℕ) (k : Known) (w₀ : List ℕ) where
     pub found : r ≡ some result
     pub sort : sort-of text (tape-in k w₀) (getD (row-at w₀ (k .base + row * 16) .sorts) 8 0) ≡ result .sort
     pub flat : (node-of (ltb row (k .visible)) (how-many (ts .terms)) (known-item row) ∷ flat-terms (ts .terms)) ≡ flat-term (result .term)
+    pub standing : Standing row (how-many (ts .terms))
 
   function-settles : (row : ℕ) (ts : TypedList) (ss : List Sort) → visibly (known-item row .standing) ≡ ltb row (k .visible)
       → takes ss (known-item row .shape) ≡ true → Settles row ts (found-with ts (some (known-item row)))
-  unfolding found-with of-shape node-of node-shape flat-term
+  unfolding found-with of-shape node-of node-shape flat-term is-sort is-function
   function-settles row ts ss stands p =
       let r = row-at w₀ (k .base + row * 16) in
       let t = type-of text (tape-in k w₀) (r .kind - 2) (r .sorts) in
@@ -187,11 +218,12 @@ module _ (text : List ℕ) (k : Known) (w₀ : List ℕ) where
         found = rw e;
         sort = output-here text (tape-in k w₀) (r .kind) (r .sorts) (r .kind - 2);
         flat = rw (e, head-visibly (i .standing) (i .name) (i .origin) t, stands);
+        standing = record { no-sort = rw e; alone = λ h. absurd (true≢false (rw e at h)); behind = λ h. absurd (true≢false (rw e at h)) };
       }
 
-  variable-settles : (row : ℕ) → is-variable (known-item row .shape) ≡ true → Settles row no-arguments (found-with no-arguments (some (known-item row)))
-  unfolding found-with of-shape node-of node-shape flat-term flat-terms no-arguments
-  variable-settles row p =
+  variable-settles : (row : ℕ) → is-variable (known-item row .shape) ≡ true → k .visible ≤ row → Settles row no-arguments (found-with no-arguments (some (known-item row)))
+  unfolding found-with of-shape node-of node-shape flat-term flat-terms how-many no-arguments is-sort
+  variable-settles row p b =
       let r = row-at w₀ (k .base + row * 16) in
       let s = sort-of text (tape-in k w₀) (getD (r .sorts) 8 0) in
       let i = known-item row in
@@ -201,6 +233,7 @@ module _ (text : List ℕ) (k : Known) (w₀ : List ℕ) where
         found = rw e;
         sort = refl;
         flat = rw e;
+        standing = record { no-sort = rw e; alone = λ h. refl; behind = λ h. b };
       }
 
 -- ---- what the entries spell
@@ -244,14 +277,23 @@ with-head f x xs = let b = begins x in rw (b .same)
 -- ---- where the nodes are written, and what stays
 
 module _ (text : List ℕ) (k : Known) (w₀ : List ℕ) (q₀ e₀ : ℕ) where
-  -- nodes are written from q₀ up to e₀, apart from the tape and the known rows; the visible ones stand in front of the hidden ones
+  -- nodes are written from q₀ up to e₀, apart from the tape and the known rows; the visible ones stand in front of the hidden ones, and
+  -- are no variables
   pub record Layout : Type 0 where
     pub tape : k .tape ≤ q₀
     pub rows : Apart q₀ e₀ (k .base) (k .base + k .count * 16)
     pub inside : e₀ ≤ length w₀
     pub standing : (row : ℕ) → row < k .count → visibly (known-item text k w₀ row .standing) ≡ ltb row (k .visible)
+    pub variables : (row : ℕ) → row < k .visible → is-variable (known-item text k w₀ row .shape) ≡ false
 
   module _ (l : Layout) where
+    variable-behind : (row : ℕ) → is-variable (known-item text k w₀ row .shape) ≡ true → k .visible ≤ row
+    variable-behind row p = go (ltb row (k .visible)) refl
+      where
+        go : (t : Bool) → ltb row (k .visible) ≡ t → k .visible ≤ row
+        go true e = absurd (false≢true (sym (l .variables row (ltb-true row (k .visible) e)) ∙ p))
+        go false e = ltb-false row (k .visible) e
+
     module _ (w : List ℕ) (kept : Kept q₀ e₀ w₀ w) where
       pub tape-stays : tape-in k w ≡ tape-in k w₀
       tape-stays = tape-same w₀ w (k .tape) (kept .size) (kept-same q₀ e₀ 0 (k .tape) w₀ w (inl (l .tape)) kept)
@@ -261,7 +303,7 @@ module _ (text : List ℕ) (k : Known) (w₀ : List ℕ) (q₀ e₀ : ℕ) where
           ap (λ (t : List ℕ). items-at text t w (k .base) (k .count)) tape-stays
           ∙ items-same w₀ w text (tape-in k w₀) (k .base) (k .count) (kept-same q₀ e₀ (k .base) (k .base + k .count * 16) w₀ w (l .rows) kept)
 
-      row-stays : (row : ℕ) → row < k .count → row-at w (k .base + row * 16) ≡ row-at w₀ (k .base + row * 16)
+      pub row-stays : (row : ℕ) → row < k .count → row-at w (k .base + row * 16) ≡ row-at w₀ (k .base + row * 16)
       row-stays row h =
           row-same w₀ w (k .base + row * 16)
           (λ i a b. kept-same q₀ e₀ (k .base) (k .base + k .count * 16) w₀ w (l .rows) kept i (omega arith) (omega arith))
@@ -324,6 +366,7 @@ module _ (text : List ℕ) (k : Known) (w₀ : List ℕ) where
     pub same : o ≡ out (Sorted sort (i + size) (q + length words)) (sets w q words)
     pub sorted : sort-of text (tape-in k w₀) sort ≡ t .sort
     pub nodes : map (node-here text k w₀) words ≡ flat-term (t .term)
+    pub pointed : Every (Pointed text k w₀) words
     pub room : length words ≤ size
 
   abbrev pub Agrees : Option Typed → ℕ → ℕ → ℕ → List ℕ → Out → Type 0
@@ -338,6 +381,7 @@ module _ (text : List ℕ) (k : Known) (w₀ : List ℕ) where
     pub over : left < length own → o .answer ≡ Ill
     pub sorted : map (sort-of text (tape-in k w₀)) own ≡ ts .sorts
     pub nodes : map (node-here text k w₀) words ≡ flat-terms (ts .terms)
+    pub pointed : Every (Pointed text k w₀) words
     pub counted : how-many (ts .terms) ≡ length own
     pub room : length words ≤ size
 
@@ -374,6 +418,7 @@ module _ (text : List ℕ) (k : Known) (w₀ : List ℕ) where
           over = λ l. a .over (omega arith);
           sorted = ap₂ _∷_ (h .sorted) (a .sorted);
           nodes = map-append (node-here text k w₀) (h .words) (a .words) ∙ ap₂ _++_ (h .nodes) (a .nodes);
+          pointed = every-append (Pointed text k w₀) (h .words) (a .words) (h .pointed) (a .pointed);
           counted = ap suc (a .counted);
           room = omega (arith, length-append (h .words) (a .words), h .room, a .room);
         })
@@ -395,6 +440,7 @@ module _ (text : List ℕ) (k : Known) (w₀ : List ℕ) where
           over = λ l. refl;
           sorted = ap₂ _∷_ (h .sorted) (a .sorted);
           nodes = map-append (node-here text k w₀) (h .words) (a .words) ∙ ap₂ _++_ (h .nodes) (a .nodes);
+          pointed = every-append (Pointed text k w₀) (h .words) (a .words) (h .pointed) (a .pointed);
           counted = ap suc (a .counted);
           room = omega (arith, length-append (h .words) (a .words), h .room, a .room);
         }
@@ -411,10 +457,10 @@ module _ (text : List ℕ) (k : Known) (w₀ : List ℕ) (q₀ e₀ : ℕ) (l : 
 
   -- the node is stored in front of those of the arguments
   settled-well : (row n i size q : ℕ) (vs w : List ℕ) (ts : TypedList) (r : Option Typed) → Settles text k w₀ row ts r → row < k .count → n ≤ 9
-      → how-many (ts .terms) ≡ n → map (node-here text k w₀) vs ≡ flat-terms (ts .terms) → Kept q₀ e₀ w₀ (sets w (q + 1) vs) → suc (length vs) ≤ size
+      → how-many (ts .terms) ≡ n → map (node-here text k w₀) vs ≡ flat-terms (ts .terms) → Every (Pointed text k w₀) vs → Kept q₀ e₀ w₀ (sets w (q + 1) vs) → suc (length vs) ≤ size
       → Agrees text k w₀ r i size q w (settled k q row n (i + size) (q + 1 + length vs) (sets w (q + 1) vs))
   unfolding settled
-  settled-well row n i size q vs w ts r s h few′ e f kept room =
+  settled-well row n i size q vs w ts r s h few′ e f g kept room =
       let v = node-word k row n in
       let place : q + 1 + length vs ≡ q + suc (length vs) = omega arith in
       rw (s .found)
@@ -427,15 +473,16 @@ module _ (text : List ℕ) (k : Known) (w₀ : List ℕ) (q₀ e₀ : ℕ) (l : 
             (rw (add-one q) (sets-head vs w q (suc q) v (omega arith))));
         sorted = s .sort;
         nodes = ap₂ _∷_ (node-settled text k w₀ row n few′ ∙ ap (λ (m : ℕ). node-of (ltb row (k .visible)) m (known-item text k w₀ row)) (sym e)) f ∙ s .flat;
+        pointed = (word-pointed text k w₀ row n few′ h (rw e at (s .standing)), g);
         room = room;
       })
 
   applied-well : (f : Name) (n i size q : ℕ) (vs w : List ℕ) (ts : TypedList) → n ≤ 9
-      → how-many (ts .terms) ≡ n → map (node-here text k w₀) vs ≡ flat-terms (ts .terms) → Kept q₀ e₀ w₀ (sets w (q + 1) vs) → suc (length vs) ≤ size
+      → how-many (ts .terms) ≡ n → map (node-here text k w₀) vs ≡ flat-terms (ts .terms) → Every (Pointed text k w₀) vs → Kept q₀ e₀ w₀ (sets w (q + 1) vs) → suc (length vs) ≤ size
       → Agrees text k w₀ (applied known f ts) i size q w
       (resolved k q (before (function-called f (ts .sorts)) known) n (i + size) (q + 1 + length vs) (sets w (q + 1) vs))
   unfolding resolved applied function-called pick
-  applied-well f n i size q vs w ts few′ e g kept room = go (ltb (before (function-called f (ts .sorts)) known) (k .count)) refl
+  applied-well f n i size q vs w ts few′ e g p kept room = go (ltb (before (function-called f (ts .sorts)) known) (k .count)) refl
     where
       go : (t : Bool) → ltb (before (function-called f (ts .sorts)) known) (k .count) ≡ t
           → Agrees text k w₀ (found-with ts (first (function-called f (ts .sorts)) known)) i size q w
@@ -445,7 +492,7 @@ module _ (text : List ℕ) (k : Known) (w₀ : List ℕ) (q₀ e₀ : ℕ) (l : 
           let h = ltb-true row (k .count) d in
           let found = found-row (function-called f (ts .sorts)) text (tape-in k w₀) w₀ (k .base) (k .count) h in
           let s = function-settles text k w₀ row ts (ts .sorts) (l .standing row h) (and-second (is-called f (known-item text k w₀ row)) (takes (ts .sorts) (known-item text k w₀ row .shape)) (found .passes)) in
-          rw (found .first-is) (settled-well row n i size q vs w ts _ s h few′ e g kept room)
+          rw (found .first-is) (settled-well row n i size q vs w ts _ s h few′ e g p kept room)
       go false d =
           rw (found-none (function-called f (ts .sorts)) text (tape-in k w₀) w₀ (k .base) (k .count) (ltb-false _ (k .count) d), nothing-found ts) refl
 
@@ -465,7 +512,7 @@ module _ (text : List ℕ) (k : Known) (w₀ : List ℕ) (q₀ e₀ : ℕ) (l : 
       here = omega arith
 
       constant : Agrees text k w₀ (applied known f no-arguments) i 1 q w (resolved k q (before (function-called f []) known) 0 (i + 1) (q + 1) w)
-      constant = rw here (applied-well f 0 i 1 q [] w no-arguments (omega arith) refl refl kept (omega arith))
+      constant = rw here (applied-well f 0 i 1 q [] w no-arguments (omega arith) refl refl tt kept (omega arith))
 
       go : (t : Bool) → ltb row (k .count) ≡ t
           → Agrees text k w₀ (or-else (found-with no-arguments (first (variable-called f) known)) (applied known f no-arguments)) i 1 q w
@@ -473,9 +520,10 @@ module _ (text : List ℕ) (k : Known) (w₀ : List ℕ) (q₀ e₀ : ℕ) (l : 
       go true d =
           let h = ltb-true row (k .count) d in
           let found = found-row (variable-called f) text (tape-in k w₀) w₀ (k .base) (k .count) h in
-          let s = variable-settles text k w₀ row (and-second (is-called f (known-item text k w₀ row)) (is-variable (known-item text k w₀ row .shape)) (found .passes)) in
+          let p = and-second (is-called f (known-item text k w₀ row)) (is-variable (known-item text k w₀ row .shape)) (found .passes) in
+          let s = variable-settles text k w₀ row p (variable-behind text k w₀ q₀ e₀ l row p) in
           let a : Agrees text k w₀ (some (s .result)) i 1 q w (settled k q row 0 (i + 1) (q + 1 + 0) w) =
-          rw (s .found) at (settled-well row 0 i 1 q [] w no-arguments (found-with no-arguments (some (known-item text k w₀ row))) s h (omega arith) refl refl kept (omega arith)) in
+          rw (s .found) at (settled-well row 0 i 1 q [] w no-arguments (found-with no-arguments (some (known-item text k w₀ row))) s h (omega arith) refl refl tt kept (omega arith)) in
           rw (found .first-is, s .found, here) a
       go false d = rw (found-none (variable-called f) text (tape-in k w₀) w₀ (k .base) (k .count) (ltb-false row (k .count) d), nothing-found no-arguments) constant
 
@@ -511,7 +559,7 @@ module _ (text : List ℕ) (k : Known) (w₀ : List ℕ) (q₀ e₀ : ℕ) (l : 
           let z : 0 + length own ≡ length own = omega arith in
           let y : i + 1 + m + 1 ≡ i + (m + 2) = omega arith in
           let row = row-found f i (length own) (sets no-sorts 0 own) u (ts .sorts) name stays (ap (map (sort-of text (tape-in k w₀))) (collected own few′) ∙ all .sorted) in
-          rw (all .same few′, z, y, row) (applied-well f (length own) i (m + 2) q vs w ts few′ (all .counted) (all .nodes) stays (omega (arith, all .room)))
+          rw (all .same few′, z, y, row) (applied-well f (length own) i (m + 2) q vs w ts few′ (all .counted) (all .nodes) (all .pointed) stays (omega (arith, all .room)))
       go false e =
           let many = leb-false (length (all .own)) 9 e in
           let s : length (ts .sorts) ≡ length (all .own) = ap length (sym (all .sorted)) ∙ length-map (all .own) (sort-of text (tape-in k w₀)) in
@@ -632,6 +680,7 @@ module _ (text : List ℕ) (k : Known) (w₀ : List ℕ) (q₀ e₀ : ℕ) (l : 
           over = λ h. absurd (omega arith);
           sorted = refl;
           nodes = refl;
+          pointed = tt;
           counted = refl;
           room = omega arith;
         }

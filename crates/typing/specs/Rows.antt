@@ -1,18 +1,20 @@
 -- What the equations of a module typed in memory mean: the first that the meaning refuses is told by its tag; and else each has its row,
 -- and its nodes stand where the row says.
 use mathlib.Core.Path.{_≡_, refl, sym, ap, _∙_, subst}
-use mathlib.Core.Bool.{false}
+use mathlib.Core.Bool.{Bool, true, false}
 use mathlib.Core.Option.{Option, none, some}
 use mathlib.Core.List.{List, [], _∷_, map}
-use Prim.Native.Nat.{ℕ, _+_, _-_, _*_, _<_, _≤_}
+use Prim.Native.Nat.{ℕ, suc, _+_, _-_, _*_, _<_, _≤_}
 use native.Mathlib.Omega.{arith}
-use borrow.Author.Tests.{lt-ltb}
-use lib.ListN.{length, getD}
+use lib.Dec.{ltb}
+use borrow.Author.Tests.{lt-ltb, ltb-true, ltb-false}
+use lib.ListN.{length, getD, length-map}
 use lib.Seq.{sets}
 use Rattle.meaning.specs.Lists.{pick, each}
 use Rattle.meaning.specs.Syntax.{Equation, conditions-of}
 use Rattle.meaning.specs.Origins.{ResolvedSides, ResolvedEquation}
-use Rattle.meaning.specs.Checks.{Outcome, fine, stop}
+use Rattle.meaning.specs.OrderLaws.{Every}
+use Rattle.meaning.specs.Checks.{Outcome, fine, stop, equation-nodes}
 use Rattle.meaning.specs.Typing.{typed-sides, typed-conditions, made-equation}
 use Rattle.meaning.specs.Names.{Name}
 use Rattle.names.specs.Word.{name-of}
@@ -21,19 +23,29 @@ use Rattle.tables.specs.Entries.{word-at, name-at}
 use Rattle.forms.specs.Memory.{Kept}
 use Rattle.forms.specs.FormLaws.{kept-sets}
 use Rattle.forms.specs.Forms.{flat-equation}
+use Rattle.forms.specs.FlatMoves.{equation-count}
 use Rattle.typing.specs.declared.Known.{Known}
 use Rattle.typing.specs.declared.Module.{Module}
 use Rattle.typing.specs.declared.Passed.{Passed}
 use Rattle.typing.specs.declared.Passed.the-variants.{Counted, Wrong}
 use Rattle.typing.specs.Typing.{tape-in, items-in}
 use Rattle.typing.specs.Equations.{Pass, begins-at, equation-at, equation-words, span, row-of, stored, after-equation, turn-at}
-use Rattle.typing.specs.Meant.{Spells, Layout, node-here, tape-stays, sets-kept}
+use Rattle.typing.specs.Meant.{Spells, Layout, node-here, Pointed, tape-stays, sets-kept}
 use Rattle.typing.specs.Chosen.{Stand, stand-stays, stand-sets}
 use Rattle.typing.specs.Equated.{WellEquation, AgreeEquation, equation-entries, equation-typed}
 
+-- each of the words that stand from q on
+stand-every : (P : ℕ → Type 0) (vs : List ℕ) (q : ℕ) (w : List ℕ) → Stand q vs w → Every P vs → (j : ℕ) → q ≤ j → j < q + length vs → P (getD w j 0)
+stand-every P [] q w s h j a b = absurd (omega arith)
+stand-every P (v ∷ vs) q w s h j a b = go (ltb q j) refl (λ c. stand-every P vs (suc q) w (s .1) (h .1) j c (omega arith))
+  where
+    go : (t : Bool) → ltb q j ≡ t → (q < j → P (getD w j 0)) → P (getD w j 0)
+    go true e more = more (ltb-true q j e)
+    go false e more = let z : j ≡ q = omega (arith, a, ltb-false q j e) in rw (z, s .0) (h .0)
+
 module _ (text : List ℕ) (k : Known) (w₀ : List ℕ) (m : Module) where
-  -- the row at b is that of the equation r, and its words stand among the nodes
-  pub record RowStands (r : ResolvedEquation) (b : ℕ) (w : List ℕ) : Type 0 where
+  -- the row at b is that of the equation r, and its words stand among the nodes, which go up to `end`
+  pub record RowStands (r : ResolvedEquation) (b end : ℕ) (w : List ℕ) : Type 0 where
     pub tag : ℕ
     pub start : ℕ
     pub words : List ℕ
@@ -41,16 +53,18 @@ module _ (text : List ℕ) (k : Known) (w₀ : List ℕ) (m : Module) where
     pub tagged : name-of text tag ≡ r .tag
     pub stand : Stand (m .nodes + start) words w
     pub nodes : map (node-here text k w₀) words ≡ flat-equation r
+    pub pointed : Every (Pointed text k w₀) words
+    pub within : m .nodes + start + length words ≤ end
 
   -- a turn of the loop leaves the equation's row and nodes, and all below its row as it was
   pub record WellTurn (r : ResolvedEquation) (position i size q q₀ e₀ : ℕ) (w : List ℕ) (o : Pass) : Type 0 where
     pub free : ℕ
     pub answer : o .answer ≡ Counted (length (r .conditions)) (i + size) free
     pub kept : Kept q₀ e₀ w₀ (o .memory)
-    pub after : q ≤ free
+    pub counted : free ≡ q + equation-nodes r
     pub room : free ≤ q + (size + size)
-    pub row : RowStands r (m .rows + position * 8) (o .memory)
-    pub within : m .nodes + row .start + length (row .words) ≤ free
+    pub row : RowStands r (m .rows + position * 8) free (o .memory)
+    pub pointed : (j : ℕ) → q ≤ j → j < free → Pointed text k w₀ (getD (o .memory) j 0)
     pub tape : tape-in k (o .memory) ≡ tape-in k w₀
     pub below : (j : ℕ) → j < m .rows + position * 8 → getD (o .memory) j 0 ≡ getD w j 0
     pub between : (j : ℕ) → m .rows + position * 8 + 6 ≤ j → j < q → getD (o .memory) j 0 ≡ getD w j 0
@@ -59,7 +73,11 @@ module _ (text : List ℕ) (k : Known) (w₀ : List ℕ) (m : Module) where
   AgreeTurn (stop number name) position i size q q₀ e₀ w o = o .answer ≡ Wrong
   AgreeTurn (fine r) position i size q q₀ e₀ w o = WellTurn r position i size q q₀ e₀ w o
 
-  span-is : (a b : ℕ) → a - b < 4294967295 → span a b ≡ a - b
+  -- an equation has as many words as nodes
+  sized : (vs : List ℕ) (r : ResolvedEquation) → map (node-here text k w₀) vs ≡ flat-equation r → length vs ≡ equation-nodes r
+  sized vs r e = sym (length-map vs (node-here text k w₀)) ∙ ap length e ∙ equation-count r
+
+  pub span-is : (a b : ℕ) → a - b < 4294967295 → span a b ≡ a - b
   unfolding span pick
   span-is a b h = rw (lt-ltb (a - b) 4294967295 h)
 
@@ -83,12 +101,13 @@ module _ (text : List ℕ) (k : Known) (w₀ : List ℕ) (m : Module) where
         let wanted : vs ≡ (r .home ∷ r .position ∷ tag ∷ length (r .conditions) ∷ (q - m .nodes) ∷ length (h .words) ∷ []) = λ z. sym e z ∷ sym f z ∷ tag ∷ length (r .conditions) ∷ s₁ z ∷ s₂ z ∷ [] in
         let fr = kept-sets vs u b in
         let there : m .nodes + (q - m .nodes) ≡ q = omega arith in
+        let stands = stand-stays (h .words) q u (sets u b vs) (λ j a d. fr .above j (omega arith)) (h .stand) in
         rw (h .answer)
         (record {
           free = q + length (h .words);
           answer = refl;
           kept = sets-kept text k w₀ q₀ e₀ l u (h .kept) b vs (omega arith) (omega (arith, h .room));
-          after = omega arith;
+          counted = rw (sized (h .words) r (h .nodes));
           room = omega (arith, h .room);
           row = record {
             tag = tag;
@@ -96,10 +115,12 @@ module _ (text : List ℕ) (k : Known) (w₀ : List ℕ) (m : Module) where
             words = h .words;
             row = subst (λ (xs : List ℕ). Stand b xs (sets u b vs)) wanted (stand-sets vs b u (omega (arith, h .kept .size, l .inside)));
             tagged = ap (λ (t : List ℕ). name-at text t i) (tape-stays text k w₀ q₀ e₀ l u (h .kept)) ∙ g;
-            stand = rw there (stand-stays (h .words) q u (sets u b vs) (λ j a d. fr .above j (omega arith)) (h .stand));
+            stand = rw there stands;
             nodes = h .nodes;
+            pointed = h .pointed;
+            within = omega arith;
           };
-          within = omega arith;
+          pointed = λ j a d. stand-every (Pointed text k w₀) (h .words) q (sets u b vs) stands (h .pointed) j a d;
           tape = tape-stays text k w₀ q₀ e₀ l (sets u b vs) (sets-kept text k w₀ q₀ e₀ l u (h .kept) b vs (omega arith) (omega (arith, h .room)));
           below = λ j a. fr .below j a ∙ h .below j (omega arith);
           between = λ j a d. fr .above j (omega arith) ∙ h .below j d;

@@ -9,9 +9,11 @@ use native.Mathlib.Omega.{arith}
 use lib.ListN.{length, length-append}
 use lib.Seq.{sets}
 use Rattle.meaning.specs.Lists.{pick}
+use Rattle.meaning.specs.OrderLaws.{Every}
 use Rattle.meaning.specs.Syntax.{Sides}
 use Rattle.meaning.specs.Origins.{same-sort, ResolvedSides}
 use Rattle.meaning.specs.Typing.{Typed, equated, typed, typed-sides}
+use Rattle.limits.specs.EveryLaws.{every-append}
 use Rattle.tape.specs.Tape.{Entry}
 use Rattle.tape.specs.Tape as on-tape
 use Rattle.forms.specs.Memory.{Kept}
@@ -21,7 +23,7 @@ use Rattle.typing.specs.declared.Answer.{Answer}
 use Rattle.typing.specs.declared.Answer.the-variants.{Sorted, Ill}
 use Rattle.typing.specs.Typing.{Out, out, items-in, term-at}
 use Rattle.typing.specs.Equations.{right-checked, right-at, left-checked, sides-at}
-use Rattle.typing.specs.Meant.{map-append, sets-append, Spells, spells-front, spells-back, Layout, node-here, tape-stays, sets-kept, Agrees, term-typed}
+use Rattle.typing.specs.Meant.{map-append, sets-append, Spells, spells-front, spells-back, Layout, node-here, Pointed, tape-stays, sets-kept, Agrees, term-typed}
 
 module _ (text : List ℕ) (k : Known) (w₀ : List ℕ) where
   -- the sides of `size` entries from i on are s: the words are their nodes, written from q on
@@ -30,6 +32,7 @@ module _ (text : List ℕ) (k : Known) (w₀ : List ℕ) where
     pub words : List ℕ
     pub same : o ≡ out (Sorted sort (i + size) (q + length words)) (sets w q words)
     pub nodes : map (node-here text k w₀) words ≡ flat-sides s
+    pub pointed : Every (Pointed text k w₀) words
     pub room : length words ≤ size
 
   abbrev pub AgreeSides : Option ResolvedSides → ℕ → ℕ → ℕ → List ℕ → Out → Type 0
@@ -52,11 +55,11 @@ module _ (text : List ℕ) (k : Known) (w₀ : List ℕ) where
 
     -- t tells whether they have one sort
     one-sort : (t : Bool) (a b : Typed) (i m n q s : ℕ) (vs us w : List ℕ) → map (node-here text k w₀) vs ≡ flat-term (a .term)
-        → map (node-here text k w₀) us ≡ flat-term (b .term) → length vs ≤ m → length us ≤ n
+        → map (node-here text k w₀) us ≡ flat-term (b .term) → Every (Pointed text k w₀) vs → Every (Pointed text k w₀) us → length vs ≤ m → length us ≤ n
         → AgreeSides (pick t (some (record { left = a .term; right = b .term })) none) i (m + n) q w
         (pick t (out (Sorted s (i + m + n) (q + length vs + length us)) (sets (sets w q vs) (q + length vs) us)) (out Ill (sets (sets w q vs) (q + length vs) us)))
     unfolding pick flat-sides
-    one-sort true a b i m n q s vs us w e f x y =
+    one-sort true a b i m n q s vs us w e f g h x y =
         let next : i + m + n ≡ i + (m + n) = omega arith in
         let free : q + length vs + length us ≡ q + length (vs ++ us) = omega (arith, length-append vs us) in
         record {
@@ -64,9 +67,10 @@ module _ (text : List ℕ) (k : Known) (w₀ : List ℕ) where
           words = vs ++ us;
           same = λ z. out (Sorted s (next z) (free z)) (sets-append vs us w q z);
           nodes = map-append (node-here text k w₀) vs us ∙ ap₂ _++_ e f;
+          pointed = every-append (Pointed text k w₀) vs us g h;
           room = omega (arith, length-append vs us);
         }
-    one-sort false a b i m n q s vs us w e f x y = refl
+    one-sort false a b i m n q s vs us w e f g h x y = refl
 
     both : (a r : Option Typed) (i m n q : ℕ) (w : List ℕ) → Kept q₀ e₀ w₀ w → q₀ ≤ q → q + (m + n) ≤ e₀
         → Agrees text k w₀ a i m q w (term-at text k (k .tape) i q w)
@@ -84,7 +88,7 @@ module _ (text : List ℕ) (k : Known) (w₀ : List ℕ) where
         let stays = sets-kept text k w₀ q₀ e₀ l (sets w q (h .words)) first-kept (q + length (h .words)) (g .words) (omega arith) (omega (arith, h .room, g .room)) in
         let tape = tape-stays text k w₀ q₀ e₀ l u stays in
         rw (h .same, g .same, tape, h .sorted, g .sorted)
-        (one-sort (same-sort (a .sort) (b .sort)) a b i m n q (h .sort) (h .words) (g .words) w (h .nodes) (g .nodes) (h .room) (g .room))
+        (one-sort (same-sort (a .sort) (b .sort)) a b i m n q (h .sort) (h .words) (g .words) w (h .nodes) (g .nodes) (h .pointed) (g .pointed) (h .room) (g .room))
 
     -- the sides of an equation's conclusion or condition: what comes next is the entry that says which they are
     pub sides-typed : (e : Sides) (i q : ℕ) (w : List ℕ) → i ≤ k .tape → Spells text k w₀ i (on-tape.flat-term (e .left) ++ on-tape.flat-term (e .right)) → Kept q₀ e₀ w₀ w

@@ -168,7 +168,7 @@ fn write_equation(work: &mut [u32], b: usize, row: EquationRow)
 }
 
 // a - b as a word.
-fn span(a: usize, b: usize) -> u32
+pub fn span(a: usize, b: usize) -> u32
     ensures { λ r. ⌜ r ≡ span a b ⌝ }
 {
     if a < b {

@@ -1,0 +1,4 @@
+pub mod Rooms
+pub mod Notes
+pub mod Forms
+pub mod Stages

@@ -1,0 +1,14 @@
+use Rattle.completing.proofs.Forms.{forms}
+use borrow.Author.Needs.{needs}
+use Rattle.completing.proofs.said.said_form.Statement.{statement}
+use Rattle.completing.proofs.said.said_form.Tie as tie
+
+pub said-form-spec : {M : Type 1} → statement M
+said-form-spec =
+    tie.close
+    (tie.spec
+    (λ c. search needs)  -- mul-t6
+    (λ c. search needs)  -- add-t7
+    (λ c. search needs)  -- add-t8
+    (λ c. search forms)  -- returns
+    )

@@ -1,0 +1,232 @@
+-- What a module itself says comes into the form of what it imports: the room for it, what changes, and what the form stands for then.
+use mathlib.Core.Path.{_≡_, refl, sym, ap, _∙_, subst}
+use mathlib.Core.Logic.{inl, inr}
+use mathlib.Core.Bool.{true}
+use mathlib.Core.List.{List}
+use Prim.Native.Nat.{ℕ, _+_, _*_, _≤_, _<_}
+use native.Mathlib.Omega.{arith}
+use lib.ListN.{length, getD, take}
+use Rattle.meaning.specs.Origins.{Item}
+use Rattle.meaning.specs.Normal.{Hidden, Normal, unite-hidden, unite}
+use Rattle.tables.specs.Rows.{item-of, row-at}
+use Rattle.forms.specs.declared.Form.{Form}
+use Rattle.forms.specs.declared.Block.{Block}
+use Rattle.forms.specs.Memory.{part, Kept}
+use Rattle.forms.specs.Forms.{items-at, visible-at, node-of, Stands}
+use Rattle.forms.specs.FormLaws.{kept-wider, kept-then}
+use Rattle.forms.specs.Blocks.{BlockLaid, Outside}
+use Rattle.forms.specs.Frames.{stands-kept}
+use Rattle.translation.specs.declared.Mode.{Mode}
+use Rattle.translation.specs.Translation.{sort-name, function-name, moved-in, moved, moved-hidden}
+use Rattle.translation.specs.MovedLaws.{moved-same}
+use Rattle.joining.specs.Joined.{with-counts}
+use Rattle.joining.specs.Found.{Noted}
+use Rattle.uniting.specs.Rooms.{HiddenRoomWithin, Inside}
+use Rattle.uniting.specs.United.{with-items, hidden-onto, moved-onto, within, sorts, functions, HiddenUnitedWithin}
+use Rattle.uniting.specs.Noting.{item-moved, node-moved, shape-moved}
+use Rattle.uniting.specs.Corollaries.{united-as-is}
+
+-- the mode that leaves all as it is
+abbrev pub as-is : Mode
+as-is = record { kind = 0; pairs = 0; parameter = 0; visible = 0; count = 0 }
+
+-- each of n rows is noted where it stands
+pub record SameNoted (w : List ℕ) (o n : ℕ) (w′ : List ℕ) : Type 0 where
+  pub words : (i : ℕ) → i < n → getD w′ (o + i) 0 ≡ i
+  pub kept : Kept o (o + n) w w′
+
+-- f lies in the block, which has room for 1,024 hidden rows and 512 equations; g has its names and its visible rows, its own hidden rows behind them, and its
+-- equations and nodes behind the block
+pub record JoinRoom (size t : ℕ) (g f : Form) (b : Block) : Type 0 where
+  pub names : ℕ
+  pub rows : ℕ
+  pub sources : ℕ
+  pub laid : BlockLaid size t b names rows 1024 sources
+  pub inside : Inside b names rows 1024 f
+  pub few-rows : rows ≤ 65536
+  pub enough-notes : rows ≤ sources
+  pub enough-equations : 512 ≤ b .«equation_room»
+  pub same-names : g .parameters ≡ f .parameters
+  pub same-name-count : g .«parameter_count» ≡ f .«parameter_count»
+  pub same-rows : g .visible ≡ f .visible
+  pub same-row-count : g .«visible_count» ≡ f .«visible_count»
+  pub own-rows : g .hidden ≡ f .visible + f .«visible_count» * 16
+  pub own-row-count : f .«visible_count» + g .«hidden_count» ≤ rows
+  pub own-equations : b .high ≤ g .equations
+  pub own-nodes : b .high ≤ g .nodes
+  pub own-node-room : g .nodes + 65536 ≤ size
+
+pub record HiddenJoined (text : List ℕ) (t : ℕ) (w : List ℕ) (g f : Form) (b : Block) (r : Form) (w′ : List ℕ) : Type 0 where
+  pub form :
+      r ≡ with-counts (with-items f (f .«parameter_count») (f .«visible_count») (r .«hidden_count»)) (r .«equation_count») (r .«node_count»)
+  pub few : r .«hidden_count» ≤ 1024
+  pub equations : r .«equation_count» ≤ b .«equation_room»
+  pub nodes : r .«node_count» ≤ b .«node_room»
+  pub kept : Kept (b .low) (b .high) w w′
+  pub seen : (to : Normal) → Stands text (part w 0 t) w f to → visible-at text (part w′ 0 t) w′ r ≡ to .visible
+  pub items : (from to : Normal) → Stands text (part w 0 t) w g from → Stands text (part w 0 t) w f to
+      → items-at text (part w′ 0 t) w′ (r .hidden) (r .«hidden_count») ≡ take 1024 (unite-hidden (to .hidden) (from .hidden) .items)
+  pub stands : r .«hidden_count» < 1024 → (from to : Normal) → Stands text (part w 0 t) w g from → Stands text (part w 0 t) w f to
+      → Stands text (part w′ 0 t) w′ r (record { visible = to .visible; hidden = within (b .«equation_room») (unite-hidden (to .hidden) (from .hidden)) })
+
+-- ---- notes
+
+-- a row that is noted where it stands is noted right
+module _ (text tape w : List ℕ) where
+  item-stays : (x : Item) → item-moved (sort-name text tape w as-is) (function-name text tape w as-is) true x ≡ x
+  unfolding item-moved moved-in moved moved-hidden
+  item-stays x = moved-same text tape w as-is refl true x
+
+  noted-same : (base n o : ℕ) → n ≤ 65536 → ((i : ℕ) → i < n → getD w (o + i) 0 ≡ i)
+      → Noted (sort-name text tape w as-is) (function-name text tape w as-is) text tape w true o base n base n
+  noted-same base n o few word =
+      let σ = sort-name text tape w as-is in
+      let φ = function-name text tape w as-is in
+      let there : (i : ℕ) → i < n → item-of text tape (row-at w (base + getD w (o + i) 0 * 16)) ≡ item-of text tape (row-at w (base + i * 16)) =
+      λ i h. ap (λ (j : ℕ). item-of text tape (row-at w (base + j * 16))) (word i h) in
+      record {
+        small = few;
+        inside = λ i h z. subst (λ (j : ℕ). j < n) (sym (word i h)) h;
+        node = λ i h z k.
+            ap (node-of true k) (there i h ∙ sym (item-stays (item-of text tape (row-at w (base + i * 16)))))
+            ∙ node-moved σ φ true k (item-of text tape (row-at w (base + i * 16)));
+        shape = λ i h z.
+            ap (λ (x : Item). x .shape) (there i h ∙ sym (item-stays (item-of text tape (row-at w (base + i * 16)))))
+            ∙ shape-moved σ φ true (item-of text tape (row-at w (base + i * 16)));
+      }
+
+-- ---- hidden parts
+
+hidden-as-is : (text tape w : List ℕ) (to from : Normal)
+    → hidden-onto (sort-name text tape w as-is) (function-name text tape w as-is) (to .hidden) (from .hidden) ≡ unite-hidden (to .hidden) (from .hidden)
+unfolding moved-onto unite
+hidden-as-is text tape w to from = ap (λ (n : Normal). n .hidden) (united-as-is text tape w as-is to from refl)
+
+module _ (text : List ℕ) (t : ℕ) (w : List ℕ) (g f : Form) (b : Block) (room : JoinRoom (length w) t g f b) where
+  pub note-room : b .«visible_notes» + g .«visible_count» ≤ length w
+  note-room =
+      let laid = room .laid in
+      let inside = room .inside in
+      omega (arith, laid, inside .visible, room .same-row-count, room .enough-notes)
+
+  module _ (w₁ : List ℕ) (x : SameNoted w (b .«visible_notes») (g .«visible_count») w₁) where
+    pub hidden-room : g .«node_count» ≤ 65536 → HiddenRoomWithin (length w₁) t as-is g f b (b .«visible_notes») 1024
+    hidden-room few =
+        let laid = room .laid in
+        let inside = room .inside in
+        let lies = inside .lies in
+        let size = x .kept .size in
+        record {
+          tape = omega (arith, laid, lies);
+          parameters = omega (arith, laid, lies, inside .parameters);
+          visible = omega (arith, laid, lies, inside .visible);
+          hidden = omega (arith, laid, lies);
+          equations = omega (arith, laid, lies);
+          nodes = omega (arith, laid, lies);
+          hidden-notes = omega (arith, laid, lies, room .own-row-count, room .enough-notes, size);
+          enough = laid .enough;
+          have = inside .hidden;
+          few = omega arith;
+          few-equations = inside .equations;
+          few-nodes = inside .nodes;
+          source-nodes = omega (arith, room .own-node-room, size);
+          outside = record {
+            parameters = inl (omega (arith, laid, lies, inside .parameters, room .same-names, room .same-name-count));
+            visible = inl (omega (arith, laid, lies, inside .visible, room .same-rows, room .same-row-count));
+            hidden = inl (omega (arith, laid, lies, room .own-rows, room .own-row-count));
+            equations = inr (omega (arith, laid, lies, room .own-row-count, room .enough-notes, room .own-equations));
+            nodes = inr (omega (arith, laid, lies, room .own-row-count, room .enough-notes, room .own-nodes));
+          };
+          mode = inl (omega arith);
+          notes-rows = inr (omega (arith, laid, lies));
+          notes-notes = inl (omega (arith, laid, inside .visible, room .same-row-count, room .enough-notes));
+        }
+
+    notes-kept : Kept (b .low) (b .high) w w₁
+    notes-kept =
+        let laid = room .laid in
+        kept-wider _ _ (b .low) (b .high) w w₁ (omega (arith, laid))
+        (omega (arith, laid, room .inside .visible, room .same-row-count, room .enough-notes)) (x .kept)
+
+    notes-tape : t ≤ b .«visible_notes»
+    notes-tape = omega (arith, room .laid)
+
+    -- neither form has the notes among its words
+    notes-outside-f : Outside (b .«visible_notes») (b .«visible_notes» + g .«visible_count») f
+    notes-outside-f =
+        let laid = room .laid in
+        let inside = room .inside in
+        let lies = inside .lies in
+        record {
+          parameters = inl (omega (arith, laid, lies, inside .parameters));
+          visible = inl (omega (arith, laid, lies, inside .visible));
+          hidden = inl (omega (arith, laid, lies, inside .hidden));
+          equations = inl (omega (arith, laid, lies, inside .equations));
+          nodes = inl (omega (arith, laid, lies, inside .nodes));
+        }
+
+    notes-outside-g : Outside (b .«visible_notes») (b .«visible_notes» + g .«visible_count») g
+    notes-outside-g =
+        let laid = room .laid in
+        let inside = room .inside in
+        let lies = inside .lies in
+        let last = b .«visible_notes» + g .«visible_count» in
+        let ends : last ≤ b .high = omega (arith, laid, inside .visible, room .same-row-count, room .enough-notes) in
+        record {
+          parameters = inl (omega (arith, laid, lies, inside .parameters, room .same-names, room .same-name-count));
+          visible = inl (omega (arith, laid, lies, inside .visible, room .same-rows, room .same-row-count));
+          hidden = inl (omega (arith, laid, lies, room .own-rows, room .own-row-count));
+          equations = inr (omega (arith, ends, room .own-equations));
+          nodes = inr (omega (arith, ends, room .own-nodes));
+        }
+
+    f-noted : (n : Normal) → Stands text (part w 0 t) w f n → Stands text (part w₁ 0 t) w₁ f n
+    f-noted n s = stands-kept text t w w₁ _ _ f n notes-tape (x .kept) notes-outside-f s
+
+    g-noted : (n : Normal) → Stands text (part w 0 t) w g n → Stands text (part w₁ 0 t) w₁ g n
+    g-noted n s = stands-kept text t w w₁ _ _ g n notes-tape (x .kept) notes-outside-g s
+
+    module _ (r : Form) (w′ : List ℕ) (z : HiddenUnitedWithin text t w₁ as-is g f b (b .«visible_notes») 1024 r w′) where
+      united-kept : Kept (b .low) (b .high) w₁ w′
+      united-kept =
+          let laid = room .laid in
+          let lies = room .inside .lies in
+          let rows : f .nodes + b .«node_room» ≤ b .high = omega (arith, laid, lies) in
+          let low : b .low ≤ f .hidden = omega (arith, laid, lies) in
+          let notes : b .low ≤ b .«hidden_notes» = omega (arith, laid) in
+          let ends : b .«hidden_notes» + g .«hidden_count» ≤ b .high = omega (arith, laid, room .own-row-count, room .enough-notes) in
+          record {
+            size = z .kept .size;
+            below = λ i u. z .kept .kept i (inl (omega arith)) (inl (omega arith));
+            above = λ i u. z .kept .kept i (inr (omega arith)) (inr (omega arith));
+          }
+
+      abbrev tape : List ℕ
+      tape = part w₁ 0 t
+
+      abbrev NotedRows : ℕ → ℕ → Type 0
+      NotedRows source rows =
+          Noted (sorts text t w₁ as-is) (functions text t w₁ as-is) text tape w₁ true (b .«visible_notes») source (g .«visible_count») (f .visible) rows
+
+      noted : NotedRows (g .visible) (f .«visible_count»)
+      noted =
+          let count = room .same-row-count in
+          subst (λ (source : ℕ). NotedRows source (f .«visible_count»)) (sym (room .same-rows))
+          (subst (NotedRows (f .visible)) count
+          (noted-same text tape w₁ (f .visible) (g .«visible_count») (b .«visible_notes»)
+          (omega (arith, room .inside .visible, room .few-rows, count)) (x .words)))
+
+      pub hidden-joined : HiddenJoined text t w g f b r w′
+      hidden-joined = record {
+        form = z .form;
+        few = z .few;
+        equations = z .equations;
+        nodes = z .nodes;
+        kept = kept-then (b .low) (b .high) w w₁ w′ notes-kept united-kept;
+        seen = λ to u. z .seen ∙ f-noted to u .visible;
+        items = λ from to s u.
+            z .items from to (g-noted from s) (f-noted to u) ∙ ap (λ (h : Hidden). take 1024 (h .items)) (hidden-as-is text tape w₁ to from);
+        stands = λ l from to s u.
+            subst (λ (h : Hidden). Stands text (part w′ 0 t) w′ r (record { visible = to .visible; hidden = within (b .«equation_room») h }))
+            (hidden-as-is text tape w₁ to from) (z .stands (inl l) from to (g-noted from s) (f-noted to u) noted);
+      }

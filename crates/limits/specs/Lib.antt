@@ -1,0 +1,3 @@
+pub mod EveryLaws
+pub mod Nodes
+pub mod Limits

@@ -1,0 +1,4 @@
+pub mod Named
+pub mod Joins
+pub mod Whole
+pub mod Told

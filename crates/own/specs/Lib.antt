@@ -1,0 +1,5 @@
+pub mod Parameters
+pub mod ParameterLaws
+pub mod Joined
+pub mod Checking
+pub mod JoinLaws

@@ -1,0 +1,92 @@
+// A module's equations typed into a form that has its visible items and its own hidden ones (17).
+use forms::Form;
+use forms::Made;
+use tables::entries::next_with;
+use typing::Equated;
+use typing::Known;
+use typing::Module;
+use typing::equations::span;
+use typing::equations::type_equations;
+ghost use mathlib.Core.Path.{_≡_};
+ghost use Prim.Native.Nat.{_+_, _≤_};
+ghost use lib.ListN.{length};
+ghost use Rattle.typing.specs.Equations.{told, equations-from};
+ghost use Rattle.typing.specs.Typed.{known-in, module-in, own-made};
+ghost use Rattle.own_equations.specs.Own.{owned, own-at};
+
+// The equations from i on, their rows and nodes where the form has them.
+fn type_placed(
+    text: &[u8],
+    work: &mut [u32],
+    t: usize,
+    f: Form,
+    home: u32,
+    i: usize,
+    end: usize,
+) -> Equated
+    requires { ⌜ (t ≤ length (now work)) × (t ≤ 65536) × (end ≤ t) × (f .«visible_count» + f .«hidden_count» ≤ 65536) ⌝ }
+    ensures { λ r. ⌜ told r (now (work .exit)) ≡ equations-from (now (text .entry)) (known-in t f) (module-in f home end) t 0 i (f .nodes) (now (work .entry)) ⌝ }
+{
+    let visible = f.visible_count;
+    let hidden = f.hidden_count;
+    let base = f.visible;
+    let rows = f.equations as usize;
+    let nodes = f.nodes as usize;
+    let k = Known {
+        tape: t,
+        base,
+        count: visible + hidden,
+        visible,
+        hidden: 0,
+    };
+    let m = Module {
+        home,
+        end,
+        rows,
+        nodes,
+    };
+    type_equations(text, work, k, m, i, nodes)
+}
+
+// What is made of the form.
+fn made_of(f: Form, r: Equated) -> Made
+    ensures { λ q. ⌜ q ≡ own-made f r ⌝ }
+{
+    match r {
+        Equated::Stop(tag) => Made::Refused(17, tag),
+        Equated::All { count, free } => {
+            let nodes = f.nodes as usize;
+            let node_count = span(free, nodes);
+            Made::Done(Form {
+                parameters: f.parameters,
+                parameter_count: f.parameter_count,
+                visible: f.visible,
+                visible_count: f.visible_count,
+                hidden: f.hidden,
+                hidden_count: f.hidden_count,
+                equations: f.equations,
+                equation_count: count,
+                nodes: f.nodes,
+                node_count,
+            })
+        }
+    }
+}
+
+// The equations of module number `home`, whose entries stand from `from` up to `end`: the first tag tells where they begin.
+pub fn type_own(
+    text: &[u8],
+    work: &mut [u32],
+    t: usize,
+    f: Form,
+    home: u32,
+    from: usize,
+    end: usize,
+) -> Made
+    requires { ⌜ (t ≤ length (now work)) × (t ≤ 65536) × (end ≤ t) × (f .«visible_count» + f .«hidden_count» ≤ 65536) ⌝ }
+    ensures { λ r. ⌜ owned r (now (work .exit)) ≡ own-at (now (text .entry)) t f home from end (now (work .entry)) ⌝ }
+{
+    let i = next_with(&work[0..t], 19, from, end);
+    let r = type_placed(text, work, t, f, home, i, end);
+    made_of(f, r)
+}
