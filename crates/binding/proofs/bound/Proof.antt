@@ -1,0 +1,17 @@
+-- `binding::bound` meets its contract.
+-- Assumes nothing.
+use Rattle.binding.proofs.Cases.{whole}
+use borrow.Author.Needs.{needs}
+use Rattle.binding.proofs.bound.Statement.{statement}
+use Rattle.binding.proofs.bound.Tie as tie
+
+pub bound-spec : {M : Type 1} → statement M
+bound-spec =
+    tie.close
+    (tie.spec
+    (λ c κs. search needs)  -- bound-front-requires
+    (λ c κs. search whole)  -- bound-hidden-requires
+    (λ c κs. search needs)  -- checked-requires
+    (λ c. search needs)  -- same-length
+    (λ c. search whole)  -- returns
+    )

@@ -1,0 +1,16 @@
+-- `binding::bound_front` meets its contract.
+-- Assumes nothing.
+use Rattle.binding.proofs.Cases.{front}
+use borrow.Author.Needs.{needs}
+use Rattle.binding.proofs.bound_front.Statement.{statement}
+use Rattle.binding.proofs.bound_front.Tie as tie
+
+pub bound-front-spec : {M : Type 1} → statement M
+bound-front-spec =
+    tie.close
+    (tie.spec
+    (λ c κs. search front)  -- bound-names-requires
+    (λ c κs. search front)  -- bound-visible-requires
+    (λ c. search needs)  -- same-length
+    (λ c. search needs)  -- returns
+    )

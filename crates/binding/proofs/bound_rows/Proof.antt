@@ -1,0 +1,18 @@
+-- `binding::bound_rows` meets its contract.
+-- Assumes nothing.
+use Rattle.binding.proofs.Cases.{rows}
+use borrow.Author.Needs.{needs}
+use Rattle.binding.proofs.bound_rows.Statement.{statement}
+use Rattle.binding.proofs.bound_rows.Tie as tie
+
+pub bound-rows-spec : {M : Type 1} → statement M
+bound-rows-spec =
+    tie.close
+    (tie.spec
+    (λ c κs. search rows)  -- unite-visible-requires
+    (λ c κs. search needs)  -- as-is-requires
+    (λ c. search needs)  -- add-unite-visible
+    (λ c κs. search rows)  -- unite-visible-requires-2
+    (λ c. search needs)  -- same-length
+    (λ c. search rows)  -- returns
+    )

@@ -1,0 +1,9 @@
+pub mod Rooms
+pub mod Binding
+pub mod Places
+pub mod ActualNotes
+pub mod NameSteps
+pub mod VisibleSteps
+pub mod HiddenSteps
+pub mod WholeSteps
+pub mod Outcomes

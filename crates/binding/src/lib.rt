@@ -1,0 +1,205 @@
+// A parameter of a form bound to a form: 15, 16, and formal items replaced by actual ones. The form is made in a block, and checked.
+use clauses::bindings::wrong_pair;
+use clauses::formals::unpaired;
+use clauses::notes::note_formals;
+use clauses::parameters::has_parameter;
+use clauses::parameters::keep_parameters;
+use forms::Block;
+use forms::Form;
+use forms::Made;
+use forms::Verdict;
+use making::checked::checked;
+use translation::Mode;
+use uniting::unite_hidden;
+use uniting::unite_parameters;
+use uniting::unite_visible;
+ghost use mathlib.Core.Path.{_≡_};
+ghost use Prim.Native.Nat.{_≤_};
+ghost use lib.ListN.{length};
+ghost use Rattle.forms.specs.Memory.{part};
+ghost use Rattle.forms.specs.Verdicts.{told};
+ghost use Rattle.making.specs.Steps.{Bound};
+ghost use Rattle.binding.specs.Rooms.{as-is, binding-mode, NamesPlaces, BindRoom, StepRoom, NamedRoom, SeenRoom};
+ghost use Rattle.binding.specs.Binding.{named-in, pairs-checked, NamesBound, RowsBound, VisibleBound, FrontBound, HiddenBound, BoundForm};
+
+// The mode that leaves rows as they are.
+fn as_is() -> Mode
+    ensures { λ r. ⌜ r ≡ as-is ⌝ }
+{
+    Mode {
+        kind: 0,
+        pairs: 0,
+        parameter: 0,
+        visible: 0,
+        count: 0,
+    }
+}
+
+// The mode that binds the items of g that stand in the parameter p.
+fn binding_mode(p: u32, pairs: u32, g: Form) -> Mode
+    ensures { λ r. ⌜ r ≡ binding-mode p pairs g ⌝ }
+{
+    Mode {
+        kind: 2,
+        pairs,
+        parameter: p,
+        visible: g.visible,
+        count: g.visible_count,
+    }
+}
+
+// The form in the block that has so many parameters, and nothing else.
+fn named_form(b: Block, names: u32) -> Form
+    ensures { λ r. ⌜ r ≡ named-in b names ⌝ }
+{
+    Form {
+        parameters: b.parameters,
+        parameter_count: names,
+        visible: b.visible,
+        visible_count: 0,
+        hidden: b.hidden,
+        hidden_count: 0,
+        equations: b.equations,
+        equation_count: 0,
+        nodes: b.nodes,
+        node_count: 0,
+    }
+}
+
+// The parameters' names: those of g but the bound one, and then the actual form's.
+fn bound_names(text: &[u8], work: &mut [u32], p: u32, g: Form, actual: Form, b: Block) -> Form
+    requires { ⌜ NamesPlaces (length (now work)) g actual b ⌝ }
+    ensures { λ r. ⌜ NamesBound (now (text .entry)) (now (work .entry)) p g actual b r (now (work .exit)) ⌝ }
+{
+    let none = named_form(b, 0);
+    let n = keep_parameters(text, work, g, p, none);
+    let f = named_form(b, n);
+    unite_parameters(work, actual, f)
+}
+
+// The visible items: those of g that are not formal, moved, and then the actual form's. The notes of g's rows stand from b.visible_notes on,
+// those of the actual form's rows 1024 words behind.
+fn bound_rows(
+    text: &[u8],
+    work: &mut [u32],
+    t: usize,
+    m: Mode,
+    g: Form,
+    actual: Form,
+    f: Form,
+    b: Block,
+) -> Form
+    requires { ⌜ NamedRoom (length (now work)) t m g actual f b ⌝ }
+    ensures { λ r. ⌜ RowsBound (now (text .entry)) t (now (work .entry)) m g actual f b r (now (work .exit)) ⌝ }
+{
+    let notes = b.visible_notes;
+    let own = unite_visible(text, work, t, m, true, g, f, notes);
+    unite_visible(text, work, t, as_is(), false, actual, own, notes + 1024)
+}
+
+// These, and each formal row's note: where the actual item is.
+fn bound_visible(
+    text: &[u8],
+    work: &mut [u32],
+    t: usize,
+    m: Mode,
+    g: Form,
+    actual: Form,
+    f: Form,
+    b: Block,
+) -> Form
+    requires { ⌜ NamedRoom (length (now work)) t m g actual f b ⌝ }
+    ensures { λ r. ⌜ VisibleBound (now (text .entry)) t (now (work .entry)) m g actual f b r (now (work .exit)) ⌝ }
+{
+    let notes = b.visible_notes;
+    let all = bound_rows(text, work, t, m, g, actual, f, b);
+    note_formals(text, work, t, m, all, notes);
+    all
+}
+
+// The names, and the visible items.
+fn bound_front(
+    text: &[u8],
+    work: &mut [u32],
+    t: usize,
+    m: Mode,
+    g: Form,
+    actual: Form,
+    b: Block,
+) -> Form
+    requires { ⌜ StepRoom (length (now work)) t m g actual b ⌝ }
+    ensures { λ r. ⌜ FrontBound (now (text .entry)) t (now (work .entry)) m g actual b r (now (work .exit)) ⌝ }
+{
+    let p = m.parameter;
+    let named = bound_names(text, work, p, g, actual, b);
+    bound_visible(text, work, t, m, g, actual, named, b)
+}
+
+// The hidden items and the equations: those of g, moved, and then the actual form's.
+fn bound_hidden(
+    text: &[u8],
+    work: &mut [u32],
+    t: usize,
+    m: Mode,
+    g: Form,
+    actual: Form,
+    f: Form,
+    b: Block,
+) -> Form
+    requires { ⌜ SeenRoom (length (now work)) t m g actual f b ⌝ }
+    ensures { λ r. ⌜ HiddenBound (now (text .entry)) t (now (work .entry)) m g actual f b r (now (work .exit)) ⌝ }
+{
+    let notes = b.visible_notes;
+    let own = unite_hidden(text, work, t, m, g, f, b, notes);
+    unite_hidden(text, work, t, as_is(), actual, own, b, notes + 1024)
+}
+
+// g with its formal items replaced, united with the actual form.
+fn bound(text: &[u8], work: &mut [u32], t: usize, m: Mode, g: Form, actual: Form, b: Block) -> Made
+    requires { ⌜ StepRoom (length (now work)) t m g actual b ⌝ }
+    ensures { λ r. ⌜ BoundForm (now (text .entry)) t (now (work .entry)) m g actual b r (now (work .exit)) ⌝ }
+{
+    let seen = bound_front(text, work, t, m, g, actual, b);
+    let f = bound_hidden(text, work, t, m, g, actual, seen, b);
+    checked(text, work, t, f, b)
+}
+
+// 16: the pairs, and then the formal names without one.
+fn binding_right(text: &[u8], work: &[u32], t: usize, m: Mode, actual: Form) -> Verdict
+    requires { ⌜ t ≤ length (now work) ⌝ }
+    requires { ⌜ m .kind ≡ 2 ⌝ }
+    ensures { λ r. ⌜ told (now (text .entry)) r ≡ pairs-checked (now (text .entry)) (part (now (work .entry)) 0 t) (now (work .entry)) m actual ⌝ }
+{
+    match wrong_pair(text, work, t, m, actual) {
+        Verdict::Stop(k, w) => Verdict::Stop(k, w),
+        Verdict::Fine => unpaired(text, work, t, m),
+    }
+}
+
+// The parameter p of g bound to the actual form by the pairs on the tape from `pairs` on: 15, 16.
+pub fn bind(
+    text: &[u8],
+    work: &mut [u32],
+    t: usize,
+    p: u32,
+    pairs: u32,
+    g: Form,
+    actual: Form,
+    b: Block,
+) -> Made
+    requires { ⌜ BindRoom (length (now work)) t g actual b ⌝ }
+    ensures { λ r. ⌜ Bound (now (text .entry)) t (now (work .entry)) p pairs g actual b r (now (work .exit)) ⌝ }
+{
+    if has_parameter(text, work, g, p) {
+        let m = binding_mode(p, pairs, g);
+        match binding_right(text, work, t, m, actual) {
+            Verdict::Stop(k, w) => {
+                return Made::Refused(k, w);
+            }
+            Verdict::Fine => {
+                return bound(text, work, t, m, g, actual, b);
+            }
+        }
+    }
+    Made::Refused(15, p)
+}

@@ -1,0 +1,7 @@
+pub mod PairWalks
+pub mod RowSearches
+pub mod SortCases
+pub mod FormalCases
+pub mod BindingCases
+pub mod NoteCases
+pub mod NameCases

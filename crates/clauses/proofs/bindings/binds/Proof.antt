@@ -1,0 +1,24 @@
+-- `clauses::bindings::binds` meets its contract.
+-- Assumes nothing.
+use Rattle.clauses.proofs.BindingCases.{fits}
+use borrow.Author.Needs.{needs}
+use Rattle.clauses.proofs.bindings.binds.Statement.{statement}
+use Rattle.clauses.proofs.bindings.binds.Tie as tie
+
+pub binds-spec : {M : Type 1} → statement M
+binds-spec =
+    tie.close
+    (tie.spec
+    (λ c κs. search needs)  -- pair-right-requires
+    (λ c. search needs)  -- sub-old-word
+    (λ c. search needs)  -- part-old-word-start
+    (λ c. search needs)  -- part-old-word-end
+    (λ c κs. search needs)  -- old-word-requires
+    (λ c. search needs)  -- sub-is-given
+    (λ c. search needs)  -- part-is-given-start
+    (λ c. search needs)  -- part-is-given-end
+    (λ c κs. search needs)  -- is-given-requires
+    (λ c. search fits)  -- returns
+    (λ c. search fits)  -- returns-2
+    (λ c. search fits)  -- returns-3
+    )

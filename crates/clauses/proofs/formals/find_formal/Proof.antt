@@ -1,0 +1,34 @@
+-- `clauses::formals::find_formal` meets its contract.
+-- Assumes nothing.
+use Rattle.clauses.proofs.RowSearches.{finds, Finding}
+use Prim.Native.Nat.{_-_}
+use Rattle.names.specs.Word.{name-of}
+use Rattle.forms.specs.Memory.{part}
+use Rattle.clauses.specs.Unpaired.{formal-called}
+use Rattle.clauses.proofs.formals.find_formal.Statement.{statement}
+use Rattle.clauses.proofs.formals.find_formal.Tie as tie
+
+abbrev Inv-loop : tie.InvT-loop
+Inv-loop text work t a b n p i₀ i = Finding (formal-called (name-of text p) (name-of text a)) text (part work 0 t) work b n i
+
+abbrev μ-loop : tie.MeasureT-loop
+μ-loop text work t a b n p i₀ i = n - i
+
+pub find-formal-spec : {M : Type 1} → statement M
+find-formal-spec =
+    tie.close
+    (tie.spec
+    Inv-loop
+    μ-loop
+    (λ c. search finds)  -- loop-holds
+    (λ c κs. search finds)  -- read-row-requires
+    (λ c. search finds)  -- sub-is-formal-called
+    (λ c. search finds)  -- part-is-formal-called-start
+    (λ c. search finds)  -- part-is-formal-called-end
+    (λ c κs. search finds)  -- is-formal-called-requires
+    (λ c. search finds)  -- returns
+    (λ c. search finds)  -- add-i
+    (λ c. search finds)  -- loop-less
+    (λ c. search finds)  -- loop-again
+    (λ c. search finds)  -- returns-2
+    )

@@ -1,0 +1,16 @@
+-- `clauses::pairs::new_word` meets its contract.
+-- Assumes nothing.
+use Rattle.clauses.proofs.PairWalks.{words}
+use borrow.Author.Needs.{needs}
+use Rattle.clauses.proofs.pairs.new_word.Statement.{statement}
+use Rattle.clauses.proofs.pairs.new_word.Tie as tie
+
+pub new-word-spec : {M : Type 1} → statement M
+new-word-spec =
+    tie.close
+    (tie.spec
+    (λ c κs. search needs)  -- pair-place-requires
+    (λ c. search needs)  -- add-name-at
+    (λ c κs. search needs)  -- name-at-requires
+    (λ c. search words)  -- returns
+    )

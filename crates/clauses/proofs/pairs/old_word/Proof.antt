@@ -1,0 +1,15 @@
+-- `clauses::pairs::old_word` meets its contract.
+-- Assumes nothing.
+use Rattle.clauses.proofs.PairWalks.{words}
+use borrow.Author.Needs.{needs}
+use Rattle.clauses.proofs.pairs.old_word.Statement.{statement}
+use Rattle.clauses.proofs.pairs.old_word.Tie as tie
+
+pub old-word-spec : {M : Type 1} → statement M
+old-word-spec =
+    tie.close
+    (tie.spec
+    (λ c κs. search needs)  -- pair-place-requires
+    (λ c κs. search needs)  -- name-at-requires
+    (λ c. search words)  -- returns
+    )

@@ -1,0 +1,31 @@
+-- `clauses::parameters::has_parameter` meets its contract.
+-- Assumes nothing.
+use Rattle.clauses.proofs.RowSearches.{seeks, Seeking}
+use Prim.Native.Nat.{_-_}
+use Rattle.clauses.proofs.parameters.has_parameter.Statement.{statement}
+use Rattle.clauses.proofs.parameters.has_parameter.Tie as tie
+
+abbrev Inv-loop : tie.InvT-loop
+Inv-loop text work p parameters count i₀ i = Seeking text work parameters count p i
+
+abbrev μ-loop : tie.MeasureT-loop
+μ-loop text work p parameters count i₀ i = count - i
+
+pub has-parameter-spec : {M : Type 1} → statement M
+has-parameter-spec =
+    tie.close
+    (tie.spec
+    Inv-loop
+    μ-loop
+    (λ c. search seeks)  -- loop-holds
+    (λ c. search seeks)  -- cast-word-at
+    (λ c. search seeks)  -- cast-word-at-2
+    (λ c. search seeks)  -- add-word-at
+    (λ c κs. search seeks)  -- word-at-requires
+    (λ c κs. search seeks)  -- same-word-requires
+    (λ c. search seeks)  -- returns
+    (λ c. search seeks)  -- add-i
+    (λ c. search seeks)  -- loop-less
+    (λ c. search seeks)  -- loop-again
+    (λ c. search seeks)  -- returns-2
+    )

@@ -1,0 +1,14 @@
+-- `clauses::searches::is_row_called` meets its contract.
+-- Assumes nothing.
+use Rattle.clauses.proofs.RowSearches.{tests}
+use borrow.Author.Needs.{needs}
+use Rattle.clauses.proofs.searches.is_row_called.Statement.{statement}
+use Rattle.clauses.proofs.searches.is_row_called.Tie as tie
+
+pub is-row-called-spec : {M : Type 1} → statement M
+is-row-called-spec =
+    tie.close
+    (tie.spec
+    (λ c κs. search needs)  -- same-word-requires
+    (λ c. search tests)  -- returns
+    )

@@ -1,0 +1,9 @@
+pub mod Pairs
+pub mod Searches
+pub mod Joined
+pub mod Unpaired
+pub mod Fits
+pub mod Formals
+pub mod Notes
+pub mod KeptNames
+pub mod Bound

@@ -1,0 +1,54 @@
+-- The pairs of a clause one by one: how many there are, the old names given by the first of them, and the first pair that is wrong.
+use mathlib.Core.Path.{_≡_, refl}
+use Prim.Native.Nat.{ℕ, zero, suc, _+_, _*_}
+use mathlib.Core.Bool.{Bool, not, _&&_}
+use mathlib.Core.Option.{Option, none, some}
+use mathlib.Core.List.{List, [], _∷_}
+use lib.Dec.{eqb}
+use Rattle.meaning.specs.Lists.{pick}
+use Rattle.meaning.specs.Names.{Name, member}
+use Rattle.meaning.specs.Syntax.{Pair}
+use Rattle.meaning.specs.Clauses.{wrong-renaming}
+use Rattle.names.specs.Word.{name-of}
+use Rattle.tape.specs.Tape.{old-role}
+use Rattle.tables.specs.Entries.{role-at, name-at}
+use Rattle.clauses.specs.declared.Found.{Found}
+use Rattle.clauses.specs.declared.Found.the-variants.{At, Nothing}
+
+unfoldable pub found : List ℕ → Found → Option Name
+found text (At w) = some (name-of text w)
+found text Nothing = none
+
+-- how many pairs stand from place i on, at most c
+unfoldable pub pair-count : List ℕ → ℕ → ℕ → ℕ
+pair-count tape i zero = 0
+pair-count tape i (suc c) = let more = suc (pair-count tape (i + 2) c) in pick (eqb (role-at tape i) old-role) more 0
+
+-- the old names of the first k pairs, the last of them first
+unfoldable pub given : List ℕ → List ℕ → ℕ → ℕ → List Name
+given text tape pairs zero = []
+given text tape pairs (suc k) = name-at text tape (pairs + k * 2) ∷ given text tape pairs k
+
+-- pair k
+unfoldable pub pair-at : List ℕ → List ℕ → ℕ → ℕ → Pair
+pair-at text tape pairs k = record { old = name-at text tape (pairs + k * 2); new = name-at text tape (pairs + k * 2 + 1) }
+
+-- pair k is right, and its old name was not given before
+unfoldable pub rightly : (Pair → Bool) → List ℕ → List ℕ → ℕ → ℕ → Bool
+rightly right text tape pairs k = right (pair-at text tape pairs k) && not (member (name-at text tape (pairs + k * 2)) (given text tape pairs k))
+
+-- the first pair that is not right, or whose old name was given before
+unfoldable pub first-wrong : (Pair → Bool) → List Name → List Pair → Option Name
+first-wrong right seen [] = none
+first-wrong right seen (r ∷ rs) =
+    let more = first-wrong right (r .old ∷ seen) rs in pick (right r && not (member (r .old) seen)) more (some (r .old))
+
+-- ---- renaming
+
+unfoldable pub is-known : List Name → Pair → Bool
+is-known known r = member (r .old) known
+
+pub renaming-wrong : (known seen : List Name) (rs : List Pair) → first-wrong (is-known known) seen rs ≡ wrong-renaming known seen rs
+unfolding first-wrong wrong-renaming is-known
+renaming-wrong known seen [] = refl
+renaming-wrong known seen (r ∷ rs) = rw (renaming-wrong known (r .old ∷ seen) rs)

@@ -1,0 +1,3 @@
+pub mod Environment
+pub mod Growing
+pub mod Starting

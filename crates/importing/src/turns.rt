@@ -1,0 +1,133 @@
+// The clauses of an import expression, one after the other, in two blocks in turn.
+use super::runs::named_form;
+use super::runs::run_end;
+use binding::bind;
+use forms::Block;
+use forms::Form;
+use forms::Made;
+use layout::first_block;
+use layout::second_block;
+use modules::Heads;
+use renaming::rename;
+use tables::entries::name_at;
+use tables::entries::role_at;
+ghost use mathlib.Core.Path.{_≡_};
+ghost use mathlib.Core.Bool.{not};
+ghost use Prim.Native.Nat.{_+_, _≤_, _<_};
+ghost use lib.ListN.{length};
+ghost use Rattle.importing.specs.Clausal.{ClauseRoom, BoundAt, ClauseMade, turn-block, ClausesRoom, ClausesMade, starts-clause};
+
+// The binding whose parameter stands at i, and its actual module at `last`.
+fn bind_at(
+    text: &[u8],
+    work: &mut [u32],
+    t: usize,
+    h: Heads,
+    i: u32,
+    last: u32,
+    g: Form,
+    b: Block,
+) -> Made
+    requires { ⌜ ClauseRoom (now work) t h i g b ⌝ }
+    ensures { λ r. ⌜ BoundAt (now (text .entry)) t (now (work .entry)) h i last g b r (now (work .exit)) ⌝ }
+{
+    let p = name_at(&work[0..t], i as usize);
+    let actual = named_form(text, work, t, h, last as usize);
+    bind(text, work, t, p, i + 1, g, actual, b)
+}
+
+// The clause at i, whose end is `end`.
+fn clause_at(
+    text: &[u8],
+    work: &mut [u32],
+    t: usize,
+    h: Heads,
+    i: u32,
+    end: u32,
+    g: Form,
+    b: Block,
+) -> Made
+    requires { ⌜ ClauseRoom (now work) t h i g b ⌝ }
+    requires { ⌜ 1 ≤ end ⌝ }
+    ensures { λ r. ⌜ ClauseMade (now (text .entry)) t (now (work .entry)) h i end g b r (now (work .exit)) ⌝ }
+{
+    if role_at(&work[0..t], i as usize) == 12 {
+        return rename(text, work, t, i + 1, g, b);
+    }
+    bind_at(text, work, t, h, i, end - 1, g, b)
+}
+
+// The clause at i, whose end is `end`, in the block whose turn it is.
+fn clause_turn(
+    text: &[u8],
+    work: &mut [u32],
+    t: usize,
+    h: Heads,
+    i: u32,
+    end: u32,
+    g: Form,
+    first: bool,
+) -> Made
+    requires { ⌜ ClausesRoom (now work) t h i g first ⌝ }
+    requires { ⌜ 1 ≤ end ⌝ }
+    ensures { λ r. ⌜ ClauseMade (now (text .entry)) t (now (work .entry)) h i end g (turn-block first) r (now (work .exit)) ⌝ }
+{
+    if first {
+        let b = first_block();
+        return clause_at(text, work, t, h, i, end, g, b);
+    }
+    let b = second_block();
+    clause_at(text, work, t, h, i, end, g, b)
+}
+
+// Does a clause begin at i?
+fn starts_clause(tape: &[u32], i: u32) -> bool
+    ensures { λ r. ⌜ r ≡ starts-clause (now (tape .entry)) i ⌝ }
+{
+    let role = role_at(tape, i as usize);
+    if role == 12 {
+        return true;
+    }
+    role == 13
+}
+
+fn other(first: bool) -> bool
+    ensures { λ r. ⌜ r ≡ not first ⌝ }
+{
+    if first {
+        return false;
+    }
+    true
+}
+
+// The clauses from i on, of g, which is not in the block whose turn it is.
+pub fn clauses_from(
+    text: &[u8],
+    work: &mut [u32],
+    t: usize,
+    h: Heads,
+    left: u32,
+    i: u32,
+    g: Form,
+    first: bool,
+) -> Made
+    requires { ⌜ ClausesRoom (now work) t h i g first ⌝ }
+    ensures { λ r. ⌜ ClausesMade (now (text .entry)) t (now (work .entry)) h left i g r (now (work .exit)) ⌝ }
+{
+    if left == 0 {
+        return Made::Done(g);
+    }
+    if starts_clause(&work[0..t], i) {
+        let end = run_end(&work[0..t], 14, i + 1);
+        let r = clause_turn(text, work, t, h, i, end, g, first);
+        match r {
+            Made::Refused(k, w) => Made::Refused(k, w),
+            Made::Done(f) => {
+                let next = other(first);
+                clauses_from(text, work, t, h, left - 1, end, f, next)
+            }
+        }
+    } else {
+        Made::Done(g)
+    }
+}

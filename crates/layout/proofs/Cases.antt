@@ -1,0 +1,61 @@
+-- Each answer of the layout's functions, as its definition has it.
+use mathlib.Core.Path.{_≡_, refl, sym, _∙_}
+use Prim.Native.Nat.{ℕ, _+_, _*_, _≤_}
+use native.Mathlib.Omega.{arith}
+use borrow.Author.Needs.{needs}
+use Rattle.forms.specs.declared.Block.{Block}
+use Rattle.layout.specs.Layout.{block-span, block-at, tape-end, joining-block, first-block, second-block, kept-start, table-start}
+
+pub tape-number : 32768 ≡ tape-end
+unfolding tape-end
+tape-number = refl
+
+pub kept-number : 933456 ≡ kept-start
+unfolding kept-start
+kept-number = refl
+
+pub table-number : 958544 ≡ table-start
+unfolding table-start
+table-number = refl
+
+pub is-block : (low names rows hidden-rows equations sources : ℕ) → record {
+  low = low;
+  parameters = low;
+  visible = low + names;
+  hidden = low + names + rows * 16;
+  equations = low + names + rows * 16 + hidden-rows * 16;
+  nodes = low + names + rows * 16 + hidden-rows * 16 + equations * 8;
+  «visible_notes» = low + names + rows * 16 + hidden-rows * 16 + equations * 8 + equations * 64;
+  «hidden_notes» = low + names + rows * 16 + hidden-rows * 16 + equations * 8 + equations * 64 + sources;
+  order = low + names + rows * 16 + hidden-rows * 16 + equations * 8 + equations * 64 + sources + sources;
+  high = low + names + rows * 16 + hidden-rows * 16 + equations * 8 + equations * 64 + sources + sources + names + rows;
+  «equation_room» = equations;
+  «node_room» = equations * 64;
+}
+    ≡ block-at low names rows hidden-rows equations sources
+unfolding block-at
+is-block low names rows hidden-rows equations sources = refl
+
+pub joining-fits : 32768 + block-span 32776 33280 1024 512 33280 ≤ 1073741824
+joining-fits = omega arith
+
+pub first-fits : 783888 + block-span 16 1024 1024 512 2048 ≤ 1073741824
+first-fits = omega arith
+
+pub second-fits : 858672 + block-span 16 1024 1024 512 2048 ≤ 1073741824
+second-fits = omega arith
+
+pub is-joining : (r : Block) → r ≡ block-at 32768 32776 33280 1024 512 33280 → r ≡ joining-block
+unfolding joining-block
+is-joining r h = h
+
+pub is-first : (r : Block) → r ≡ block-at 783888 16 1024 1024 512 2048 → r ≡ first-block
+unfolding first-block
+is-first r h = h
+
+pub is-second : (r : Block) → r ≡ block-at 858672 16 1024 1024 512 2048 → r ≡ second-block
+unfolding second-block
+is-second r h = h
+
+pub ruleset cases =
+    (tape-number, kept-number, table-number, joining-fits, first-fits, second-fits, is-joining, is-first, is-second, is-block, needs)

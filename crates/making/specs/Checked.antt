@@ -1,0 +1,193 @@
+-- What the checks after a clause or a union ask of places, and what comes of them (meaning/specs/Checks.antt, `checked`).
+use mathlib.Core.Path.{_≡_, refl, sym, ap, ap₂, _∙_, subst}
+use mathlib.Core.Logic.{inl}
+use mathlib.Core.Bool.{Bool, true, false, _&&_, false≢true}
+use mathlib.Core.List.{List, [], _∷_}
+use Prim.Native.Nat.{ℕ, zero, suc, _+_, _*_, _≤_}
+use native.Mathlib.Omega.{arith}
+use lib.Dec.{leb}
+use lib.ListN.{length}
+use borrow.Author.Tests.{leb-true}
+use Rattle.meaning.specs.Lists.{pick}
+use Rattle.meaning.specs.Names.{Name}
+use Rattle.meaning.specs.Numbers.{parameter-room, item-room, equation-room, no-room}
+use Rattle.meaning.specs.Normal.{Visible, Normal}
+use Rattle.meaning.specs.Checks.{Outcome, fine, stop, _>>=_, _>>_, Check, consistent, size, fits, room, checked}
+use Rattle.names.specs.Word.{name-of}
+use Rattle.forms.specs.declared.Form.{Form}
+use Rattle.forms.specs.declared.Block.{Block}
+use Rattle.forms.specs.declared.Made.{Made}
+use Rattle.forms.specs.declared.Made.the-variants.{Done, Refused}
+use Rattle.forms.specs.declared.Verdict.{Verdict}
+use Rattle.forms.specs.declared.Verdict.the-variants.{Fine, Stop}
+use Rattle.forms.specs.Memory.{part, Kept}
+use Rattle.forms.specs.Forms.{names-at, visible-at, Stands}
+use Rattle.forms.specs.FormLaws.{kept-wider, length-items}
+use Rattle.forms.specs.Frames.{stands-kept}
+use Rattle.forms.specs.Blocks.{BlockLaid, Lies, Outside, Makes, MadeIn}
+use Rattle.forms.specs.Verdicts.{told}
+use Rattle.checks.specs.Consistent.{Laid, Checked}
+use Rattle.making.specs.Made.{makes-as, stops, goes-on}
+
+-- the form lies in the block, which has room for what it has
+pub record CheckRoom (size t : ℕ) (f : Form) (b : Block) : Type 0 where
+  pub names : ℕ
+  pub rows : ℕ
+  pub hidden-rows : ℕ
+  pub sources : ℕ
+  pub laid : BlockLaid size t b names rows hidden-rows sources
+  pub lies : Lies b f
+  pub parameters : f .«parameter_count» ≤ names
+  pub visible : f .«visible_count» ≤ rows
+  pub hidden : f .«hidden_count» ≤ hidden-rows
+  pub few-rows : rows ≤ 65536
+  pub few-hidden : hidden-rows ≤ 65536
+  pub equations : f .«equation_count» ≤ b .«equation_room»
+  pub nodes : f .«node_count» ≤ b .«node_room»
+
+-- the form, or 18
+unfoldable pub enough : Form → Bool
+enough f = leb (f .«parameter_count») parameter-room && leb (f .«visible_count» + f .«hidden_count») item-room && leb (f .«equation_count») equation-room
+
+unfoldable pub fitting : Form → Made
+fitting f = pick (enough f) (Done f) (Refused no-room 0)
+
+pub record CheckedForm (text : List ℕ) (t : ℕ) (w : List ℕ) (f : Form) (b : Block) (r : Made) (w′ : List ℕ) : Type 0 where
+  pub kept : Kept (b .low) (b .high) w w′
+  pub made-in : MadeIn b r
+  pub made : (n : Normal) → Stands text (part w 0 t) w f n → Makes text (part w′ 0 t) w′ r (checked n)
+
+-- ---- what the form has is what the normal form has
+
+pub length-names : (text w : List ℕ) (b c : ℕ) → length (names-at text w b c) ≡ c
+unfolding names-at
+length-names text w b zero = refl
+length-names text w b (suc c) = ap suc (length-names text w (b + 1) c)
+
+pub and-true : (a b : Bool) → (a && b) ≡ true → (a ≡ true) × (b ≡ true)
+and-true true b e = (refl, e)
+and-true false b e = absurd (false≢true e)
+
+fitting-in : (b : Block) (f : Form) → Lies b f → f .«node_count» ≤ b .«node_room» → MadeIn b (fitting f)
+unfolding fitting enough pick
+fitting-in b f l nodes = go (enough f) refl
+  where
+    go : (c : Bool) → enough f ≡ c → MadeIn b (pick c (Done f) (Refused no-room 0))
+    go true e =
+        let last = and-true _ _ e in
+        let front = and-true _ _ (last .0) in
+        record {
+          lies = l;
+          fits = record {
+            parameters = leb-true (f .«parameter_count») parameter-room (front .0);
+            items = leb-true (f .«visible_count» + f .«hidden_count») item-room (front .1);
+            equations = leb-true (f .«equation_count») equation-room (last .1);
+          };
+          nodes = nodes;
+        }
+    go false e = tt
+
+fitting-made : (text tape w : List ℕ) (f : Form) (n : Normal) → Stands text tape w f n → Makes text tape w (fitting f) (fits (enough f) >> fine n)
+unfolding fitting fits pick _>>_ name-of
+fitting-made text tape w f n s = go (enough f)
+  where
+    go : (c : Bool) → Makes text tape w (pick c (Done f) (Refused no-room 0)) (fits c >> fine n)
+    go true = s
+    go false = (refl, refl)
+
+-- a form that lies in a block ends before its order table
+pub record Ends (f : Form) (at : ℕ) : Type 0 where
+  pub parameters : f .parameters + f .«parameter_count» ≤ at
+  pub visible : f .visible + f .«visible_count» * 16 ≤ at
+  pub hidden : f .hidden + f .«hidden_count» * 16 ≤ at
+  pub equations : f .equations + f .«equation_count» * 8 ≤ at
+  pub nodes : f .nodes + f .«node_count» ≤ at
+
+pub ends-outside : (f : Form) (low high : ℕ) → Ends f low → Outside low high f
+ends-outside f low high e = record {
+  parameters = inl (e .parameters);
+  visible = inl (e .visible);
+  hidden = inl (e .hidden);
+  equations = inl (e .equations);
+  nodes = inl (e .nodes);
+}
+
+module _ (size t : ℕ) (f : Form) (b : Block) (c : CheckRoom size t f b) where
+  pub before-order : Ends f (b .order)
+  before-order =
+      let l = c .laid in
+      let i = c .lies in
+      record {
+        parameters = omega (arith, l .parameters, l .visible, l .hidden, l .equations, l .nodes, l .visible-notes, l .hidden-notes, i .parameters, c .parameters);
+        visible = omega (arith, l .visible, l .hidden, l .equations, l .nodes, l .visible-notes, l .hidden-notes, i .visible, c .visible);
+        hidden = omega (arith, l .hidden, l .equations, l .nodes, l .visible-notes, l .hidden-notes, i .hidden, c .hidden);
+        equations = omega (arith, l .equations, l .nodes, l .visible-notes, l .hidden-notes, i .equations, c .equations);
+        nodes = omega (arith, l .nodes, l .visible-notes, l .hidden-notes, i .nodes, c .nodes);
+      }
+
+  tape-order : t ≤ b .order
+  tape-order =
+      let l = c .laid in
+      omega (arith, l .tape, l .first, l .parameters, l .visible, l .hidden, l .equations, l .nodes, l .visible-notes, l .hidden-notes)
+
+  pub order-laid : Laid size t (f .parameters) (f .«parameter_count») (f .visible) (f .«visible_count») (b .order)
+  order-laid =
+      let l = c .laid in
+      record {
+        tape = tape-order;
+        parameters = inl (before-order .parameters);
+        rows = inl (before-order .visible);
+        place = omega (arith, before-order .visible, l .order, l .small);
+        room = omega (arith, c .parameters, c .visible, l .order, l .within);
+      }
+
+  module _ (text w w′ : List ℕ) (v : Verdict) (k : Checked text w w′ t (f .parameters) (f .«parameter_count») (f .visible) (f .«visible_count») (b .order) v) where
+    narrow : Kept (b .order) (b .high) w w′
+    narrow =
+        let l = c .laid in
+        kept-wider (b .order) (b .order + (f .«parameter_count» + f .«visible_count»)) (b .order) (b .high) w w′ (omega arith) (omega (arith, c .parameters, c .visible, l .order)) (k .kept)
+
+    block-kept : Kept (b .low) (b .high) w w′
+    block-kept =
+        let l = c .laid in
+        kept-wider (b .order) (b .high) (b .low) (b .high) w w′
+        (omega (arith, l .first, l .parameters, l .visible, l .hidden, l .equations, l .nodes, l .visible-notes, l .hidden-notes)) (omega arith) narrow
+
+    -- 15, 10, 11
+    verdict-meant : (n : Normal) → Stands text (part w 0 t) w f n → consistent (n .visible) [] ≡ told text v
+    unfolding visible-at
+    verdict-meant n s = ap (λ (u : Visible). consistent u []) (sym (s .visible)) ∙ sym (k .verdict)
+
+    pub checked-stop : (j x : ℕ) → v ≡ Stop j x → CheckedForm text t w f b (Refused j x) w′
+    unfolding checked told
+    checked-stop j x e = record {
+      kept = block-kept;
+      made-in = tt;
+      made = λ n s.
+          makes-as text (part w′ 0 t) w′ (Refused j x) (stop j (name-of text x)) (checked n)
+          (stops (consistent (n .visible) []) (room n >> fine n) j (name-of text x) (verdict-meant n s ∙ ap (told text) e)) (refl, refl);
+    }
+
+    -- 18
+    room-meant : (n : Normal) → Stands text (part w 0 t) w f n → room n ≡ fits (enough f)
+    unfolding room size visible-at enough
+    room-meant n s =
+        let names : length (n .visible .parameters) ≡ f .«parameter_count» =
+        ap (λ (u : Visible). length (u .parameters)) (sym (s .visible)) ∙ length-names text w (f .parameters) (f .«parameter_count») in
+        let items : length (n .visible .items) ≡ f .«visible_count» =
+        ap (λ (u : Visible). length (u .items)) (sym (s .visible)) ∙ length-items text (part w 0 t) w (f .visible) (f .«visible_count») in
+        let hidden : length (n .hidden .items) ≡ f .«hidden_count» =
+        ap length (sym (s .hidden)) ∙ length-items text (part w 0 t) w (f .hidden) (f .«hidden_count») in
+        rw (names, items, hidden, ← s .equation-count)
+
+    pub checked-fine : (r : Made) → v ≡ Fine → r ≡ fitting f → CheckedForm text t w f b r w′
+    unfolding checked told
+    checked-fine r e q =
+        rw q (record {
+          kept = block-kept;
+          made-in = fitting-in b f (c .lies) (c .nodes);
+          made = λ n s.
+              makes-as text (part w′ 0 t) w′ (fitting f) (fits (enough f) >> fine n) (checked n)
+              (goes-on (consistent (n .visible) []) (room n >> fine n) (verdict-meant n s ∙ ap (told text) e) ∙ ap (λ (o : Check). o >> fine n) (room-meant n s))
+              (fitting-made text (part w′ 0 t) w′ f n (stands-kept text t w w′ (b .order) (b .high) f n tape-order narrow (ends-outside f (b .order) (b .high) before-order) s));
+        })

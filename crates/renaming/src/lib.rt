@@ -1,0 +1,58 @@
+// A form renamed, 14, and a form united with another: each is made in a block, and checked.
+use clauses::renamings::wrong_renaming;
+use forms::Block;
+use forms::Form;
+use forms::Made;
+use forms::Verdict;
+use making::checked::checked;
+use translation::Mode;
+use uniting::empty_form;
+use uniting::unite;
+ghost use lib.ListN.{length};
+ghost use Rattle.making.specs.Steps.{MakeRoom, Renamed, RenamedForm, JoinRoom, JoinedForm};
+
+// g, with the pairs' new names.
+fn renamed(text: &[u8], work: &mut [u32], t: usize, pairs: u32, g: Form, b: Block) -> Made
+    requires { ⌜ MakeRoom (length (now work)) t g b ⌝ }
+    ensures { λ r. ⌜ RenamedForm (now (text .entry)) t (now (work .entry)) pairs g b r (now (work .exit)) ⌝ }
+{
+    let m = Mode {
+        kind: 1,
+        pairs,
+        parameter: 0,
+        visible: 0,
+        count: 0,
+    };
+    let e = empty_form(b);
+    let f = unite(text, work, t, m, g, e, b);
+    checked(text, work, t, f, b)
+}
+
+// The renaming of g by the pairs on the tape from `pairs` on: 14.
+pub fn rename(text: &[u8], work: &mut [u32], t: usize, pairs: u32, g: Form, b: Block) -> Made
+    requires { ⌜ MakeRoom (length (now work)) t g b ⌝ }
+    ensures { λ r. ⌜ Renamed (now (text .entry)) t (now (work .entry)) pairs g b r (now (work .exit)) ⌝ }
+{
+    let visible = g.visible;
+    let count = g.visible_count;
+    match wrong_renaming(text, work, t, pairs, visible, count) {
+        Verdict::Stop(k, w) => Made::Refused(k, w),
+        Verdict::Fine => renamed(text, work, t, pairs, g, b),
+    }
+}
+
+// g united with f, which lies in the block.
+pub fn join(text: &[u8], work: &mut [u32], t: usize, g: Form, f: Form, b: Block) -> Made
+    requires { ⌜ JoinRoom (length (now work)) t g f b ⌝ }
+    ensures { λ r. ⌜ JoinedForm (now (text .entry)) t (now (work .entry)) g f b r (now (work .exit)) ⌝ }
+{
+    let m = Mode {
+        kind: 0,
+        pairs: 0,
+        parameter: 0,
+        visible: 0,
+        count: 0,
+    };
+    let u = unite(text, work, t, m, g, f, b);
+    checked(text, work, t, u, b)
+}
