@@ -79,7 +79,7 @@ pub fn same_bytes(a: &[u8], b: &[u8]) -> bool
 }
 
 // 1 if a and b have the same bytes, 0 if a comes first, 2 if b does.
-fn compare_bytes(a: &[u8], b: &[u8]) -> u8
+pub fn compare_bytes(a: &[u8], b: &[u8]) -> u8
     ensures { λ r. ⌜ r ≡ compared (now (a .entry)) (now (b .entry)) ⌝ }
 {
     let mut i = 0;

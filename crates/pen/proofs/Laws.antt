@@ -3,13 +3,13 @@ use mathlib.Core.Path.{_≡_, refl, sym, ap, _∙_}
 use mathlib.Core.Bool.{Bool, true, false}
 use lib.Dec.{ltb}
 use mathlib.Core.List.{List, [], _∷_, _++_}
-use Prim.Native.Nat.{ℕ, suc, _+_, _<_, _≤_}
+use Prim.Native.Nat.{ℕ, suc, _+_, _-_, _<_, _≤_}
 use native.Mathlib.Omega.{arith}
 use native.Mathlib.Numerals.{add-one}
 use native.Mathlib.Nat.{add-zero}
 use borrow.Author.Tests.{lt-ltb, le-ltb, ltb-true, ltb-false}
 use lib.ListN.{length, set, take, drop, length-set}
-use lib.Seq.{sets, sets-eq}
+use lib.Seq.{sets, sets-eq, take-nil}
 use Rattle.meaning.specs.Lists.{pick}
 use Rattle.pen.specs.Pen.{Pen, pen, mark, written}
 
@@ -80,6 +80,17 @@ module _ (l : ℕ) where
       by-order at l
       (λ i. ap (λ (p : Pen). written l bs p .at) (mark-on b (pen at o) i) ∙ written-long bs (at + 1) (set o at b) (omega arith) (omega arith))
       (λ i. ap (λ (p : Pen). p .at) (written-full (b ∷ bs) (pen at o) i) ∙ omega arith)
+
+  -- what would pass the limit may be left out
+  pub written-taken : (bs : List ℕ) (at : ℕ) (o : List ℕ) → written l bs (pen at o) ≡ written l (take (l - at) bs) (pen at o)
+  unfolding written
+  written-taken [] at o = ap (λ (xs : List ℕ). written l xs (pen at o)) (sym (take-nil (l - at)))
+  written-taken (b ∷ bs) at o =
+      by-order at l
+      (λ h. let left : l - at ≡ suc (l - (at + 1)) = omega arith in
+      rw left (ap (written l bs) (mark-on b (pen at o) h) ∙ written-taken bs (at + 1) (set o at b)
+      ∙ ap (written l (take (l - (at + 1)) bs)) (sym (mark-on b (pen at o) h))))
+      (λ h. written-full (b ∷ bs) (pen at o) h ∙ sym (written-full (take (l - at) (b ∷ bs)) (pen at o) h))
 
 -- What a count tells: k is the place that bytes reached from 0 on, where the limit was one more than n.
 module _ (n k : ℕ) (bs e o : List ℕ) (c : pen k e ≡ written (n + 1) bs (pen 0 o)) where

@@ -1,0 +1,137 @@
+-- Hidden items stand in the hidden section and are called as declared, and no two are one: so it is of M's own, and so it stays when normal
+-- forms are united, moved and put in order.
+use mathlib.Core.Path.{_≡_, refl, sym, ap, _∙_}
+use mathlib.Core.Bool.{Bool, true, false, false≢true}
+use mathlib.Core.List.{List, [], _∷_, _++_, map}
+use Rattle.meaning.specs.Laws.{by-cases}
+use Rattle.meaning.specs.Lists.{any, union}
+use Rattle.meaning.specs.Names.{Name}
+use Rattle.meaning.specs.Syntax.{Function, Variable, Module, variables-of}
+use Rattle.meaning.specs.Origins.{hidden-section, Declared, declared-sort, declared-function, declared-variable, FunctionType, Item, one-item}
+use Rattle.meaning.specs.Normal.{Hidden, Normal, nothing-hidden, empty, unite-hidden, unite, move-hidden-item, move-hidden, move}
+use Rattle.meaning.specs.Written.{hidden-in-order, in-order}
+use Rattle.meaning.specs.Own.{own-sort, own-function, own-section, own-variable, own-hidden-items}
+use Rattle.meaning.specs.OrderLaws.{Every, Pairwise, Rearranged, rearranged-every, sorted-rearranged, pairwise-rearranged, any-none}
+use Rattle.tables.specs.Decides.{items-decided}
+
+-- the name under which an item was declared
+unfoldable pub declared-name : Declared → Name
+declared-name (declared-sort a) = a
+declared-name (declared-function f i o) = f
+declared-name (declared-variable v s) = v
+
+pub record HiddenItem (i : Item) : Type 0 where
+  pub standing : i .standing ≡ hidden-section
+  pub name : i .name ≡ declared-name (i .origin .declared)
+
+abbrev pub Different : Item → Item → Type 0
+Different a b = one-item a b ≡ false
+
+pub record HiddenItems (items : List Item) : Type 0 where
+  pub every : Every HiddenItem items
+  pub distinct : Pairwise Different items
+
+abbrev pub HiddenSound : Normal → Type 0
+HiddenSound n = HiddenItems (n .hidden .items)
+
+-- ---- lists
+
+different-symmetric : (a b : Item) → Different a b → Different b a
+different-symmetric a b h = go (one-item b a) refl
+  where
+    go : (x : Bool) → one-item b a ≡ x → x ≡ false
+    go true e = absurd (false≢true (sym h ∙ ap (one-item a) (items-decided .equal b a e) ∙ items-decided .self a))
+    go false e = refl
+
+every-append : {A : Type 0} (P : A → Type 0) (xs ys : List A) → Every P xs → Every P ys → Every P (xs ++ ys)
+every-append P [] ys h k = k
+every-append P (x ∷ xs) ys h k = (h .0, every-append P xs ys (h .1) k)
+
+every-map : {A B : Type 0} (P : A → Type 0) (Q : B → Type 0) (f : A → B) → ((a : A) → P a → Q (f a)) → (xs : List A) → Every P xs → Every Q (map f xs)
+every-map P Q f g [] h = tt
+every-map P Q f g (x ∷ xs) h = (g x (h .0), every-map P Q f g xs (h .1))
+
+made : {A B : Type 0} (Q : B → Type 0) (f : A → B) → ((a : A) → Q (f a)) → (xs : List A) → Every Q (map f xs)
+made Q f g [] = tt
+made Q f g (x ∷ xs) = (g x, made Q f g xs)
+
+-- one more, that none is one with
+one-more : (xs : List Item) (y : Item) → Pairwise Different xs → Every (Different y) xs → Pairwise Different (xs ++ (y ∷ []))
+one-more [] y h k = (tt, tt)
+one-more (x ∷ xs) y h k = (every-append (Different x) xs (y ∷ []) (h .0) (different-symmetric y x (k .0), tt), one-more xs y (h .1) (k .1))
+
+-- ---- united, whatever is united to them
+
+pub items-joined : (xs ys : List Item) → HiddenItems xs → Every HiddenItem ys → HiddenItems (union one-item xs ys)
+unfolding union
+items-joined xs [] h k = h
+items-joined xs (y ∷ ys) h k =
+    by-cases HiddenItems (any (one-item y) xs) (union one-item xs ys) (union one-item (xs ++ (y ∷ [])) ys) (λ e. items-joined xs ys h (k .1))
+    (λ e. items-joined (xs ++ (y ∷ [])) ys (record {
+      every = every-append HiddenItem xs (y ∷ []) (h .every) (k .0, tt);
+      distinct = one-more xs y (h .distinct) (any-none (one-item y) xs e);
+    }) (k .1))
+
+no-items : HiddenItems []
+no-items = record { every = tt; distinct = tt }
+
+pub empty-sound : HiddenSound empty
+unfolding empty nothing-hidden
+empty-sound = no-items
+
+pub united-sound : (a b : Normal) → HiddenSound a → HiddenSound b → HiddenSound (unite a b)
+unfolding unite unite-hidden
+united-sound a b h k = items-joined (a .hidden .items) (b .hidden .items) h (k .every)
+
+-- ---- moved
+
+module _ (σ : Name → Name) (φ : Name → FunctionType → Name) where
+  item-moved : (i : Item) → HiddenItem i → HiddenItem (move-hidden-item σ φ i)
+  unfolding move-hidden-item
+  item-moved i h = record { standing = h .standing; name = h .name }
+
+  pub items-moved : (xs : List Item) → HiddenItems xs → HiddenItems (union one-item [] (map (move-hidden-item σ φ) xs))
+  items-moved xs h =
+      items-joined [] (map (move-hidden-item σ φ) xs) no-items (every-map HiddenItem HiddenItem (move-hidden-item σ φ) item-moved xs (h .every))
+
+  pub moved-sound : (n : Normal) → HiddenSound n → HiddenSound (move σ φ n)
+  unfolding move move-hidden
+  moved-sound n h = items-moved (n .hidden .items) h
+
+-- ---- in another order
+
+items-rearranged : {xs ys : List Item} → Rearranged xs ys → HiddenItems xs → HiddenItems ys
+items-rearranged d h = record {
+  every = rearranged-every HiddenItem d (h .every);
+  distinct = pairwise-rearranged Different different-symmetric d (h .distinct);
+}
+
+pub ordered-sound : (n : Normal) → HiddenSound n → HiddenSound (in-order n)
+unfolding in-order hidden-in-order
+ordered-sound n h = items-rearranged (sorted-rearranged _ (n .hidden .items)) h
+
+-- ---- M's own
+
+module _ (m : Module) (seen : List Name) where
+  sort-own : (a : Name) → HiddenItem (own-sort m seen hidden-section a)
+  unfolding own-sort declared-name
+  sort-own a = record { standing = refl; name = refl }
+
+  function-own : (f : Function) → HiddenItem (own-function m seen hidden-section f)
+  unfolding own-function declared-name
+  function-own f = record { standing = refl; name = refl }
+
+  variable-own : (v : Variable) → HiddenItem (own-variable m seen v)
+  unfolding own-variable declared-name
+  variable-own v = record { standing = refl; name = refl }
+
+  pub items-own : Every HiddenItem (own-hidden-items m seen)
+  unfolding own-hidden-items own-section
+  items-own =
+      let sorts = map (own-sort m seen hidden-section) (m .hidden .sorts) in
+      let functions = map (own-function m seen hidden-section) (m .hidden .functions) in
+      let variables = map (own-variable m seen) (variables-of m) in
+      every-append HiddenItem (sorts ++ functions) variables
+      (every-append HiddenItem sorts functions (made HiddenItem (own-sort m seen hidden-section) sort-own (m .hidden .sorts))
+      (made HiddenItem (own-function m seen hidden-section) function-own (m .hidden .functions)))
+      (made HiddenItem (own-variable m seen) variable-own (variables-of m))

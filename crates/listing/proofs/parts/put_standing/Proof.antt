@@ -1,0 +1,32 @@
+-- `listing::parts::put_standing` meets its contract.
+-- Assumes nothing.
+use Prim.Native.Nat.{_-_}
+use Rattle.pen.proofs.Rows.{Writing}
+use Rattle.tables.specs.Rows.{section-of}
+use Rattle.listing.specs.Lines.{standing-row, standing-text}
+use Rattle.listing.proofs.Cases.{cases}
+use Rattle.listing.proofs.parts.put_standing.Statement.{statement}
+use Rattle.listing.proofs.parts.put_standing.Tie as tie
+
+abbrev Inv-loop : tie.InvT-loop
+Inv-loop out₀ at limit text tape work base count section sort function to₀ i₀ out to i =
+    Writing limit (standing-row text tape work base (section-of text section) sort function) 0 count at out₀ i to out
+
+abbrev μ-loop : tie.MeasureT-loop
+μ-loop out₀ at limit text tape work base count section sort function to₀ i₀ out to i = count - i
+
+pub put-standing-spec : {M : Type 1} → statement M
+unfolding standing-text
+put-standing-spec =
+    tie.close
+    (tie.spec
+    Inv-loop
+    μ-loop
+    (λ c. search cases)  -- loop-holds
+    (λ c κs. search cases)  -- put-standing-row-requires
+    (λ c. search cases)  -- add-i
+    (λ c. search cases)  -- loop-less
+    (λ c. search cases)  -- loop-again
+    (λ c. search cases)  -- same-length
+    (λ c. search cases)  -- returns
+    )

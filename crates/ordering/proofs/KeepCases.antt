@@ -1,0 +1,199 @@
+-- What the code that copies a form in order asks, one law for each way through it.
+use mathlib.Core.Path.{_≡_, refl, sym, ap, subst, _∙_}
+use mathlib.Core.Logic.{⊎-elim, inl, inr}
+use mathlib.Core.List.{List}
+use Prim.Native.Nat.{ℕ, _+_, _≤_}
+use native.Mathlib.Omega.{arith}
+use lib.ListN.{length}
+use borrow.Author.Needs.{needs}
+use Rattle.meaning.specs.Written.{visible-order, hidden-order}
+use Rattle.forms.specs.Memory.{part}
+use Rattle.forms.specs.Forms.{items-at}
+use Rattle.forms.specs.declared.Form.{Form}
+use Rattle.joining.specs.Joined.{copied}
+use Rattle.order.specs.Order.{NamesApart}
+use Rattle.ordering.specs.declared.Table.the-variants.{Visible, Sorts, Hidden, Equations}
+use Rattle.ordering.specs.Orders.{Small}
+use Rattle.ordering.specs.Copying.{SortRoom, TableSorted, NotedRoom, TableNoted}
+use Rattle.ordering.specs.Kept.{NamesPut, ItemsPut, sorts-in-order, KeepRoom, order-place, ItemsKept, EquationsKept, items-kept, visible-put, sorts-then-items, names-room, names-put}
+use Rattle.ordering.specs.Nodes.{kept-form}
+use Rattle.ordering.specs.Keeps.{keeps-all}
+
+-- ---- `put_names`
+
+pub names-table : (size from n order to : ℕ) → SortRoom size 0 from n order to 1 → order + n ≤ size
+names-table size from n order to room = room .table
+
+pub names-apart : (size from n order to : ℕ) → SortRoom size 0 from n order to 1 → NamesApart from 1 order n
+names-apart size from n order to room i h = inl (omega (arith, room .source))
+
+-- ---- `put_visible`, `put_hidden`
+
+pub visible-done : (text : List ℕ) (t from n order to notes m : ℕ) (w w′ : List ℕ) → NotedRoom (length w) t from n order to notes
+    → TableNoted text t (Visible from) from n order to notes m w w′ → ItemsPut text t visible-order from n order to notes w w′
+visible-done text t from n order to notes m w w′ room put = visible-put text t from n order to notes m w w′ (room .sorting .source) put
+
+-- the memory keeps its length
+pub hidden-room : (w u : List ℕ) (t from n order to notes : ℕ) → length u ≡ length w → NotedRoom (length w) t from n order to notes
+    → NotedRoom (length u) t from n order to notes
+hidden-room w u t from n order to notes e room = subst (λ (size : ℕ). NotedRoom size t from n order to notes) (sym e) room
+
+module _ (text : List ℕ) (t from n order to notes c : ℕ) (w u : List ℕ) (sorts : TableSorted text t (Sorts from) from n order to 16 c w u) where
+  pub hidden-few : n ≤ 1073741824 → Small (Hidden from to c)
+  hidden-few h = omega (arith, sorts .arranged .few)
+
+pub sorting-room : (size t from n order to notes : ℕ) → NotedRoom size t from n order to notes → SortRoom size t from n order to 16
+sorting-room size t from n order to notes room = room .sorting
+
+-- ---- `keep_items`, `keep_equations`
+
+module _ (size t : ℕ) (f k : Form) (p order : ℕ) (room : KeepRoom size t f k p order) where
+  names-here : SortRoom size 0 (f .parameters) (f .«parameter_count») order (k .parameters) 1
+  names-here = record {
+    width = omega arith;
+    tape = omega arith;
+    table = omega (arith, room .room);
+    source = omega (arith, room .parameters-before, room .notes);
+    target = omega (arith, room .parameters, room .visible, room .hidden, room .equations, room .nodes, room .notes);
+    apart = ⊎-elim (λ q. inl (omega arith)) (λ q. inr (omega (arith, room .parameters, room .visible, room .hidden, room .equations)))
+        (room .outside .parameters);
+  }
+
+  visible-here : NotedRoom size t (f .visible) (f .«visible_count») order (k .visible) p
+  visible-here = record {
+    sorting = record {
+      width = omega arith;
+      tape = omega (arith, room .tape, room .parameters, room .visible, room .hidden, room .equations, room .nodes, room .notes);
+      table = omega (arith, room .room);
+      source = omega (arith, room .visible-before, room .notes);
+      target = omega (arith, room .visible, room .hidden, room .equations, room .nodes, room .notes);
+      apart = ⊎-elim (λ q. inl (omega (arith, room .parameters))) (λ q. inr (omega (arith, room .visible, room .hidden, room .equations)))
+          (room .outside .visible);
+    };
+    source = room .visible-before;
+    target = omega (arith, room .visible, room .hidden, room .equations, room .nodes);
+    before = omega (arith, room .notes);
+  }
+
+  hidden-here : (h : ℕ) → h ≡ p + f .«visible_count» → NotedRoom size t (f .hidden) (f .«hidden_count») order (k .hidden) h
+  hidden-here h e = record {
+    sorting = record {
+      width = omega arith;
+      tape = omega (arith, room .tape, room .parameters, room .visible, room .hidden, room .equations, room .nodes, room .notes);
+      table = omega (arith, room .room);
+      source = omega (arith, room .hidden-before, room .notes);
+      target = omega (arith, room .hidden, room .equations, room .nodes, room .notes);
+      apart = ⊎-elim (λ q. inl (omega (arith, room .parameters, room .visible))) (λ q. inr (omega (arith, room .hidden, room .equations)))
+          (room .outside .hidden);
+    };
+    source = omega (arith, room .hidden-before);
+    target = omega (arith, room .hidden, room .equations, room .nodes);
+    before = omega (arith, room .notes);
+  }
+
+  equations-here : SortRoom size t (f .equations) (f .«equation_count») order (k .equations) 8
+  equations-here = record {
+    width = omega arith;
+    tape = omega (arith, room .tape, room .parameters, room .visible, room .hidden, room .equations, room .nodes, room .notes);
+    table = omega (arith, room .room);
+    source = omega (arith, room .equations-before, room .notes);
+    target = omega (arith, room .equations, room .nodes, room .notes);
+    apart = ⊎-elim (λ q. inl (omega (arith, room .parameters, room .visible, room .hidden))) (λ q. inr (omega (arith, room .equations)))
+        (room .outside .equations);
+  }
+
+  pub keep-tape : t ≤ k .hidden
+  keep-tape = omega (arith, room .tape, room .parameters, room .visible)
+
+  pub keep-few : f .«hidden_count» ≤ 1073741824
+  keep-few = omega (arith, room .hidden-few)
+
+  pub keep-notes : p + f .«visible_count» ≤ 1073741824
+  keep-notes = omega (arith, room .notes, room .small)
+
+-- the memory keeps its length from call to call
+module _ (w u : List ℕ) (t : ℕ) (f k : Form) (p order : ℕ) (room : KeepRoom (length w) t f k p order) (e : length u ≡ length w) where
+  still : KeepRoom (length u) t f k p order
+  still = subst (λ (size : ℕ). KeepRoom size t f k p order) (sym e) room
+
+  pub keep-names : SortRoom (length u) 0 (f .parameters) (f .«parameter_count») order (k .parameters) 1
+  keep-names = names-here (length u) t f k p order still
+
+  pub keep-visible : NotedRoom (length u) t (f .visible) (f .«visible_count») order (k .visible) p
+  keep-visible = visible-here (length u) t f k p order still
+
+  pub keep-hidden : (u′ : List ℕ) (h : ℕ) → length u′ ≡ length u → h ≡ p + f .«visible_count»
+      → NotedRoom (length u′) t (f .hidden) (f .«hidden_count») order (k .hidden) h
+  keep-hidden u′ h d q = subst (λ (size : ℕ). NotedRoom size t (f .hidden) (f .«hidden_count») order (k .hidden) h) (sym d)
+      (hidden-here (length u) t f k p order still h q)
+
+  pub keep-equations : SortRoom (length u) t (f .equations) (f .«equation_count») order (k .equations) 8
+  keep-equations = equations-here (length u) t f k p order still
+
+pub equations-kept : (text : List ℕ) (t : ℕ) (f k : Form) (p order c h : ℕ) (w u w′ : List ℕ) → h ≡ p + f .«visible_count»
+    → u ≡ copied w p h (f .nodes + 0) (k .nodes + 0) (f .«node_count»)
+    → TableSorted text t (Equations (k .visible) (f .equations) (k .nodes)) (f .equations) (f .«equation_count») order (k .equations) 8 c u w′
+    → EquationsKept text t f k p order w w′
+equations-kept text t f k p order c h w u w′ eh eu sorted = record {
+  count = c;
+  sorted = subst (λ (x : List ℕ). TableSorted text t (Equations (k .visible) (f .equations) (k .nodes)) (f .equations) (f .«equation_count») order
+      (k .equations) 8 c x w′)
+      (eu ∙ ap (λ (n : ℕ). copied w p n (f .nodes + 0) (k .nodes + 0) (f .«node_count»)) eh) sorted;
+}
+
+pub items-done : (text : List ℕ) (t : ℕ) (f k : Form) (p order h : ℕ) (w u₁ u₂ w′ : List ℕ) → KeepRoom (length w) t f k p order → h ≡ p + f .«visible_count»
+    → NamesPut text (f .parameters) (f .«parameter_count») order (k .parameters) w u₁
+    → ItemsPut text t visible-order (f .visible) (f .«visible_count») order (k .visible) p u₁ u₂
+    → ItemsPut text t (hidden-order (sorts-in-order (items-at text (part u₂ 0 t) u₂ (f .hidden) (f .«hidden_count»)))) (f .hidden) (f .«hidden_count») order
+    (k .hidden) h u₂ w′
+    → ItemsKept text t f k p order w w′
+items-done text t f k p order h w u₁ u₂ w′ room e names visible hidden = items-kept text t f k p order w u₁ u₂ w′ room names visible (rw (← e) hidden)
+
+-- ---- `order_place`, `kept_form`, `keep_in_order`
+
+pub place-told : (f : Form) (p : ℕ) → p + (f .«visible_count» + f .«hidden_count») ≡ order-place f p
+unfolding order-place
+place-told f p = refl
+
+pub form-told : (f k r : Form) → r .parameters ≡ k .parameters → r .«parameter_count» ≡ f .«parameter_count» → r .visible ≡ k .visible
+    → r .«visible_count» ≡ f .«visible_count» → r .hidden ≡ k .hidden → r .«hidden_count» ≡ f .«hidden_count» → r .equations ≡ k .equations
+    → r .«equation_count» ≡ f .«equation_count» → r .nodes ≡ k .nodes → r .«node_count» ≡ f .«node_count» → r ≡ kept-form f k
+unfolding kept-form
+form-told f k r e₁ e₂ e₃ e₄ e₅ e₆ e₇ e₈ e₉ e₀ = λ i. record {
+  parameters = e₁ i;
+  «parameter_count» = e₂ i;
+  visible = e₃ i;
+  «visible_count» = e₄ i;
+  hidden = e₅ i;
+  «hidden_count» = e₆ i;
+  equations = e₇ i;
+  «equation_count» = e₈ i;
+  nodes = e₉ i;
+  «node_count» = e₀ i;
+}
+
+module _ (w : List ℕ) (t : ℕ) (f k : Form) (p : ℕ) (room : KeepRoom (length w) t f k p (order-place f p)) where
+  pub place-small : p + (f .«visible_count» + f .«hidden_count») ≤ 1073741824
+  unfolding order-place
+  place-small = room .small
+
+  pub room-here : (u : List ℕ) (order : ℕ) → order ≡ order-place f p → length u ≡ length w → KeepRoom (length u) t f k p order
+  room-here u order e l =
+      subst (λ (o : ℕ). KeepRoom (length u) t f k p o) (sym e) (subst (λ (size : ℕ). KeepRoom size t f k p (order-place f p)) (sym l) room)
+
+pub ruleset whole = (place-told, form-told, place-small, room-here, keeps-all, needs)
+
+pub ruleset keeps = (keep-names, keep-visible, keep-hidden, keep-equations, keep-tape, keep-few, keep-notes, equations-kept, items-done, needs)
+
+pub ruleset cases = (
+  names-table,
+  names-apart,
+  names-room,
+  names-put,
+  visible-done,
+  sorting-room,
+  hidden-room,
+  hidden-few,
+  sorts-then-items,
+  needs,
+)

@@ -1,0 +1,19 @@
+-- `ordering::texts::compare_lines` meets its contract. Assumes nothing.
+use Rattle.ordering.proofs.TextCases.{cases}
+use borrow.Author.Needs.{needs}
+use Rattle.ordering.proofs.texts.compare_lines.Statement.{statement}
+use Rattle.ordering.proofs.texts.compare_lines.Tie as tie
+
+pub compare-lines-spec : {M : Type 1} → statement M
+compare-lines-spec =
+    tie.close
+    (tie.spec
+    (λ c. search needs)  -- sub-compare-bytes
+    (λ c. search needs)  -- part-compare-bytes-start
+    (λ c. search needs)  -- part-compare-bytes-end
+    (λ c. search needs)  -- sub-compare-bytes-2
+    (λ c. search needs)  -- part-compare-bytes-start-2
+    (λ c. search needs)  -- part-compare-bytes-end-2
+    (λ c κs. search needs)  -- compare-bytes-requires
+    (λ c. search cases)  -- returns
+    )

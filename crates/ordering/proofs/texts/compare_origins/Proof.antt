@@ -1,0 +1,15 @@
+-- `ordering::texts::compare_origins` meets its contract. Assumes nothing.
+use Rattle.ordering.proofs.TextCases.{cases}
+use borrow.Author.Needs.{needs}
+use Rattle.ordering.proofs.texts.compare_origins.Statement.{statement}
+use Rattle.ordering.proofs.texts.compare_origins.Tie as tie
+
+pub compare-origins-spec : {M : Type 1} → statement M
+compare-origins-spec =
+    tie.close
+    (tie.spec
+    (λ c κs. search needs)  -- origin-line-requires
+    (λ c κs. search needs)  -- origin-line-requires-2
+    (λ c κs. search needs)  -- compare-lines-requires
+    (λ c. search cases)  -- returns
+    )

@@ -1,0 +1,15 @@
+-- `ordering::texts::line_not_after` meets its contract. Assumes nothing.
+use Rattle.ordering.proofs.TextCases.{cases}
+use borrow.Author.Needs.{needs}
+use Rattle.ordering.proofs.texts.line_not_after.Statement.{statement}
+use Rattle.ordering.proofs.texts.line_not_after.Tie as tie
+
+pub line-not-after-spec : {M : Type 1} → statement M
+line-not-after-spec =
+    tie.close
+    (tie.spec
+    (λ c κs. search needs)  -- equation-line-requires
+    (λ c κs. search needs)  -- equation-line-requires-2
+    (λ c κs. search needs)  -- compare-lines-requires
+    (λ c. search cases)  -- returns
+    )

@@ -1,0 +1,15 @@
+-- `ordering::texts::type_not_after` meets its contract. Assumes nothing.
+use Rattle.ordering.proofs.TextCases.{cases}
+use borrow.Author.Needs.{needs}
+use Rattle.ordering.proofs.texts.type_not_after.Statement.{statement}
+use Rattle.ordering.proofs.texts.type_not_after.Tie as tie
+
+pub type-not-after-spec : {M : Type 1} → statement M
+type-not-after-spec =
+    tie.close
+    (tie.spec
+    (λ c κs. search needs)  -- type-line-requires
+    (λ c κs. search needs)  -- type-line-requires-2
+    (λ c κs. search needs)  -- compare-lines-requires
+    (λ c. search cases)  -- returns
+    )

@@ -1,0 +1,330 @@
+-- What comes of copying the parts of a form in order.
+use mathlib.Core.Path.{_≡_, refl, sym, ap, ap₂, _∙_}
+use mathlib.Core.Logic.{⊎-elim, inl, inr}
+use mathlib.Core.Bool.{Bool, true}
+use mathlib.Core.List.{List, _∷_, map}
+use Prim.Native.Nat.{ℕ, zero, suc, _+_, _*_, _≤_, _<_}
+use native.Mathlib.Omega.{arith}
+use native.Mathlib.Nat.{add-zero}
+use lib.ListN.{length, getD}
+use Rattle.meaning.specs.Names.{Name, by-name}
+use Rattle.meaning.specs.Lists.{sorted}
+use Rattle.meaning.specs.Origins.{Item}
+use Rattle.meaning.specs.Normal.{sorts-among}
+use Rattle.meaning.specs.Written.{origin-text, visible-order, hidden-order}
+use Rattle.names.specs.Word.{name-of}
+use Rattle.tables.specs.Rows.{words-from, item-of, row-at}
+use Rattle.forms.specs.declared.Form.{Form}
+use Rattle.forms.specs.Memory.{part, Same, KeptTwo}
+use Rattle.forms.specs.Forms.{names-at, items-at}
+use Rattle.forms.specs.FormLaws.{Apart, kept-wider, kept-is-two, kept-two-same, kept-two-swap, kept-two-then, names-same, items-same, row-same, tape-same}
+use Rattle.forms.specs.Blocks.{Outside}
+use Rattle.order.specs.Order.{name-in, PutInOrder}
+use Rattle.order.specs.Sorting.{below-order, every-word}
+use Rattle.order.specs.Ordered.{row-item, ordered-called}
+use Rattle.joining.specs.Joined.{copied}
+use Rattle.ordering.specs.declared.Table.{Table}
+use Rattle.ordering.specs.declared.Table.the-variants.{Visible, Sorts, Hidden, Equations}
+use Rattle.ordering.specs.Orders.{is-listed}
+use Rattle.ordering.specs.Copying.{Numbers, CopyRoom, RowsCopied, SortRoom, TableSorted, NotedRoom, TableNoted}
+use Rattle.ordering.specs.Arranged.{low-word, low-items, row-copied, each-number, visible-arranged, hidden-arranged, sorts-arranged}
+
+-- ---- names
+
+-- words that are copies of the names whose numbers stand from p on
+names-by-number : (text w w′ : List ℕ) (from to p n : ℕ) → ((i : ℕ) → i < n → getD w′ (to + i) 0 ≡ getD w (from + getD w (p + i) 0 * 1) 0)
+    → names-at text w′ to n ≡ map (name-in text w from 1) (words-from w p n)
+unfolding names-at words-from name-in
+names-by-number text w w′ from to p zero h = refl
+names-by-number text w w′ from to p (suc n) h =
+    let z : to + 0 ≡ to = add-zero to in
+    let y : p + 0 ≡ p = add-zero p in
+    let first : getD w′ to 0 ≡ getD w (from + getD w p 0 * 1) 0 =
+    ap (λ (i : ℕ). getD w′ i 0) (sym z) ∙ h 0 (omega arith) ∙ ap (λ (i : ℕ). getD w (from + getD w i 0 * 1) 0) y in
+    ap₂ (λ (x : Name) (xs : List Name). x ∷ xs) (ap (name-of text) first)
+    (names-by-number text w w′ from (to + 1) (suc p) n (λ i l.
+    let a : to + 1 + i ≡ to + suc i = omega arith in
+    let b : p + suc i ≡ suc p + i = omega arith in
+    ap (λ (k : ℕ). getD w′ k 0) a ∙ h (suc i) (omega arith) ∙ ap (λ (k : ℕ). getD w (from + getD w k 0 * 1) 0) b))
+
+pub record NamesPut (text : List ℕ) (from n order to : ℕ) (w w′ : List ℕ) : Type 0 where
+  pub names : names-at text w′ to n ≡ by-name (λ (x : Name). x) (names-at text w from n)
+  pub kept : KeptTwo to (to + n) order (order + n) w w′
+
+module _ (text : List ℕ) (from n order to : ℕ) (w u : List ℕ) (room : SortRoom (length w) 0 from n order to 1)
+    (ordered : PutInOrder text w u from 1 order n) where
+  names-numbers : Numbers u order n n
+  names-numbers = record {
+    below = λ i h. every-word (λ k. k < n) u order n i (rw (ordered .ordered .words) (below-order text u from 1 n)) h;
+  }
+
+  pub names-room : CopyRoom (length u) from n order n to 1
+  names-room = record {
+    width = room .width;
+    room = omega (arith, room .target, room .table, ordered .kept .size);
+    apart = room .apart;
+    table = inr (omega (arith, room .target));
+  }
+
+  pub names-put : (w′ : List ℕ) → RowsCopied from n order n to 1 u w′ → NamesPut text from n order to w w′
+  names-put w′ copied = record {
+    names = names-by-number text u w′ from to order n (λ i h.
+        let a : to + i ≡ to + i * 1 + 0 = omega arith in
+        let b : from + getD u (order + i) 0 * 1 + 0 ≡ from + getD u (order + i) 0 * 1 = omega arith in
+        ap (λ (k : ℕ). getD w′ k 0) a ∙ copied .rows i 0 h (names-numbers .below i h) (omega arith) ∙ ap (λ (k : ℕ). getD u k 0) b)
+        ∙ ordered-called text u from order n (ordered .ordered)
+        ∙ ap (by-name (λ (x : Name). x)) (names-same w u text from n (λ i h l. ordered .kept .below i (omega (arith, room .source))));
+    kept = kept-two-then to (to + n) order (order + n) w u w′
+        (kept-two-swap order (order + n) to (to + n) w u (kept-is-two order (order + n) to (to + n) w u (ordered .kept)))
+        (kept-is-two to (to + n) order (order + n) u w′ (kept-wider to (to + n * 1) to (to + n) u w′ (omega arith) (omega arith) (copied .kept)));
+  }
+
+-- ---- items
+
+-- row r went to the row that is noted, and stands for the same item there
+pub record ItemNoted (text : List ℕ) (t from n to notes : ℕ) (w w′ : List ℕ) (r : ℕ) : Type 0 where
+  pub inside : getD w′ (notes + r) 0 < n
+  pub same : row-item text (part w 0 t) w′ to (getD w′ (notes + r) 0) ≡ row-item text (part w 0 t) w from r
+
+pub record ItemsPut (text : List ℕ) (t : ℕ) (le : Item → Item → Bool) (from n order to notes : ℕ) (w w′ : List ℕ) : Type 0 where
+  pub items : items-at text (part w 0 t) w′ to n ≡ sorted le (items-at text (part w 0 t) w from n)
+  pub noted : (r : ℕ) → r < n → ItemNoted text t from n to notes w w′ r
+  pub kept : KeptTwo to (to + n * 16) notes (order + n) w w′
+
+-- the hidden sorts of hidden items in order
+unfoldable pub sorts-in-order : List Item → List Item
+sorts-in-order is = by-name (λ (i : Item). origin-text (i .origin)) (sorts-among is)
+
+-- the notes of an arranged table
+module _ (text : List ℕ) (t : ℕ) (table : Table) (from n order to notes m : ℕ) (w w′ : List ℕ) (source : from + n * 16 ≤ order)
+    (put : TableNoted text t table from n order to notes m w w′) (every : (i : ℕ) → is-listed (part w 0 order) table i ≡ true) where
+  items-noted : (r : ℕ) → r < n → ItemNoted text t from n to notes w w′ r
+  items-noted r h =
+      each-number text t table from n order to 16 m w w′ (put .arranged) every r h (λ i l e.
+      let p = put .noted i l in
+      let note : getD w′ (notes + r) 0 ≡ getD w′ (notes + getD w′ (order + i) 0) 0 = ap (λ (x : ℕ). getD w′ (notes + x) 0) (sym e) in
+      let x = getD w′ (notes + r) 0 in
+      let few : m ≤ n = put .arranged .few in
+      let inside : x < m = omega (arith, note, p .inside) in
+      let there : getD w′ (order + x) 0 ≡ r = ap (λ (k : ℕ). getD w′ (order + k) 0) note ∙ p .there ∙ e in
+      let row : row-at w′ (to + x * 16) ≡ row-at w (from + r * 16) =
+      row-copied text t table from n order to m w w′ source (put .arranged) x inside
+      ∙ ap (λ (k : ℕ). row-at (part w 0 order) (from + k * 16)) there
+      ∙ row-same w (part w 0 order) (from + r * 16) (λ k a b. low-word w order k (omega arith)) in
+      record { inside = omega arith; same = ap (item-of text (part w 0 t)) row })
+
+module _ (text : List ℕ) (t from n order to notes m : ℕ) (w w′ : List ℕ) (source : from + n * 16 ≤ order) where
+  pub visible-put : TableNoted text t (Visible from) from n order to notes m w w′ → ItemsPut text t visible-order from n order to notes w w′
+  unfolding is-listed
+  visible-put put = record {
+    items = visible-arranged text t from n order to m w w′ source (put .arranged);
+    noted = items-noted text t (Visible from) from n order to notes m w w′ source put (λ i. refl);
+    kept = put .kept;
+  }
+
+  pub hidden-put : (b c : ℕ) → TableNoted text t (Hidden from b c) from n order to notes m w w′
+      → ItemsPut text t (hidden-order (items-at text (part w 0 t) (part w 0 order) b c)) from n order to notes w w′
+  unfolding is-listed
+  hidden-put b c put = record {
+    items = hidden-arranged text t from n order to m w w′ source b c (put .arranged);
+    noted = items-noted text t (Hidden from b c) from n order to notes m w w′ source put (λ i. refl);
+    kept = put .kept;
+  }
+
+-- the sorts in order first, then all items by them
+pub sorts-then-items : (text : List ℕ) (t from n order to notes c m : ℕ) (w u w′ : List ℕ) → NotedRoom (length w) t from n order to notes → t ≤ to
+    → TableSorted text t (Sorts from) from n order to 16 c w u → TableNoted text t (Hidden from to c) from n order to notes m u w′
+    → ItemsPut text t (hidden-order (sorts-in-order (items-at text (part w 0 t) w from n))) from n order to notes w w′
+unfolding sorts-in-order
+sorts-then-items text t from n order to notes c m w u w′ room ht sorts put =
+    let source : from + n * 16 ≤ order = room .sorting .source in
+    let few : c ≤ n = sorts .arranged .few in
+    let target : to + n * 16 ≤ order = room .sorting .target in
+    let tapes : part u 0 t ≡ part w 0 t =
+    tape-same w u t (sorts .kept .size) (λ i h l. sorts .kept .kept i (inl (omega arith)) (inl (omega (arith, room .sorting .tape)))) in
+    let stays = kept-two-same to (to + n * 16) order (order + n) from (from + n * 16) w u (room .sorting .apart) (inl source) (sorts .kept) in
+    let items : items-at text (part w 0 t) u from n ≡ items-at text (part w 0 t) w from n = items-same w u text (part w 0 t) from n stays in
+    let ordered : items-at text (part w 0 t) (part u 0 order) to c ≡ by-name (λ (i : Item). origin-text (i .origin))
+    (sorts-among (items-at text (part w 0 t) w from n)) =
+    low-items text (part w 0 t) u order to c (omega arith) ∙ sorts-arranged text t from n order to c w u source (sorts .arranged) in
+    let hidden = hidden-put text t from n order to notes m u w′ source to c put in
+    let row : (r : ℕ) → r < n → row-item text (part w 0 t) u from r ≡ row-item text (part w 0 t) w from r =
+    λ r h. ap (item-of text (part w 0 t)) (row-same w u (from + r * 16) (λ i a b. stays i (omega arith) (omega arith))) in
+    record {
+      items = ap (λ (tape : List ℕ). items-at text tape w′ to n) (sym tapes) ∙ hidden .items
+          ∙ ap (λ (tape : List ℕ). sorted (hidden-order (items-at text tape (part u 0 order) to c)) (items-at text tape u from n)) tapes
+          ∙ ap₂ (λ (ss is : List Item). sorted (hidden-order ss) is) ordered items;
+      noted = λ r h.
+          let p = hidden .noted r h in
+          record {
+            inside = p .inside;
+            same = ap (λ (tape : List ℕ). row-item text tape w′ to (getD w′ (notes + r) 0)) (sym tapes) ∙ p .same
+                ∙ ap (λ (tape : List ℕ). row-item text tape u from r) tapes ∙ row r h;
+          };
+      kept = kept-two-then to (to + n * 16) notes (order + n) w u w′
+          (record { size = sorts .kept .size; kept = λ i h l. sorts .kept .kept i h (⊎-elim (λ q. inl (omega (arith, room .before))) (λ q. inr q) l) })
+          (put .kept);
+    }
+
+-- a part copied between memories that agree with w and w′ on what it reads and on what it writes
+module _ (text : List ℕ) (t : ℕ) (le : Item → Item → Bool) (from n order to notes : ℕ) (w u u′ w′ : List ℕ)
+    (put : ItemsPut text t le from n order to notes u u′)
+    (tapes : part u 0 t ≡ part w 0 t) (source : Same from (from + n * 16) w u) (target : Same to (to + n * 16) u′ w′)
+    (noting : Same notes (notes + n) u′ w′) where
+  pub moved-items : items-at text (part w 0 t) w′ to n ≡ sorted le (items-at text (part w 0 t) w from n)
+  moved-items =
+      items-same u′ w′ text (part w 0 t) to n target ∙ ap (λ (tape : List ℕ). items-at text tape u′ to n) (sym tapes) ∙ put .items
+      ∙ ap (λ (tape : List ℕ). sorted le (items-at text tape u from n)) tapes ∙ ap (sorted le) (items-same w u text (part w 0 t) from n source)
+
+  pub moved-noted : (r : ℕ) → r < n → ItemNoted text t from n to notes w w′ r
+  moved-noted r h =
+      let p = put .noted r h in
+      let x = getD u′ (notes + r) 0 in
+      let note : getD w′ (notes + r) 0 ≡ x = noting (notes + r) (omega arith) (omega arith) in
+      let inside : x < n = p .inside in
+      let there : row-item text (part w 0 t) w′ to x ≡ row-item text (part w 0 t) u′ to x =
+      ap (item-of text (part w 0 t)) (row-same u′ w′ (to + x * 16) (λ i a b. target i (omega arith) (omega arith))) in
+      let here : row-item text (part w 0 t) u from r ≡ row-item text (part w 0 t) w from r =
+      ap (item-of text (part w 0 t)) (row-same w u (from + r * 16) (λ i a b. source i (omega arith) (omega arith))) in
+      record {
+        inside = omega (arith, note);
+        same = ap (row-item text (part w 0 t) w′ to) note ∙ there ∙ ap (λ (tape : List ℕ). row-item text tape u′ to x) (sym tapes) ∙ p .same
+            ∙ ap (λ (tape : List ℕ). row-item text tape u from r) tapes ∙ here;
+      }
+
+-- ---- a form
+
+-- the places of k lie behind the tape, in order, with room for what f has, and apart from f; notes and order table behind all
+pub record KeepRoom (size t : ℕ) (f k : Form) (p order : ℕ) : Type 0 where
+  pub tape : t ≤ k .parameters
+  pub parameters : k .parameters + f .«parameter_count» ≤ k .visible
+  pub visible : k .visible + f .«visible_count» * 16 ≤ k .hidden
+  pub hidden : k .hidden + f .«hidden_count» * 16 ≤ k .equations
+  pub equations : k .equations + f .«equation_count» * 8 ≤ k .nodes
+  pub nodes : k .nodes + f .«node_count» ≤ p
+  pub outside : Outside (k .parameters) (k .nodes + f .«node_count») f
+  pub parameters-before : f .parameters + f .«parameter_count» ≤ p
+  pub visible-before : f .visible + f .«visible_count» * 16 ≤ p
+  pub hidden-before : f .hidden + f .«hidden_count» * 16 ≤ p
+  pub equations-before : f .equations + f .«equation_count» * 8 ≤ p
+  pub nodes-before : f .nodes + f .«node_count» ≤ p
+  pub notes : p + (f .«visible_count» + f .«hidden_count») ≤ order
+  pub room : order + (f .«parameter_count» + f .«visible_count» + f .«hidden_count» + f .«equation_count») ≤ size
+  pub small : order ≤ 1073741824
+  pub visible-few : f .«visible_count» ≤ 65536
+  pub hidden-few : f .«hidden_count» ≤ 65536
+
+-- where the order table stands: behind the notes of visible and of hidden items
+unfoldable pub order-place : Form → ℕ → ℕ
+order-place f p = p + (f .«visible_count» + f .«hidden_count»)
+
+-- and where it ends
+abbrev pub scratch-end : Form → ℕ → ℕ
+scratch-end f order = order + (f .«parameter_count» + f .«visible_count» + f .«hidden_count» + f .«equation_count»)
+
+pub record ItemsKept (text : List ℕ) (t : ℕ) (f k : Form) (p order : ℕ) (w w′ : List ℕ) : Type 0 where
+  pub names : names-at text w′ (k .parameters) (f .«parameter_count») ≡ by-name (λ (x : Name). x) (names-at text w (f .parameters) (f .«parameter_count»))
+  pub visible : items-at text (part w 0 t) w′ (k .visible) (f .«visible_count»)
+      ≡ sorted visible-order (items-at text (part w 0 t) w (f .visible) (f .«visible_count»))
+  pub visible-noted : (r : ℕ) → r < f .«visible_count» → ItemNoted text t (f .visible) (f .«visible_count») (k .visible) p w w′ r
+  pub hidden : items-at text (part w 0 t) w′ (k .hidden) (f .«hidden_count»)
+      ≡ sorted (hidden-order (sorts-in-order (items-at text (part w 0 t) w (f .hidden) (f .«hidden_count»))))
+      (items-at text (part w 0 t) w (f .hidden) (f .«hidden_count»))
+  pub hidden-noted : (r : ℕ) → r < f .«hidden_count» → ItemNoted text t (f .hidden) (f .«hidden_count») (k .hidden) (p + f .«visible_count») w w′ r
+  pub kept : KeptTwo (k .parameters) (k .equations) p (scratch-end f order) w w′
+
+-- frames of the three steps
+kept-two-wider : (a e b f a′ e′ b′ f′ : ℕ) (w w′ : List ℕ) → a′ ≤ a → e ≤ e′ → b′ ≤ b → f ≤ f′ → KeptTwo a e b f w w′ → KeptTwo a′ e′ b′ f′ w w′
+kept-two-wider a e b f a′ e′ b′ f′ w w′ h₁ h₂ h₃ h₄ k = record {
+  size = k .size;
+  kept = λ i p q.
+      k .kept i (⊎-elim (λ x. inl (omega arith)) (λ x. inr (omega arith)) p) (⊎-elim (λ x. inl (omega arith)) (λ x. inr (omega arith)) q);
+}
+
+-- a part of the form lies apart from the places of k between a and e
+part-apart : (low high a e b f : ℕ) → low ≤ a → e ≤ high → Apart low high b f → Apart a e b f
+part-apart low high a e b f h l (inl q) = inl (omega arith)
+part-apart low high a e b f h l (inr q) = inr (omega arith)
+
+module _ (text : List ℕ) (t : ℕ) (f k : Form) (p order : ℕ) (w u₁ u₂ w′ : List ℕ) (room : KeepRoom (length w) t f k p order)
+    (names : NamesPut text (f .parameters) (f .«parameter_count») order (k .parameters) w u₁)
+    (visible : ItemsPut text t visible-order (f .visible) (f .«visible_count») order (k .visible) p u₁ u₂)
+    (hidden : ItemsPut text t (hidden-order (sorts-in-order (items-at text (part u₂ 0 t) u₂ (f .hidden) (f .«hidden_count»)))) (f .hidden)
+    (f .«hidden_count») order (k .hidden) (p + f .«visible_count») u₂ w′) where
+  abbrev end : ℕ
+  end = scratch-end f order
+
+  first : KeptTwo (k .parameters) (k .equations) p end w u₁
+  first =
+      kept-two-wider (k .parameters) (k .parameters + f .«parameter_count») order (order + f .«parameter_count») (k .parameters) (k .equations) p end w u₁
+      (omega arith) (omega (arith, room .parameters, room .visible, room .hidden)) (omega (arith, room .notes)) (omega arith) (names .kept)
+
+  second : KeptTwo (k .parameters) (k .equations) p end u₁ u₂
+  second =
+      kept-two-wider (k .visible) (k .visible + f .«visible_count» * 16) p (order + f .«visible_count») (k .parameters) (k .equations) p end u₁ u₂
+      (omega (arith, room .parameters)) (omega (arith, room .visible, room .hidden)) (omega arith) (omega arith) (visible .kept)
+
+  third : KeptTwo (k .parameters) (k .equations) p end u₂ w′
+  third =
+      kept-two-wider (k .hidden) (k .hidden + f .«hidden_count» * 16) (p + f .«visible_count») (order + f .«hidden_count») (k .parameters)
+      (k .equations) p end u₂ w′
+      (omega (arith, room .parameters, room .visible)) (omega (arith, room .hidden)) (omega arith) (omega arith) (hidden .kept)
+
+  both : KeptTwo (k .parameters) (k .equations) p end w u₂
+  both = kept-two-then (k .parameters) (k .equations) p end w u₁ u₂ first second
+
+  source-stays : (b e : ℕ) (x : List ℕ) → KeptTwo (k .parameters) (k .equations) p end w x → Apart (k .parameters) (k .nodes + f .«node_count») b e → e ≤ p
+      → Same b e w x
+  source-stays b e x kept apart h =
+      kept-two-same (k .parameters) (k .equations) p end b e w x
+      (part-apart (k .parameters) (k .nodes + f .«node_count») (k .parameters) (k .equations) b e (omega arith) (omega (arith, room .equations)) apart)
+      (inl h) kept
+
+  tape-stays : (x : List ℕ) → KeptTwo (k .parameters) (k .equations) p end w x → part x 0 t ≡ part w 0 t
+  tape-stays x kept =
+      tape-same w x t (kept .size) (λ i h l. kept .kept i (inl (omega (arith, room .tape)))
+      (inl (omega (arith, room .tape, room .parameters, room .visible, room .hidden, room .equations, room .nodes))))
+
+  pub items-kept : ItemsKept text t f k p order w w′
+  items-kept =
+      let ends : k .hidden ≤ p = omega (arith, room .hidden, room .equations, room .nodes) in
+      let tapes₁ = tape-stays u₁ first in
+      let tapes₂ = tape-stays u₂ both in
+      let hidden-source = source-stays (f .hidden) (f .hidden + f .«hidden_count» * 16) u₂ both (room .outside .hidden) (room .hidden-before) in
+      let visible-source = source-stays (f .visible) (f .visible + f .«visible_count» * 16) u₁ first (room .outside .visible) (room .visible-before) in
+      let names-stay : Same (k .parameters) (k .parameters + f .«parameter_count») u₁ w′ =
+      λ i h l. hidden .kept .kept i (inl (omega (arith, room .parameters, room .visible))) (inl (omega (arith, room .parameters, room .visible)))
+      ∙ visible .kept .kept i (inl (omega (arith, room .parameters))) (inl (omega (arith, room .parameters, room .visible))) in
+      let visible-stay : Same (k .visible) (k .visible + f .«visible_count» * 16) u₂ w′ =
+      λ i h l. hidden .kept .kept i (inl (omega (arith, room .visible))) (inl (omega (arith, room .visible))) in
+      let notes-stay : Same p (p + f .«visible_count») u₂ w′ =
+      λ i h l. hidden .kept .kept i (inr (omega (arith, room .hidden, room .equations, room .nodes))) (inl (omega arith)) in
+      let same-order : hidden-order (sorts-in-order (items-at text (part u₂ 0 t) u₂ (f .hidden) (f .«hidden_count»)))
+      ≡ hidden-order (sorts-in-order (items-at text (part w 0 t) w (f .hidden) (f .«hidden_count»))) =
+      ap (λ (is : List Item). hidden-order (sorts-in-order is))
+      (ap (λ (tape : List ℕ). items-at text tape u₂ (f .hidden) (f .«hidden_count»)) tapes₂
+      ∙ items-same w u₂ text (part w 0 t) (f .hidden) (f .«hidden_count») hidden-source) in
+      record {
+        names = names-same u₁ w′ text (k .parameters) (f .«parameter_count») names-stay ∙ names .names;
+        visible = moved-items text t visible-order (f .visible) (f .«visible_count») order
+            (k .visible) p w u₁ u₂ w′ visible tapes₁ visible-source visible-stay notes-stay;
+        visible-noted = moved-noted text t visible-order (f .visible) (f .«visible_count») order
+            (k .visible) p w u₁ u₂ w′ visible tapes₁ visible-source visible-stay notes-stay;
+        hidden = moved-items text t _ (f .hidden) (f .«hidden_count») order (k .hidden) (p + f .«visible_count») w u₂ w′ w′ hidden tapes₂ hidden-source
+            (λ i h l. refl) (λ i h l. refl)
+            ∙ ap (λ (le : Item → Item → Bool). sorted le (items-at text (part w 0 t) w (f .hidden) (f .«hidden_count»))) same-order;
+        hidden-noted = moved-noted text t _ (f .hidden) (f .«hidden_count») order (k .hidden) (p + f .«visible_count») w u₂ w′ w′ hidden tapes₂ hidden-source
+            (λ i h l. refl) (λ i h l. refl);
+        kept = kept-two-then (k .parameters) (k .equations) p end w u₂ w′ both third;
+      }
+
+-- ---- equations
+
+-- the memory after the nodes of f were copied through the notes
+abbrev pub renumbered : Form → Form → ℕ → List ℕ → List ℕ
+renumbered f k p w = copied w p (p + f .«visible_count») (f .nodes + 0) (k .nodes + 0) (f .«node_count»)
+
+pub record EquationsKept (text : List ℕ) (t : ℕ) (f k : Form) (p order : ℕ) (w w′ : List ℕ) : Type 0 where
+  pub count : ℕ
+  pub sorted : TableSorted text t (Equations (k .visible) (f .equations) (k .nodes)) (f .equations) (f .«equation_count») order (k .equations) 8 count
+      (renumbered f k p w) w′

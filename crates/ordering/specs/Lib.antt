@@ -1,0 +1,10 @@
+pub mod Orders
+pub mod Sizes
+pub mod Tables
+pub mod Copying
+pub mod Arranged
+pub mod Kept
+pub mod Nodes
+pub mod Lines
+pub mod Keeps
+pub mod Sound

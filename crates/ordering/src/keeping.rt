@@ -1,0 +1,182 @@
+// A normal form copied in the order of its listing: parameters, visible items, hidden items with the hidden sorts in order first, and
+// equations, whose nodes follow their items.
+use super::Table;
+use super::copying::copy_rows;
+use super::copying::put_table;
+use super::copying::sort_rows;
+use forms::Form;
+use joining::nodes::copy_nodes;
+use order::order_names;
+ghost use mathlib.Core.Path.{_≡_};
+ghost use Prim.Native.Nat.{_+_, _*_, _≤_, _<_};
+ghost use lib.ListN.{length};
+ghost use Rattle.meaning.specs.Written.{visible-order, hidden-order};
+ghost use Rattle.forms.specs.Memory.{part};
+ghost use Rattle.forms.specs.Forms.{items-at};
+ghost use Rattle.ordering.specs.Copying.{SortRoom, NotedRoom};
+ghost use Rattle.ordering.specs.Kept.{NamesPut, ItemsPut, sorts-in-order, KeepRoom, order-place, ItemsKept, EquationsKept};
+ghost use Rattle.ordering.specs.Nodes.{kept-form};
+ghost use Rattle.ordering.specs.Keeps.{Keeps};
+
+// n names at `from`, in order, to `to`.
+fn put_names(text: &[u8], work: &mut [u32], from: u32, n: u32, order: u32, to: u32)
+    requires { ⌜ SortRoom (length (now work)) 0 from n order to 1 ⌝ }
+    ensures { λ u. ⌜ NamesPut (now (text .entry)) from n order to (now (work .entry)) (now (work .exit)) ⌝ }
+{
+    order_names(text, work, from, 1, n, order);
+    copy_rows(work, from, n, order, n, to, 1);
+}
+
+// n visible items at `from`, in order, to `to`.
+fn put_visible(
+    text: &[u8],
+    work: &mut [u32],
+    t: usize,
+    from: u32,
+    n: u32,
+    order: u32,
+    to: u32,
+    notes: u32,
+)
+    requires { ⌜ NotedRoom (length (now work)) t from n order to notes ⌝ }
+    ensures { λ u. ⌜ ItemsPut (now (text .entry)) t visible-order from n order to notes (now (work .entry)) (now (work .exit)) ⌝ }
+{
+    put_table(
+        text,
+        work,
+        t,
+        Table::Visible(from),
+        from,
+        n,
+        order,
+        to,
+        notes,
+    );
+}
+
+// n hidden items at `from`, in order, to `to`: there the sorts in order stand first, since types are written by their numbers.
+fn put_hidden(
+    text: &[u8],
+    work: &mut [u32],
+    t: usize,
+    from: u32,
+    n: u32,
+    order: u32,
+    to: u32,
+    notes: u32,
+)
+    requires { ⌜ NotedRoom (length (now work)) t from n order to notes ⌝ }
+    requires { ⌜ t ≤ to ⌝ }
+    requires { ⌜ n ≤ 1073741824 ⌝ }
+    ensures { λ u. ⌜ ItemsPut (now (text .entry)) t (hidden-order (sorts-in-order (items-at (now (text .entry)) (part (now (work .entry)) 0 t) (now (work .entry)) from n))) from n order to notes (now (work .entry)) (now (work .exit)) ⌝ }
+{
+    let m = sort_rows(text, work, t, Table::Sorts(from), from, n, order, to, 16);
+    put_table(
+        text,
+        work,
+        t,
+        Table::Hidden(from, to, m),
+        from,
+        n,
+        order,
+        to,
+        notes,
+    );
+}
+
+// The items of f in order to the places of k. Notes of where they went stand from p on, of visible items and then of hidden ones.
+fn keep_items(text: &[u8], work: &mut [u32], t: usize, f: Form, k: Form, p: u32, order: u32)
+    requires { ⌜ KeepRoom (length (now work)) t f k p order ⌝ }
+    ensures { λ u. ⌜ ItemsKept (now (text .entry)) t f k p order (now (work .entry)) (now (work .exit)) ⌝ }
+{
+    let hidden_notes = p + f.visible_count;
+    put_names(
+        text,
+        work,
+        f.parameters,
+        f.parameter_count,
+        order,
+        k.parameters,
+    );
+    put_visible(
+        text,
+        work,
+        t,
+        f.visible,
+        f.visible_count,
+        order,
+        k.visible,
+        p,
+    );
+    put_hidden(
+        text,
+        work,
+        t,
+        f.hidden,
+        f.hidden_count,
+        order,
+        k.hidden,
+        hidden_notes,
+    );
+}
+
+// The equations of f in order to the places of k, their nodes through the notes.
+fn keep_equations(text: &[u8], work: &mut [u32], t: usize, f: Form, k: Form, p: u32, order: u32)
+    requires { ⌜ KeepRoom (length (now work)) t f k p order ⌝ }
+    ensures { λ u. ⌜ EquationsKept (now (text .entry)) t f k p order (now (work .entry)) (now (work .exit)) ⌝ }
+{
+    let hidden_notes = p + f.visible_count;
+    let visible = k.visible;
+    let nodes = k.nodes;
+    let from = f.equations;
+    let n = f.equation_count;
+    copy_nodes(work, p, hidden_notes, f.nodes, 0, nodes, 0, f.node_count);
+    sort_rows(
+        text,
+        work,
+        t,
+        Table::Equations(visible, from, nodes),
+        from,
+        n,
+        order,
+        k.equations,
+        8,
+    );
+}
+
+// Where the order table stands.
+fn order_place(f: Form, p: u32) -> u32
+    requires { ⌜ p + (f .«visible_count» + f .«hidden_count») ≤ 1073741824 ⌝ }
+    ensures { λ r. ⌜ r ≡ order-place f p ⌝ }
+{
+    p + (f.visible_count + f.hidden_count)
+}
+
+// What f has, at the places of k.
+fn kept_form(f: Form, k: Form) -> Form
+    ensures { λ r. ⌜ r ≡ kept-form f k ⌝ }
+{
+    Form {
+        parameters: k.parameters,
+        parameter_count: f.parameter_count,
+        visible: k.visible,
+        visible_count: f.visible_count,
+        hidden: k.hidden,
+        hidden_count: f.hidden_count,
+        equations: k.equations,
+        equation_count: f.equation_count,
+        nodes: k.nodes,
+        node_count: f.node_count,
+    }
+}
+
+// The form f in the order of its listing, at the places of k; what is behind p is written over.
+pub fn keep_in_order(text: &[u8], work: &mut [u32], t: usize, f: Form, k: Form, p: u32) -> Form
+    requires { ⌜ KeepRoom (length (now work)) t f k p (order-place f p) ⌝ }
+    ensures { λ r. ⌜ Keeps (now (text .entry)) t f k p r (now (work .entry)) (now (work .exit)) ⌝ }
+{
+    let order = order_place(f, p);
+    keep_items(text, work, t, f, k, p, order);
+    keep_equations(text, work, t, f, k, p, order);
+    kept_form(f, k)
+}

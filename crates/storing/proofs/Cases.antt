@@ -1,0 +1,47 @@
+-- One law for each way through the code.
+use mathlib.Core.Path.{_≡_, refl}
+use mathlib.Core.List.{List}
+use Prim.Native.Nat.{ℕ, _+_, _*_}
+use borrow.Author.Needs.{needs}
+use lib.Seq.{sets}
+use Rattle.forms.specs.declared.Form.{Form}
+use Rattle.layout.specs.Layout.{table-start}
+use Rattle.keeping.specs.Keeping.{form-words}
+use Rattle.ordering.specs.Kept.{KeepRoom, order-place}
+use Rattle.ordering.specs.Keeps.{Keeps}
+use Rattle.storing.specs.Places.{place-form, scratch-start, space-small, keep-room}
+use Rattle.storing.specs.Storing.{store-done}
+
+pub is-scratch : 959584 ≡ scratch-start
+unfolding scratch-start
+is-scratch = refl
+
+pub is-placed : (f : Form) (c : ℕ) → record {
+  parameters = c;
+  «parameter_count» = f .«parameter_count»;
+  visible = c + f .«parameter_count»;
+  «visible_count» = f .«visible_count»;
+  hidden = c + f .«parameter_count» + f .«visible_count» * 16;
+  «hidden_count» = f .«hidden_count»;
+  equations = c + f .«parameter_count» + f .«visible_count» * 16 + f .«hidden_count» * 16;
+  «equation_count» = f .«equation_count»;
+  nodes = c + f .«parameter_count» + f .«visible_count» * 16 + f .«hidden_count» * 16 + f .«equation_count» * 8;
+  «node_count» = f .«node_count»;
+}
+    ≡ place-form f c
+unfolding place-form
+is-placed f c = refl
+
+pub keep-there : (size t : ℕ) (f place : Form) (c scratch : ℕ) → place ≡ place-form f c → scratch ≡ scratch-start
+    → KeepRoom size t f (place-form f c) scratch-start (order-place f scratch-start) → KeepRoom size t f place scratch (order-place f scratch)
+keep-there size t f place c scratch e d room = rw (e, d) room
+
+pub kept-there : (text : List ℕ) (t : ℕ) (f place : Form) (c scratch : ℕ) (r : Form) (w w′ : List ℕ) → place ≡ place-form f c → scratch ≡ scratch-start
+    → Keeps text t f place scratch r w w′ → Keeps text t f (place-form f c) scratch-start r w w′
+kept-there text t f place c scratch r w w′ e d keeps = rw (← e, ← d) keeps
+
+pub row-written : (w w′ : List ℕ) (table k : ℕ) (f : Form) → table ≡ table-start → w′ ≡ sets w (table + k * 16) (form-words f)
+    → w′ ≡ sets w (table-start + k * 16) (form-words f)
+row-written w w′ table k f e put = rw (← e) put
+
+pub ruleset cases = (row-written, is-scratch, is-placed, keep-there, kept-there, space-small, keep-room, store-done, needs)

@@ -1,0 +1,19 @@
+-- `storing::place_form` meets its contract. Assumes nothing.
+use Rattle.storing.proofs.Cases.{cases}
+use borrow.Author.Needs.{needs}
+use Rattle.storing.proofs.place_form.Statement.{statement}
+use Rattle.storing.proofs.place_form.Tie as tie
+
+pub place-form-spec : {M : Type 1} → statement M
+place-form-spec =
+    tie.close
+    (tie.spec
+    (λ c. search needs)  -- add-visible
+    (λ c. search needs)  -- mul-hidden
+    (λ c. search needs)  -- add-hidden
+    (λ c. search needs)  -- mul-equations
+    (λ c. search needs)  -- add-equations
+    (λ c. search needs)  -- mul-nodes
+    (λ c. search needs)  -- add-nodes
+    (λ c. search cases)  -- returns
+    )
