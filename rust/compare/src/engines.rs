@@ -1,0 +1,82 @@
+//! The two sides of a comparison, and where they differ.
+
+use crate::cases::Case;
+use reference::{asfnorm, normalise, Answer, Lent};
+use std::io::{self, Write};
+use std::process::{Command, Stdio};
+
+/// An implementation of document 01: asked name, text, length of the lent output.
+pub type Normaliser = fn(&[u8], &[u8], usize) -> Answer;
+
+pub fn reference(asked: &[u8], text: &[u8], output: usize) -> Answer {
+    normalise(asked, text, Lent::output(output))
+}
+
+/// What two implementations say of a case, where they differ.
+pub struct Difference {
+    pub reference: String,
+    pub other: String,
+}
+
+/// The reference with one word of working memory too few.
+pub fn reference_with_short_memory(asked: &[u8], text: &[u8], output: usize) -> Answer {
+    let lent = Lent {
+        work: 0,
+        work_needed: 1,
+        output,
+    };
+    normalise(asked, text, lent)
+}
+
+pub fn compare(case: &Case, one: Normaliser, other: Normaliser) -> Option<Difference> {
+    let expected = one(&case.asked, &case.text, case.output);
+    let found = other(&case.asked, &case.text, case.output);
+    (expected != found).then(|| Difference {
+        reference: told(&expected),
+        other: told(&found),
+    })
+}
+
+fn told(answer: &Answer) -> String {
+    format!(
+        "number {} modules {} module {:?} name {:?} at {}\n{}",
+        answer.number,
+        answer.modules,
+        String::from_utf8_lossy(&answer.module),
+        String::from_utf8_lossy(&answer.name),
+        answer.at,
+        String::from_utf8_lossy(&answer.listing)
+    )
+}
+
+/// The standard input of `asfnorm` for a case.
+pub fn input(case: &Case) -> Vec<u8> {
+    match &case.first_line {
+        Some(line) => [&line[..], &case.text].concat(),
+        None => [b"normalise=", &case.asked[..], b"\n", &case.text].concat(),
+    }
+}
+
+/// Runs a program on a case as `asfnorm` is run, and compares what it prints with what the reference prints.
+pub fn compare_program(case: &Case, program: &str) -> io::Result<Option<Difference>> {
+    let input = input(case);
+    let expected = asfnorm(&input);
+    let found = run(program, input)?;
+    Ok((expected != found).then(|| Difference {
+        reference: String::from_utf8_lossy(&expected).into_owned(),
+        other: String::from_utf8_lossy(&found).into_owned(),
+    }))
+}
+
+/// A program that stops reading early is not an error here: its output tells.
+fn run(program: &str, input: Vec<u8>) -> io::Result<Vec<u8>> {
+    let mut child = Command::new(program)
+        .stdin(Stdio::piped())
+        .stdout(Stdio::piped())
+        .spawn()?;
+    let mut stdin = child.stdin.take().expect("the input is piped");
+    let writer = std::thread::spawn(move || drop(stdin.write_all(&input)));
+    let output = child.wait_with_output()?;
+    drop(writer.join());
+    Ok(output.stdout)
+}

@@ -1,0 +1,17 @@
+//! Seeded specifications, good and bad, on which two implementations of document 01 are compared.
+
+pub mod aims;
+pub mod cases;
+pub mod damage;
+pub mod diamonds;
+pub mod draft;
+pub mod engines;
+pub mod generic;
+pub mod names;
+#[cfg(feature = "proved")]
+pub mod proved;
+pub mod random;
+pub mod shrink;
+pub mod sizes;
+pub mod spelling;
+pub mod view;

@@ -1,0 +1,121 @@
+//! `compare`: tallies the answers over seeds, or looks for the first seed on which two implementations differ.
+
+use compare::cases::{case, Case};
+use compare::engines::{self, Difference};
+use compare::shrink::shrink;
+use std::collections::BTreeMap;
+use std::env;
+use std::error::Error;
+use std::io::{self, Write};
+use std::process::ExitCode;
+
+const USAGE: &str = "usage:
+  compare tally COUNT [FIRST]            answers of the reference over seeds, by kind of text
+  compare program PATH COUNT [FIRST]     a program like asfnorm against the reference
+  compare proved COUNT [FIRST]           the proved library (feature `proved`) against the reference
+  compare input SEED                     the standard input of asfnorm for a seed";
+
+fn main() -> Result<ExitCode, Box<dyn Error>> {
+    let arguments: Vec<String> = env::args().skip(1).collect();
+    let words: Vec<&str> = arguments.iter().map(String::as_str).collect();
+    match words[..] {
+        ["tally", count] => tally(count.parse()?, 0),
+        ["tally", count, first] => tally(count.parse()?, first.parse()?),
+        ["program", path, count] => against_program(path, count.parse()?, 0),
+        ["program", path, count, first] => against_program(path, count.parse()?, first.parse()?),
+        ["proved", count] => against_proved(count.parse()?, 0),
+        ["proved", count, first] => against_proved(count.parse()?, first.parse()?),
+        ["input", seed] => input(seed.parse()?),
+        _ => {
+            eprintln!("{USAGE}");
+            Ok(ExitCode::FAILURE)
+        }
+    }
+}
+
+fn input(seed: u64) -> Result<ExitCode, Box<dyn Error>> {
+    io::stdout().write_all(&engines::input(&case(seed)))?;
+    Ok(ExitCode::SUCCESS)
+}
+
+/// How often each number came, for all texts and for each kind.
+fn tally(count: u64, first: u64) -> Result<ExitCode, Box<dyn Error>> {
+    let mut counts: BTreeMap<&str, [u64; 22]> = BTreeMap::new();
+    for seed in first..first + count {
+        let case = case(seed);
+        let answer = engines::reference(&case.asked, &case.text, case.output);
+        for kind in ["all", case.kind] {
+            counts.entry(kind).or_default()[answer.number as usize] += 1;
+        }
+    }
+    for (kind, numbers) in counts {
+        print!("{kind:>15}:");
+        for (number, times) in numbers.iter().enumerate() {
+            if *times > 0 {
+                print!("  {number}:{times}");
+            }
+        }
+        println!();
+    }
+    Ok(ExitCode::SUCCESS)
+}
+
+/// Looks for the first seed with a difference, and tells it with the text made as small as it goes.
+fn search(
+    count: u64,
+    first: u64,
+    differ: impl Fn(&Case) -> Option<Difference>,
+) -> Result<ExitCode, Box<dyn Error>> {
+    for seed in first..first + count {
+        let case = case(seed);
+        if differ(&case).is_some() {
+            let smallest = shrink(&case, |smaller| differ(smaller).is_some());
+            report(seed, &smallest, differ(&smallest))?;
+            return Ok(ExitCode::FAILURE);
+        }
+    }
+    println!("{count} seeds from {first}: no difference");
+    Ok(ExitCode::SUCCESS)
+}
+
+fn report(seed: u64, case: &Case, difference: Option<Difference>) -> io::Result<()> {
+    println!("seed {seed} ({}), output {}", case.kind, case.output);
+    println!("--- input, made smaller");
+    io::stdout().write_all(&engines::input(case))?;
+    if let Some(difference) = difference {
+        println!("\n--- reference\n{}", difference.reference);
+        println!("--- other\n{}", difference.other);
+    }
+    Ok(())
+}
+
+fn against_program(path: &str, count: u64, first: u64) -> Result<ExitCode, Box<dyn Error>> {
+    search(count, first, |case| {
+        engines::compare_program(case, path).unwrap_or_else(|error| {
+            Some(Difference {
+                reference: String::new(),
+                other: format!("{path}: {error}"),
+            })
+        })
+    })
+}
+
+/// With the working memory whole, and with one word too few.
+#[cfg(feature = "proved")]
+fn against_proved(count: u64, first: u64) -> Result<ExitCode, Box<dyn Error>> {
+    use compare::proved::{proved, proved_with_short_memory};
+    search(count, first, |case| {
+        engines::compare(case, engines::reference, proved).or_else(|| {
+            engines::compare(
+                case,
+                engines::reference_with_short_memory,
+                proved_with_short_memory,
+            )
+        })
+    })
+}
+
+#[cfg(not(feature = "proved"))]
+fn against_proved(_: u64, _: u64) -> Result<ExitCode, Box<dyn Error>> {
+    Err("built without the feature `proved`".into())
+}

@@ -1,0 +1,467 @@
+//! From tokens to a specification, with the sizes of a text ("The text"; the report's section 2.1).
+
+use crate::lexis::{self, Lexeme, Offence, Token};
+use crate::syntax::*;
+use crate::{NAME_BYTES, TEXT_BYTES};
+
+const MODULES: usize = 64;
+const EXPRESSIONS: usize = 16;
+const BINDINGS: usize = 4;
+const PAIRS: usize = 32;
+const CONDITIONS: usize = 8;
+const NODES: usize = 64;
+const ARGUMENTS: usize = 8;
+const OPEN_BRACKETS: usize = 15;
+
+/// Reads a whole text, or tells its leftmost offence.
+pub fn read(text: &[u8]) -> Result<Specification, Offence> {
+    if text.len() > TEXT_BYTES {
+        return Err(size(TEXT_BYTES));
+    }
+    Parser { text, place: 0 }.specification()
+}
+
+fn size(at: usize) -> Offence {
+    Offence { number: 4, at }
+}
+
+struct Parser<'t> {
+    text: &'t [u8],
+    place: usize,
+}
+
+impl Parser<'_> {
+    fn look(&self) -> Result<Lexeme, Offence> {
+        lexis::token(self.text, self.place)
+    }
+
+    fn next_is(&self, token: Token) -> Result<bool, Offence> {
+        Ok(self.look()?.token == token)
+    }
+
+    fn not_allowed<T>(&self) -> Result<T, Offence> {
+        let next = self.look()?;
+        Err(Offence {
+            number: 2,
+            at: next.start,
+        })
+    }
+
+    fn accept(&mut self, token: Token) -> Result<bool, Offence> {
+        let next = self.look()?;
+        if next.token == token {
+            self.place = next.stop;
+        }
+        Ok(next.token == token)
+    }
+
+    fn expect(&mut self, token: Token) -> Result<(), Offence> {
+        if self.accept(token)? {
+            Ok(())
+        } else {
+            self.not_allowed()
+        }
+    }
+
+    fn mark(&mut self, mark: u8) -> Result<bool, Offence> {
+        self.accept(Token::Mark(mark))
+    }
+
+    fn keyword(&mut self, keyword: &'static str) -> Result<bool, Offence> {
+        self.accept(Token::Keyword(keyword))
+    }
+
+    fn expect_keyword(&mut self, keyword: &'static str) -> Result<(), Offence> {
+        self.expect(Token::Keyword(keyword))
+    }
+
+    /// A name of any length, and its place.
+    fn long_name(&mut self) -> Result<(Name, usize), Offence> {
+        let next = self.look()?;
+        self.expect(Token::Identifier)?;
+        Ok((self.text[next.start..next.stop].to_vec(), next.start))
+    }
+
+    fn name(&mut self) -> Result<Name, Offence> {
+        let (name, at) = self.long_name()?;
+        if name.len() > NAME_BYTES {
+            return Err(size(at));
+        }
+        Ok(name)
+    }
+
+    /// The name after `end`; at one place 3 comes before 4.
+    fn closing_name(&mut self, opening: &Name) -> Result<(), Offence> {
+        let (name, at) = self.long_name()?;
+        if name != *opening {
+            return Err(Offence { number: 3, at });
+        }
+        Ok(())
+    }
+
+    /// Where a list is full, a token that may begin one more element is 4; any other is left to be told as 2.
+    fn full(&self, count: usize, limit: usize, begins: &[Token]) -> Result<(), Offence> {
+        let next = self.look()?;
+        if count == limit && begins.contains(&next.token) {
+            return Err(size(next.start));
+        }
+        Ok(())
+    }
+
+    fn specification(&mut self) -> Result<Specification, Offence> {
+        let mut specification = Specification {
+            modules: Vec::new(),
+        };
+        loop {
+            self.full(
+                specification.modules.len(),
+                MODULES,
+                &[Token::Keyword("module")],
+            )?;
+            let module = self.module(&specification)?;
+            specification.modules.push(module);
+            if self.next_is(Token::EndOfText)? {
+                return Ok(specification);
+            }
+        }
+    }
+
+    fn module(&mut self, earlier: &Specification) -> Result<Module, Offence> {
+        self.expect_keyword("module")?;
+        let at = self.look()?.start;
+        let name = self.name()?;
+        if earlier.index(&name).is_some() {
+            return Err(Offence { number: 5, at });
+        }
+        self.expect_keyword("begin")?;
+        let module = Module {
+            parameters: self.parameters()?,
+            exports: self.exports()?,
+            imports: self.imports()?,
+            hidden: self.signature()?,
+            variables: self.variables()?,
+            equations: self.equations()?,
+            name,
+        };
+        self.expect_keyword("end")?;
+        self.closing_name(&module.name)?;
+        Ok(module)
+    }
+
+    fn parameters(&mut self) -> Result<Vec<Parameter>, Offence> {
+        let mut parameters = Vec::new();
+        if self.keyword("parameters")? {
+            parameters.push(self.parameter()?);
+            while self.mark(b',')? {
+                parameters.push(self.parameter()?);
+            }
+        }
+        Ok(parameters)
+    }
+
+    fn parameter(&mut self) -> Result<Parameter, Offence> {
+        let name = self.name()?;
+        self.expect_keyword("begin")?;
+        let signature = self.signature()?;
+        self.expect_keyword("end")?;
+        self.closing_name(&name)?;
+        Ok(Parameter { name, signature })
+    }
+
+    fn exports(&mut self) -> Result<Signature, Offence> {
+        if !self.keyword("exports")? {
+            return Ok(Signature::default());
+        }
+        self.expect_keyword("begin")?;
+        let signature = self.signature()?;
+        self.expect_keyword("end")?;
+        Ok(signature)
+    }
+
+    fn signature(&mut self) -> Result<Signature, Offence> {
+        Ok(Signature {
+            sorts: self.sorts()?,
+            functions: self.functions()?,
+        })
+    }
+
+    fn sorts(&mut self) -> Result<Vec<Name>, Offence> {
+        if self.keyword("sorts")? {
+            self.names()
+        } else {
+            Ok(Vec::new())
+        }
+    }
+
+    /// One or more names, commas between.
+    fn names(&mut self) -> Result<Vec<Name>, Offence> {
+        let mut names = vec![self.name()?];
+        while self.mark(b',')? {
+            names.push(self.name()?);
+        }
+        Ok(names)
+    }
+
+    fn functions(&mut self) -> Result<Vec<FunctionDeclaration>, Offence> {
+        let mut functions = Vec::new();
+        if self.keyword("functions")? {
+            functions.push(self.function()?);
+            while self.next_is(Token::Identifier)? {
+                functions.push(self.function()?);
+            }
+        }
+        Ok(functions)
+    }
+
+    fn function(&mut self) -> Result<FunctionDeclaration, Offence> {
+        let name = self.name()?;
+        self.expect(Token::Mark(b':'))?;
+        let inputs = self.inputs()?;
+        self.expect(Token::Arrow)?;
+        let output = self.name()?;
+        Ok(FunctionDeclaration {
+            name,
+            inputs,
+            output,
+        })
+    }
+
+    fn inputs(&mut self) -> Result<Vec<Name>, Offence> {
+        let mut inputs = Vec::new();
+        if self.next_is(Token::Identifier)? {
+            inputs.push(self.name()?);
+            while self.mark(b'#')? {
+                self.full(inputs.len(), ARGUMENTS, &[Token::Identifier])?;
+                inputs.push(self.name()?);
+            }
+        }
+        Ok(inputs)
+    }
+
+    fn imports(&mut self) -> Result<Vec<Expression>, Offence> {
+        let mut expressions = Vec::new();
+        if self.keyword("imports")? {
+            expressions.push(self.expression()?);
+            while self.mark(b',')? {
+                self.full(expressions.len(), EXPRESSIONS, &[Token::Identifier])?;
+                expressions.push(self.expression()?);
+            }
+        }
+        Ok(expressions)
+    }
+
+    fn expression(&mut self) -> Result<Expression, Offence> {
+        let module = self.name()?;
+        let mut clauses = Vec::new();
+        if self.mark(b'{')? {
+            self.modifier(&mut clauses)?;
+            self.expect(Token::Mark(b'}'))?;
+        }
+        Ok(Expression { module, clauses })
+    }
+
+    /// A renaming and then bindings, or bindings and then a renaming; one of the two may be left out.
+    fn modifier(&mut self, clauses: &mut Vec<Clause>) -> Result<(), Offence> {
+        if self.keyword("renamed")? {
+            clauses.push(self.renaming()?);
+            return self.bindings(clauses);
+        }
+        if !self.next_is(Token::Identifier)? {
+            return self.not_allowed();
+        }
+        self.bindings(clauses)?;
+        if self.keyword("renamed")? {
+            clauses.push(self.renaming()?);
+        }
+        Ok(())
+    }
+
+    fn renaming(&mut self) -> Result<Clause, Offence> {
+        self.expect_keyword("by")?;
+        Ok(Clause::Renaming(self.pairs()?))
+    }
+
+    fn bindings(&mut self, clauses: &mut Vec<Clause>) -> Result<(), Offence> {
+        let mut count = 0;
+        while self.next_is(Token::Identifier)? {
+            self.full(count, BINDINGS, &[Token::Identifier])?;
+            clauses.push(Clause::Binding(self.binding()?));
+            count += 1;
+        }
+        Ok(())
+    }
+
+    fn binding(&mut self) -> Result<Binding, Offence> {
+        let parameter = self.name()?;
+        self.expect_keyword("bound")?;
+        self.expect_keyword("by")?;
+        let pairs = self.pairs()?;
+        self.expect_keyword("to")?;
+        let actual = self.name()?;
+        Ok(Binding {
+            parameter,
+            pairs,
+            actual,
+        })
+    }
+
+    fn pairs(&mut self) -> Result<Vec<Pair>, Offence> {
+        self.expect(Token::Mark(b'['))?;
+        let mut pairs = vec![self.pair()?];
+        while self.mark(b',')? {
+            self.full(pairs.len(), PAIRS, &[Token::Identifier])?;
+            pairs.push(self.pair()?);
+        }
+        self.expect(Token::Mark(b']'))?;
+        Ok(pairs)
+    }
+
+    fn pair(&mut self) -> Result<Pair, Offence> {
+        let old = self.name()?;
+        self.expect(Token::Arrow)?;
+        let new = self.name()?;
+        Ok(Pair { old, new })
+    }
+
+    fn variables(&mut self) -> Result<Vec<VariableDeclaration>, Offence> {
+        let mut variables = Vec::new();
+        if self.keyword("variables")? {
+            self.variables_of_one_sort(&mut variables)?;
+            while self.next_is(Token::Identifier)? {
+                self.variables_of_one_sort(&mut variables)?;
+            }
+        }
+        Ok(variables)
+    }
+
+    fn variables_of_one_sort(
+        &mut self,
+        variables: &mut Vec<VariableDeclaration>,
+    ) -> Result<(), Offence> {
+        let names = self.names()?;
+        self.expect(Token::Mark(b':'))?;
+        self.expect(Token::Arrow)?;
+        let sort = self.name()?;
+        for name in names {
+            let sort = sort.clone();
+            variables.push(VariableDeclaration { name, sort });
+        }
+        Ok(())
+    }
+
+    fn equations(&mut self) -> Result<Vec<EquationText>, Offence> {
+        let mut equations = Vec::new();
+        if self.keyword("equations")? {
+            equations.push(self.equation()?);
+            while self.next_is(Token::Mark(b'['))? {
+                equations.push(self.equation()?);
+            }
+        }
+        Ok(equations)
+    }
+
+    /// A tag, and an equation in one of the two source forms. Conditions before an implication are counted as they
+    /// come, before it is known that one follows.
+    fn equation(&mut self) -> Result<EquationText, Offence> {
+        self.expect(Token::Mark(b'['))?;
+        let tag = self.name()?;
+        self.expect(Token::Mark(b']'))?;
+        let mut nodes = 0;
+        let first = self.sides(&mut nodes)?;
+        if self.keyword("when")? {
+            let condition = self.sides(&mut nodes)?;
+            let conditions = self.more_sides(vec![condition], &mut nodes)?;
+            return Ok(EquationText {
+                tag,
+                conditions,
+                conclusion: first,
+            });
+        }
+        let list = self.more_sides(vec![first], &mut nodes)?;
+        if list.len() > 1 && !self.next_is(Token::Implies)? {
+            return self.not_allowed();
+        }
+        self.conclusion(tag, list, &mut nodes)
+    }
+
+    fn conclusion(
+        &mut self,
+        tag: Name,
+        mut list: Vec<Sides>,
+        nodes: &mut usize,
+    ) -> Result<EquationText, Offence> {
+        let conclusion = if self.accept(Token::Implies)? {
+            self.sides(nodes)?
+        } else {
+            list.remove(0)
+        };
+        Ok(EquationText {
+            tag,
+            conditions: list,
+            conclusion,
+        })
+    }
+
+    fn more_sides(
+        &mut self,
+        mut list: Vec<Sides>,
+        nodes: &mut usize,
+    ) -> Result<Vec<Sides>, Offence> {
+        while self.mark(b',')? {
+            self.full(
+                list.len(),
+                CONDITIONS,
+                &[Token::Identifier, Token::Mark(b'(')],
+            )?;
+            list.push(self.sides(nodes)?);
+        }
+        Ok(list)
+    }
+
+    fn sides(&mut self, nodes: &mut usize) -> Result<Sides, Offence> {
+        let left = self.term(nodes, 0)?;
+        self.expect(Token::Equals)?;
+        let right = self.term(nodes, 0)?;
+        Ok(Sides { left, right })
+    }
+
+    /// A term inside so many open brackets.
+    fn term(&mut self, nodes: &mut usize, open: usize) -> Result<TermText, Offence> {
+        if self.open_bracket(open)? {
+            let inner = self.term(nodes, open + 1)?;
+            self.expect(Token::Mark(b')'))?;
+            return Ok(inner);
+        }
+        let at = self.look()?.start;
+        let name = self.name()?;
+        *nodes += 1;
+        if *nodes > NODES {
+            return Err(size(at));
+        }
+        let arguments = if self.open_bracket(open)? {
+            self.arguments(nodes, open + 1)?
+        } else {
+            Vec::new()
+        };
+        Ok(TermText { name, arguments })
+    }
+
+    fn open_bracket(&mut self, open: usize) -> Result<bool, Offence> {
+        self.full(open, OPEN_BRACKETS, &[Token::Mark(b'(')])?;
+        self.mark(b'(')
+    }
+
+    fn arguments(&mut self, nodes: &mut usize, open: usize) -> Result<Vec<TermText>, Offence> {
+        let mut arguments = vec![self.term(nodes, open)?];
+        while self.mark(b',')? {
+            self.full(
+                arguments.len(),
+                ARGUMENTS,
+                &[Token::Identifier, Token::Mark(b'(')],
+            )?;
+            arguments.push(self.term(nodes, open)?);
+        }
+        self.expect(Token::Mark(b')'))?;
+        Ok(arguments)
+    }
+}

@@ -1,0 +1,132 @@
+//! A second normaliser for ASF: document 01 with plain values and linear lookup, no thought of speed.
+//! The proved library is compared with it, so the two share nothing but the document.
+
+mod checks;
+mod clauses;
+mod evaluate;
+mod form;
+mod grammar;
+mod lexis;
+mod listing;
+mod own;
+mod program;
+mod reader;
+pub mod syntax;
+
+pub use grammar::read;
+pub use lexis::Offence;
+pub use program::asfnorm;
+pub use reader::{next_line, Step};
+pub use syntax::Name;
+
+/// The longest text that is read ("The text", sizes).
+pub const TEXT_BYTES: usize = 32_768;
+/// The longest name ("The text", sizes).
+pub const NAME_BYTES: usize = 40;
+/// What the program `asfnorm` lends for its output ("The listing").
+pub const OUTPUT_BYTES: usize = 65_536;
+
+/// The lengths of what a caller lends. The size that the working memory must have is the library's own ("The numbers
+/// that come back", 19), so it is told here rather than known.
+#[derive(Clone, Copy, Debug)]
+pub struct Lent {
+    pub work: usize,
+    pub work_needed: usize,
+    pub output: usize,
+}
+
+impl Lent {
+    /// Enough working memory, and so many bytes of output.
+    pub fn output(output: usize) -> Lent {
+        Lent {
+            work: 0,
+            work_needed: 0,
+            output,
+        }
+    }
+}
+
+/// What comes back ("The numbers that come back"); the listing is empty unless the number is 0.
+#[derive(Clone, Debug, Default, PartialEq, Eq)]
+pub struct Answer {
+    pub number: u32,
+    pub modules: u32,
+    pub module: Name,
+    pub name: Name,
+    pub at: usize,
+    pub listing: Vec<u8>,
+}
+
+/// Normalises the asked module of a text. The order of the questions: working memory, length of the text, the text
+/// itself, the asked name, the modules, the room for the listing.
+pub fn normalise(asked: &[u8], text: &[u8], lent: Lent) -> Answer {
+    if lent.work < lent.work_needed {
+        return about_asked(19, asked);
+    }
+    let specification = match grammar::read(text) {
+        Ok(specification) => specification,
+        Err(offence) => return at_place(offence.number, offence.at),
+    };
+    let Some(index) = specification.index(asked) else {
+        let mut answer = about_asked(6, asked);
+        answer.name = answer.module.clone();
+        return answer;
+    };
+    finish(
+        evaluate::evaluate(&specification, index),
+        &specification,
+        asked,
+        lent.output,
+    )
+}
+
+fn finish(
+    evaluated: evaluate::Evaluated,
+    specification: &syntax::Specification,
+    asked: &[u8],
+    room: usize,
+) -> Answer {
+    let mut answer = match evaluated.outcome {
+        Ok(form) => {
+            let listing = listing::write(&form, specification);
+            if listing.len() > room {
+                about_asked(19, asked)
+            } else {
+                Answer {
+                    listing,
+                    ..Answer::default()
+                }
+            }
+        }
+        Err(refusal) => Answer {
+            number: refusal.number,
+            module: evaluated.last,
+            name: refusal.name,
+            ..Answer::default()
+        },
+    };
+    answer.modules = evaluated.modules;
+    answer
+}
+
+/// An answer that names the asked module; a name over 40 bytes is told as a blank.
+fn about_asked(number: u32, asked: &[u8]) -> Answer {
+    let module = if asked.len() <= NAME_BYTES {
+        asked.to_vec()
+    } else {
+        Vec::new()
+    };
+    Answer {
+        number,
+        module,
+        ..Answer::default()
+    }
+}
+
+fn at_place(number: u32, at: usize) -> Answer {
+    Answer {
+        number,
+        at,
+        ..Answer::default()
+    }
+}

@@ -1,0 +1,114 @@
+//! What a text says, as a tree ("The text").
+
+pub type Name = Vec<u8>;
+
+#[derive(Clone, Debug)]
+pub struct Specification {
+    pub modules: Vec<Module>,
+}
+
+impl Specification {
+    /// The place of a module in text order.
+    pub fn index(&self, name: &[u8]) -> Option<usize> {
+        self.modules.iter().position(|module| module.name == name)
+    }
+}
+
+#[derive(Clone, Debug, Default)]
+pub struct Module {
+    pub name: Name,
+    pub parameters: Vec<Parameter>,
+    pub exports: Signature,
+    pub imports: Vec<Expression>,
+    pub hidden: Signature,
+    pub variables: Vec<VariableDeclaration>,
+    pub equations: Vec<EquationText>,
+}
+
+#[derive(Clone, Debug)]
+pub struct Parameter {
+    pub name: Name,
+    pub signature: Signature,
+}
+
+#[derive(Clone, Debug, Default)]
+pub struct Signature {
+    pub sorts: Vec<Name>,
+    pub functions: Vec<FunctionDeclaration>,
+}
+
+#[derive(Clone, Debug, PartialEq, Eq)]
+pub struct FunctionDeclaration {
+    pub name: Name,
+    pub inputs: Vec<Name>,
+    pub output: Name,
+}
+
+#[derive(Clone, Debug)]
+pub struct VariableDeclaration {
+    pub name: Name,
+    pub sort: Name,
+}
+
+/// An import expression: a module and its clauses in the order of the text.
+#[derive(Clone, Debug)]
+pub struct Expression {
+    pub module: Name,
+    pub clauses: Vec<Clause>,
+}
+
+#[derive(Clone, Debug)]
+pub enum Clause {
+    Renaming(Vec<Pair>),
+    Binding(Binding),
+}
+
+#[derive(Clone, Debug)]
+pub struct Binding {
+    pub parameter: Name,
+    pub pairs: Vec<Pair>,
+    pub actual: Name,
+}
+
+#[derive(Clone, Debug)]
+pub struct Pair {
+    pub old: Name,
+    pub new: Name,
+}
+
+/// An equation of either source form: its conditions come first, then its conclusion.
+#[derive(Clone, Debug)]
+pub struct EquationText {
+    pub tag: Name,
+    pub conditions: Vec<Sides>,
+    pub conclusion: Sides,
+}
+
+#[derive(Clone, Debug)]
+pub struct Sides {
+    pub left: TermText,
+    pub right: TermText,
+}
+
+/// A term: a name alone, or a name with its arguments.
+#[derive(Clone, Debug)]
+pub struct TermText {
+    pub name: Name,
+    pub arguments: Vec<TermText>,
+}
+
+impl Module {
+    /// The names of modules in text order: an expression's module, then those of its bindings.
+    pub fn named_modules(&self) -> Vec<&Name> {
+        let mut names = Vec::new();
+        for expression in &self.imports {
+            names.push(&expression.module);
+            for clause in &expression.clauses {
+                if let Clause::Binding(binding) = clause {
+                    names.push(&binding.actual);
+                }
+            }
+        }
+        names
+    }
+}
