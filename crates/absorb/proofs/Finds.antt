@@ -1,16 +1,17 @@
 -- Laws of finding and placing an item, in the code's terms: the rows before i are none of them x.
-use mathlib.Core.Path.{_≡_, sym, ap₂, _∙_}
+use mathlib.Core.Path.{_≡_, refl, sym, ap₂, _∙_}
 use mathlib.Core.Logic.{inl}
 use Prim.Native.Nat.{ℕ, suc, _+_, _-_, _*_, _≤_, _<_}
-use mathlib.Core.Bool.{Bool, true, false}
+use mathlib.Core.Bool.{Bool, true, false, _&&_}
 use mathlib.Core.List.{List, [], _∷_, _++_}
 use native.Mathlib.Omega.{arith}
 use native.Mathlib.Numerals.{add-one}
-use lib.ListN.{length}
+use lib.ListN.{length, getD}
 use lib.Seq.{sets}
 use borrow.Author.Needs.{needs}
 use Rattle.meaning.specs.Lists.{pick, any, before}
-use Rattle.meaning.specs.Origins.{Item, one-item}
+use Rattle.meaning.specs.Names.{same}
+use Rattle.meaning.specs.Origins.{same-section, same-origin, same-shape, Item, one-item}
 use Rattle.meaning.specs.Checks.{in-parameter}
 use Rattle.names.specs.Word.{name-of}
 use Rattle.tables.specs.declared.Row.{Row}
@@ -23,6 +24,23 @@ use Rattle.translation.specs.declared.Mode.{Mode}
 use Rattle.absorb.specs.ListLaws.{before-within, found, none-found, union-found, union-new}
 use Rattle.absorb.specs.Absorb.{Placed, taken}
 use Rattle.absorb.specs.Turns.{Space}
+
+-- ---- `is_item`: v is the word of row i's name, and a says whether it is the name of x
+
+module _ (text tape w : List ℕ) (b i : ℕ) (x : Row) where
+  abbrev one-there : Bool
+  one-there = one-item (item-of text tape x) (item-of text tape (row-at w (b + i * 16)))
+
+  pub item-other : (v : ℕ) (a : Bool) → v ≡ getD w (b + i * 16 + 1) 0 → a ≡ same (name-of text (x .name)) (name-of text v) → a ≡ false → false ≡ one-there
+  unfolding one-item item-of row-at
+  item-other v a e f h = rw (← e, ← f, h) (go (same-section _ _) (same-shape _ _) (same-origin _ _))
+    where
+      go : (s z o : Bool) → false ≡ (s && false && z && o)
+      go true z o = refl
+      go false z o = refl
+
+  pub item-there : (y : Row) (r : Bool) → y ≡ row-at w (b + i * 16) → r ≡ one-item (item-of text tape x) (item-of text tape y) → r ≡ one-there
+  item-there y r e f = rw (← e) f
 
 -- ---- `find_item`
 
@@ -46,14 +64,13 @@ module _ (test : Item → Bool) (text tape w : List ℕ) (b n : ℕ) where
       let none : before test (items-at text tape w (b + i * 16) (n - i)) ≡ 0 = rw z in
       omega (arith, inv .comes, inv .inside)
 
-  module _ (i : ℕ) (y : Row) (r : Bool) (h : i < n) (inv : Finding test text tape w b n i) (e : y ≡ row-at w (b + i * 16))
-      (f : r ≡ test (item-of text tape y)) where
+  module _ (i : ℕ) (r : Bool) (h : i < n) (inv : Finding test text tape w b n i) (f : r ≡ test (item-of text tape (row-at w (b + i * 16)))) where
     here : before test (items-at text tape w (b + i * 16) (n - i)) ≡ pick r 0 (suc (before test (items-at text tape w (b + (i + 1) * 16) (n - (i + 1)))))
     unfolding before items-at
     here =
         let s : n - i ≡ suc (n - (i + 1)) = omega arith in
         let p : b + i * 16 + 16 ≡ b + (i + 1) * 16 = omega arith in
-        rw (s, p, ← e, ← f)
+        rw (s, p, ← f)
 
     pub find-again : r ≡ false → Finding test text tape w b n (i + 1)
     unfolding pick

@@ -1,6 +1,8 @@
 // Items of one table absorbed into another, all in one working memory: each is found there, or goes behind. A note says where each went.
 use tables::Row;
 use tables::entries::put_word;
+use tables::entries::same_word;
+use tables::entries::word_at;
 use tables::rows::read_row;
 use tables::rows::write_row;
 use tables::sorts::one_item;
@@ -8,15 +10,29 @@ use translation::Mode;
 use translation::formals::in_parameter;
 use translation::rows::moved_row;
 ghost use mathlib.Core.Path.{_≡_};
-ghost use Prim.Native.Nat.{_+_, _≤_};
+ghost use Prim.Native.Nat.{_+_, _*_, _≤_};
 ghost use lib.ListN.{length};
 ghost use Rattle.meaning.specs.Lists.{before};
 ghost use Rattle.meaning.specs.Origins.{one-item};
-ghost use Rattle.tables.specs.Rows.{item-of};
+ghost use Rattle.tables.specs.Rows.{item-of, row-at};
 ghost use Rattle.forms.specs.Memory.{part};
 ghost use Rattle.forms.specs.Forms.{items-at};
 ghost use Rattle.absorb.specs.Absorb.{Placed, Absorbed, AbsorbedWithin, taken};
 ghost use Rattle.absorb.specs.Turns.{Space, Place, Taken, TurnRoom, Turned, RoomWithin, Room};
+
+// Is row i of the table at `base` one with x? Names are compared first, and decide most: only then the row is read.
+fn is_item(text: &[u8], work: &[u32], t: usize, base: u32, i: u32, x: Row) -> bool
+    requires { ⌜ t ≤ length (now work) ⌝ }
+    ensures { λ r. ⌜ r ≡ one-item (item-of (now (text .entry)) (part (now (work .entry)) 0 t) x) (item-of (now (text .entry)) (part (now (work .entry)) 0 t) (row-at (now (work .entry)) (base + i * 16))) ⌝ }
+{
+    let name = x.name;
+    let called = word_at(work, base as usize + i as usize * 16 + 1);
+    if same_word(text, name, called) {
+        let y = read_row(work, base, i);
+        return one_item(text, &work[0..t], x, y);
+    }
+    false
+}
 
 // The first of n rows that is one with x; n if there is none.
 pub fn find_item(text: &[u8], work: &[u32], t: usize, base: u32, n: u32, x: Row) -> u32
@@ -25,8 +41,7 @@ pub fn find_item(text: &[u8], work: &[u32], t: usize, base: u32, n: u32, x: Row)
 {
     let mut i = 0;
     while i < n {
-        let y = read_row(work, base, i);
-        if one_item(text, &work[0..t], x, y) {
+        if is_item(text, work, t, base, i, x) {
             return i;
         }
         i += 1;

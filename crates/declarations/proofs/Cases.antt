@@ -1,6 +1,6 @@
 -- The ways through the code, one law each: b, r, v and x are callees' answers.
-use mathlib.Core.Path.{_≡_, sym, _∙_}
-use mathlib.Core.Bool.{Bool, true, false}
+use mathlib.Core.Path.{_≡_, refl, sym, ap, _∙_}
+use mathlib.Core.Bool.{Bool, true, false, false≢true}
 use mathlib.Core.List.{List}
 use Prim.Native.Nat.{ℕ, zero, suc, _+_, _-_, _*_, _/_, _%_, _<_, _≤_}
 use lib.ListN.{getD}
@@ -14,16 +14,18 @@ use lib.Dec.{eqb, ltb}
 use Rattle.meaning.specs.Lists.{pick}
 use Rattle.meaning.specs.Names.{Name, same}
 use Rattle.meaning.specs.Origins as meant
-use Rattle.meaning.specs.Origins.{same-declared, visible-sort}
+use Rattle.meaning.specs.OrderLaws.{same-self}
+use Rattle.meaning.specs.Origins.{Declared, declared-sort, declared-function, declared-variable, same-declared, visible-sort}
 use Rattle.meaning.specs.Checks.{Check, _>>_}
 use Rattle.names.specs.Word.{name-of}
-use Rattle.tables.specs.Entries.{role-at, word-at, name-at, last-with, is-parameter-role, declared-at}
+use Rattle.tables.specs.Entries.{role-at, word-at, name-at, last-with, is-function-role, is-parameter-role, declared-at}
 use Rattle.tables.specs.Rows.{hidden-origin, sort-of}
+use Rattle.tables.specs.Decides.{declared-decided}
 use Rattle.forms.specs.declared.Verdict.{Verdict}
 use Rattle.forms.specs.declared.Verdict.the-variants.{Fine, Stop}
 use Rattle.forms.specs.Verdicts.{told}
 use Rattle.declarations.specs.Scans.{found, walked, first-of}
-use Rattle.declarations.specs.Sorts.{is-named, is-row, place-of, declares-seen, hidden-place, is-seen, is-inside, resolved-in}
+use Rattle.declarations.specs.Sorts.{is-named, is-row, place-of, declares-at, declares-seen, hidden-place, is-seen, is-inside, resolved-in}
 use Rattle.declarations.specs.declared.Own.{Own}
 use Rattle.declarations.specs.Once.{is-declaring, repeats, section-start, is-repeat, once-at}
 
@@ -77,10 +79,41 @@ pub declaring-high : (r : ℕ) → 2 ≤ r → ltb r 9 ≡ is-declaring r
 unfolding is-declaring pick
 declaring-high r h = rw (le-ltb r 2 h)
 
+-- what is declared is called as its entry says, so that declarations of two names are two
+unfoldable called : Declared → Name
+called (declared-sort a) = a
+called (declared-function f i o) = f
+called (declared-variable v s) = v
+
+called-at : (text tape : List ℕ) (d : ℕ) → called (declared-at text tape d) ≡ name-at text tape d
+unfolding called declared-at pick
+called-at text tape d = go _ _ _ refl refl refl (is-function-role (role-at tape d)) (eqb (role-at tape d) 17)
+  where
+    go : (f v s : Declared) → called f ≡ name-at text tape d → called v ≡ name-at text tape d → called s ≡ name-at text tape d
+        → (b c : Bool) → called (pick b f (pick c v s)) ≡ name-at text tape d
+    go f v s p q r true c = p
+    go f v s p q r false true = q
+    go f v s p q r false false = r
+
+declared-apart : (text tape : List ℕ) (d e : ℕ) → same (name-at text tape d) (name-at text tape e) ≡ false
+    → same-declared (declared-at text tape d) (declared-at text tape e) ≡ false
+declared-apart text tape d e h = go (same-declared (declared-at text tape d) (declared-at text tape e)) refl
+  where
+    go : (b : Bool) → same-declared (declared-at text tape d) (declared-at text tape e) ≡ b → b ≡ false
+    go true q =
+        let one = declared-decided .equal (declared-at text tape d) (declared-at text tape e) q in
+        let names : name-at text tape d ≡ name-at text tape e = sym (called-at text tape d) ∙ ap called one ∙ called-at text tape e in
+        absurd (false≢true (sym h ∙ rw names (same-self (name-at text tape e))))
+    go false q = refl
+
 module _ (text tape : List ℕ) (i j r s : ℕ) (e : r ≡ role-at tape i) (f : s ≡ role-at tape j) where
   pub repeats-told : (b : Bool) → r ≡ s → b ≡ same-declared (declared-at text tape i) (declared-at text tape j) → b ≡ repeats text tape i j
   unfolding repeats pick
   repeats-told b h g = rw (← e, ← f, eq-eqb r s h) g
+
+  pub repeats-other : (p : Bool) → r ≡ s → p ≡ same (name-at text tape i) (name-at text tape j) → p ≡ false → false ≡ repeats text tape i j
+  unfolding repeats pick
+  repeats-other p h g q = rw (← e, ← f, eq-eqb r s h) (sym (declared-apart text tape i j (sym g ∙ q)))
 
   pub repeats-not : (r ≡ s → ⊥) → false ≡ repeats text tape i j
   unfolding repeats pick
@@ -158,20 +191,49 @@ module _ (text m : List ℕ) (b kind : ℕ) (w i r : ℕ) (e : r ≡ getD m (b +
   unfolding is-row pick
   row-not q = rw (← e, ne-eqb r kind q)
 
+-- a place is found before the end where one of them passes; and one that passes one of two tests, where either is passed
+first-found : (p : ℕ → Bool) (i c e : ℕ) → e - i ≡ c → ltb (first-of p i c) e ≡ found p i c
+unfolding first-of found pick
+first-found p i zero e h = le-ltb i e (omega arith)
+first-found p i (suc c) e h = go (p i) (first-found p (suc i) c e (omega arith))
+  where
+    go : (b : Bool) → ltb (first-of p (suc i) c) e ≡ found p (suc i) c → ltb (pick b i (first-of p (suc i) c)) e ≡ pick b true (found p (suc i) c)
+    go true r = lt-ltb i e (omega arith)
+    go false r = r
+
+found-either : (p q both : ℕ → Bool) → ((i : ℕ) → both i ≡ pick (p i) true (q i)) → (i c : ℕ) → pick (found p i c) true (found q i c) ≡ found both i c
+unfolding found pick
+found-either p q both h i zero = refl
+found-either p q both h i (suc c) = rw (h i, ← found-either p q both h (suc i) c) (go (p i) (q i) (found p (suc i) c) (found q (suc i) c))
+  where
+    go : (a b x y : Bool) → pick (pick a true x) true (pick b true y) ≡ pick (pick a true b) true (pick x true y)
+    go true b x y = refl
+    go false true true y = refl
+    go false true false y = refl
+    go false false x y = refl
+
+pub declares-told : (text tape : List ℕ) (own : Own) (n : Name) (r : Bool) → r ≡ found (declares-at text tape n) (own .from) (own .end - own .from)
+    → r ≡ declares-seen text tape own n
+unfolding declares-seen declares-at place-of
+declares-told text tape own n r h =
+    let a = own .from in
+    let c = own .end - own .from in
+    rw (first-found (is-named text tape 3 n) a c (own .end) refl, first-found (is-named text tape 5 n) a c (own .end) refl)
+    (h ∙ sym (found-either (is-named text tape 3 n) (is-named text tape 5 n) (declares-at text tape n) (λ i. refl) a c))
+
+module _ (text tape : List ℕ) (n : Name) (i : ℕ) (a : Bool) (e : a ≡ is-named text tape 3 n i) where
+  pub declares-parameter : a ≡ true → true ≡ declares-at text tape n i
+  unfolding declares-at pick
+  declares-parameter h = rw (← e, h)
+
+  pub declares-export : (b : Bool) → a ≡ false → b ≡ is-named text tape 5 n i → b ≡ declares-at text tape n i
+  unfolding declares-at pick
+  declares-export b h f = rw (← e, h) f
+
 module _ (text tape : List ℕ) (own : Own) (w x : ℕ) where
   pub hidden-found : x ≡ first-of (is-named text tape 7 (name-of text w)) (own .from) (own .end - own .from) → x ≡ hidden-place text tape own (name-of text w)
   unfolding hidden-place place-of
   hidden-found e = e
-
-  module _ (e : x ≡ first-of (is-named text tape 3 (name-of text w)) (own .from) (own .end - own .from)) where
-    pub seen-parameter : x < own .end → true ≡ declares-seen text tape own (name-of text w)
-    unfolding declares-seen place-of pick
-    seen-parameter h = rw (← e, lt-ltb x (own .end) h)
-
-    pub seen-export : (y : ℕ) → own .end ≤ x → y ≡ first-of (is-named text tape 5 (name-of text w)) (own .from) (own .end - own .from)
-        → ltb y (own .end) ≡ declares-seen text tape own (name-of text w)
-    unfolding declares-seen place-of pick
-    seen-export y h f = rw (← e, le-ltb x (own .end) h, ← f)
 
 module _ (text tape m : List ℕ) (own : Own) (n : Name) (b : Bool) where
   module _ (e : b ≡ found (is-row text m (own .rows) 0 n) 0 (own .count)) where
@@ -183,14 +245,22 @@ module _ (text tape m : List ℕ) (own : Own) (n : Name) (b : Bool) where
     unfolding is-seen pick
     seen-declared c q f = rw (← e, q) f
 
-  module _ (e : b ≡ is-seen text tape m own n) where
-    pub inside-seen : b ≡ true → true ≡ is-inside text tape m own n
-    unfolding is-inside pick
-    inside-seen q = rw (← e, q)
+module _ (text tape m : List ℕ) (own : Own) (n : Name) (d : ℕ) (e : d ≡ hidden-place text tape own n) where
+  pub inside-hidden : d < own .end → true ≡ is-inside text tape m own n
+  unfolding is-inside pick
+  inside-hidden h = rw (← e, lt-ltb d (own .end) h) (go (is-seen text tape m own n))
+    where
+      go : (b : Bool) → true ≡ pick b true true
+      go true = refl
+      go false = refl
 
-    pub inside-hidden : (d : ℕ) → b ≡ false → d ≡ hidden-place text tape own n → ltb d (own .end) ≡ is-inside text tape m own n
-    unfolding is-inside pick
-    inside-hidden d q f = rw (← e, q, ← f)
+  pub inside-seen : (b : Bool) → own .end ≤ d → b ≡ is-seen text tape m own n → b ≡ is-inside text tape m own n
+  unfolding is-inside pick
+  inside-seen b h f = rw (← e, le-ltb d (own .end) h, ← f) (go b)
+    where
+      go : (b : Bool) → b ≡ pick b true false
+      go true = refl
+      go false = refl
 
 -- a visible sort's word, and a hidden one's
 sort-visible : (text tape : List ℕ) (w : ℕ) → sort-of text tape (w * 2) ≡ visible-sort (name-of text w)
@@ -225,4 +295,4 @@ pub resolved-there : (text tape m : List ℕ) (own : Own) (i x r : ℕ) → x �
     → sort-of text tape r ≡ resolved-in text tape m own (name-of text (x / 32)) → sort-of text tape r ≡ resolved-in text tape m own (name-at text tape i)
 resolved-there text tape m own i x r e h = rw (← e) h
 
-pub ruleset cases = (on, done, found-none, found-here, found-on, walked-all, walked-on, walked-stop, declaring-low, declaring-high, repeats-told, repeats-not, last-fits, start-parameter, start-module, once-other, once-first, once-again, first-none, first-here, first-on, found-start, named-there, named-not, row-there, row-not, hidden-found, seen-parameter, seen-export, seen-imported, seen-declared, inside-seen, inside-hidden, resolved-seen, resolved-hidden, resolved-other, resolved-there, needs)
+pub ruleset cases = (on, done, found-none, found-here, found-on, walked-all, walked-on, walked-stop, declaring-low, declaring-high, repeats-told, repeats-other, repeats-not, last-fits, start-parameter, start-module, once-other, once-first, once-again, first-none, first-here, first-on, found-start, named-there, named-not, row-there, row-not, hidden-found, declares-told, declares-parameter, declares-export, seen-imported, seen-declared, inside-seen, inside-hidden, resolved-seen, resolved-hidden, resolved-other, resolved-there, needs)

@@ -37,6 +37,10 @@ unfoldable pub declares-seen : List ℕ → List ℕ → Own → Name → Bool
 declares-seen text tape own n =
     pick (ltb (place-of text tape own parameter-sort n) (own .end)) true (ltb (place-of text tape own export-sort n) (own .end))
 
+-- the entry at i declares a sort of the name, in a parameter or in the exports
+unfoldable pub declares-at : List ℕ → List ℕ → Name → ℕ → Bool
+declares-at text tape n i = pick (is-named text tape parameter-sort n i) true (is-named text tape export-sort n i)
+
 unfoldable pub hidden-place : List ℕ → List ℕ → Own → Name → ℕ
 hidden-place text tape own n = place-of text tape own hidden-sort n
 

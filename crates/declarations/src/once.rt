@@ -5,6 +5,7 @@ use tables::entries::is_parameter_role;
 use tables::entries::last_with;
 use tables::entries::name_at;
 use tables::entries::role_at;
+use tables::entries::same_name_at;
 ghost use mathlib.Core.Path.{_≡_};
 ghost use Prim.Native.Nat.{_-_};
 ghost use Rattle.forms.specs.Verdicts.{told};
@@ -21,12 +22,15 @@ fn is_declaring(role: u32) -> bool
     role < 9
 }
 
-// Says the declaration at i what the one at j says, with the same role?
+// Says the declaration at i what the one at j says, with the same role? Names are compared first: they decide most.
 fn repeats(text: &[u8], tape: &[u32], i: u32, j: u32) -> bool
     ensures { λ r. ⌜ r ≡ repeats (now (text .entry)) (now (tape .entry)) i j ⌝ }
 {
     if role_at(tape, i as usize) == role_at(tape, j as usize) {
-        return same_declared(text, tape, i, j);
+        if same_name_at(text, tape, i as usize, j as usize) {
+            return same_declared(text, tape, i, j);
+        }
+        return false;
     }
     false
 }

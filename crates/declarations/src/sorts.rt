@@ -12,7 +12,7 @@ ghost use Rattle.tables.specs.Rows.{sort-of};
 ghost use Rattle.tables.specs.Entries.{name-at};
 ghost use Rattle.forms.specs.Memory.{part};
 ghost use Rattle.declarations.specs.Scans.{found, first-of};
-ghost use Rattle.declarations.specs.Sorts.{is-named, is-row, declares-seen, hidden-place, is-seen, is-inside, resolved-in, Ready};
+ghost use Rattle.declarations.specs.Sorts.{is-named, is-row, declares-at, declares-seen, hidden-place, is-seen, is-inside, resolved-in, Ready};
 
 // Has the entry at i the role and the name w?
 fn is_named(text: &[u8], tape: &[u32], role: u32, w: u32, i: u32) -> bool
@@ -69,16 +69,37 @@ pub fn has_row(text: &[u8], work: &[u32], b: u32, n: u32, kind: u32, w: u32) -> 
     false
 }
 
-// Does a parameter or the exports declare a sort called w?
+// Does the entry at i declare a sort called w, in a parameter or in the exports?
+fn declares_at(text: &[u8], tape: &[u32], w: u32, i: u32) -> bool
+    ensures { λ r. ⌜ r ≡ declares-at (now (text .entry)) (now (tape .entry)) (name-of (now (text .entry)) w) i ⌝ }
+{
+    if is_named(text, tape, 3, w, i) {
+        return true;
+    }
+    is_named(text, tape, 5, w, i)
+}
+
+// Does one of the entries from a up to e?
+fn declares_one(text: &[u8], tape: &[u32], w: u32, a: u32, e: u32) -> bool
+    ensures { λ r. ⌜ r ≡ found (declares-at (now (text .entry)) (now (tape .entry)) (name-of (now (text .entry)) w)) a (e - a) ⌝ }
+{
+    let mut i = a;
+    while i < e {
+        if declares_at(text, tape, w, i) {
+            return true;
+        }
+        i += 1;
+    }
+    false
+}
+
+// Does a parameter or the exports declare a sort called w? One walk over the entries tells of both.
 fn declares_seen(text: &[u8], tape: &[u32], own: Own, w: u32) -> bool
     ensures { λ r. ⌜ r ≡ declares-seen (now (text .entry)) (now (tape .entry)) own (name-of (now (text .entry)) w) ⌝ }
 {
     let from = own.from;
     let end = own.end;
-    if first_named(text, tape, 3, w, from, end) < end {
-        return true;
-    }
-    first_named(text, tape, 5, w, from, end) < end
+    declares_one(text, tape, w, from, end)
 }
 
 // Where the hidden sort called w is declared; not before the end of the entries if it is not.
@@ -103,16 +124,17 @@ pub fn is_seen(text: &[u8], work: &[u32], t: usize, own: Own, w: u32) -> bool
     declares_seen(text, &work[0..t], own, w)
 }
 
-// Is a visible sort or the module's hidden sort called w?
+// Is a visible sort or the module's hidden sort called w? The hidden ones are looked at first here, and last where the sort is resolved: so no
+// sort costs a whole walk both times.
 pub fn is_inside(text: &[u8], work: &[u32], t: usize, own: Own, w: u32) -> bool
     requires { ⌜ Ready (now work) t own ⌝ }
     ensures { λ r. ⌜ r ≡ is-inside (now (text .entry)) (part (now (work .entry)) 0 t) (now (work .entry)) own (name-of (now (text .entry)) w) ⌝ }
 {
-    if is_seen(text, work, t, own, w) {
+    let end = own.end;
+    if hidden_place(text, &work[0..t], own, w) < end {
         return true;
     }
-    let end = own.end;
-    hidden_place(text, &work[0..t], own, w) < end
+    is_seen(text, work, t, own, w)
 }
 
 // The sort that the module's text means by w, as a word.

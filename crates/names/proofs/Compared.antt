@@ -2,16 +2,16 @@
 use mathlib.Core.Path.{_≡_, refl, sym, ap}
 use mathlib.Core.Bool.{Bool, true, false, false≢true}
 use mathlib.Core.List.{List, [], _∷_}
-use Prim.Native.Nat.{ℕ, suc, _+_, _-_, _<_, _≤_}
+use Prim.Native.Nat.{ℕ, suc, _+_, _<_, _≤_}
 use native.Mathlib.Omega.{arith}
-use native.Mathlib.Nat.{sub-zero}
 use native.Mathlib.Numerals.{add-one}
 use lib.Dec.{eqb, ltb, leb}
-use lib.ListN.{length, getD, take, drop, drop-of-length-le}
+use lib.ListN.{length, getD, drop, drop-of-length-le}
 use lib.Seq.{drop-cons}
 use borrow.Author.Tests.{eq-eqb, ne-eqb, le-leb, lt-leb}
 use Rattle.meaning.specs.Lists.{pick}
 use Rattle.meaning.specs.Names.{same, not-after}
+use Rattle.meaning.specs.OrderLaws.{same-self}
 use Rattle.names.specs.Word.{name-of, compared}
 
 same-length : (a b : List ℕ) → (length a ≡ length b → ⊥) → same a b ≡ false
@@ -91,14 +91,9 @@ same-not-after (b ∷ x) (c ∷ y) h = go (eqb b c) h (same-not-after x y)
     go true e rest = rest e
     go false e rest = absurd (false≢true e)
 
-pub same-told : (x y : List ℕ) (k : ℕ) → k ≡ compared x y → eqb k 1 ≡ same x y
-unfolding compared pick
-same-told x y k h = rw h (go (same x y) (not-after x y))
-  where
-    go : (s n : Bool) → eqb (pick s 1 (pick n 0 2)) 1 ≡ s
-    go true n = refl
-    go false true = refl
-    go false false = refl
+-- one word is one name
+pub same-words : (text : List ℕ) (a b : ℕ) → a ≡ b → true ≡ same (name-of text a) (name-of text b)
+same-words text a b h = rw h (sym (same-self (name-of text b)))
 
 pub not-after-told : (x y : List ℕ) (k : ℕ) → k ≡ compared x y → ltb k 2 ≡ not-after x y
 unfolding compared pick
@@ -108,8 +103,3 @@ not-after-told x y k h = rw h (go (same x y) (not-after x y) (same-not-after x y
     go true n e = sym (e refl)
     go false true e = refl
     go false false e = refl
-
--- of two copies that begin with the names
-pub compared-copies : (text x y : List ℕ) (a b n m k : ℕ) → take (length (name-of text a)) x ≡ name-of text a → take (length (name-of text b)) y ≡ name-of text b
-    → n ≡ length (name-of text a) → m ≡ length (name-of text b) → k ≡ compared (take (n - 0) x) (take (m - 0) y) → k ≡ compared (name-of text a) (name-of text b)
-compared-copies text x y a b n m k p q u v e = rw (sub-zero n, sub-zero m, u, v, p, q) at e

@@ -4,15 +4,14 @@ use mathlib.Core.Bool.{Bool, true, false}
 use mathlib.Core.List.{List}
 use Prim.Native.Nat.{ℕ, _+_, _-_, _*_, _/_, _%_, _^_, _<_, _≤_, min}
 use native.Mathlib.Omega.{arith}
-use native.Mathlib.Numerals.{add-one}
 use lib.Dec.{leb}
-use lib.ListN.{length, getD, take, drop, set, drop-of-length-le, length-drop, length-take, length-set}
-use lib.Seq.{take-all, take-length, take-suc, take-suc-set, getD-take, getD-drop}
+use lib.ListN.{length, take, drop, drop-of-length-le, length-drop, length-take}
+use lib.Seq.{take-all, take-length}
 use borrow.Author.Tests.{leb-true, leb-false}
 use mir.Syntax.{w64}
 use mir.Val.{Fits}
 use Rattle.meaning.specs.Names.{same}
-use Rattle.names.specs.Word.{name-of}
+use Rattle.names.specs.Word.{name-of, compared}
 
 -- as many as there are
 take-most : (k : ℕ) (xs : List ℕ) → take (length (take k xs)) xs ≡ take k xs
@@ -62,50 +61,19 @@ module _ (text : List ℕ) (w start : ℕ) (s : start ≡ min (w / 64) (length t
     unfolding name-of
     name-part = rw (e, s, drop-most) (take-most (min (w % 64) 40) (drop (w / 64) text))
 
-    pub called-part : (asked : List ℕ) (r : Bool) → r ≡ same (take (start + n - start) (drop start text)) asked → r ≡ same (name-of text w) asked
-    called-part asked r h =
+    name-between : take (start + n - start) (drop start text) ≡ name-of text w
+    name-between =
         let m : start + n - start ≡ n = omega arith in
-        rw (m, name-part) at h
+        rw (m, name-part)
 
--- ---- the copy of a name: i bytes of it are there
+    pub called-part : (asked : List ℕ) (r : Bool) → r ≡ same (take (start + n - start) (drop start text)) asked → r ≡ same (name-of text w) asked
+    called-part asked r h = rw name-between at h
 
-pub record Copying (text : List ℕ) (w n : ℕ) (copy : List ℕ) (i : ℕ) : Type 0 where
-  room : length copy ≡ 40
-  within : i ≤ n
-  begun : take i copy ≡ take i (name-of text w)
+-- two names where they stand in the text: a from x on, of n bytes, and b from y on, of m bytes
+module _ (text : List ℕ) (a b x y n m : ℕ) (s : x ≡ min (a / 64) (length text)) (t : y ≡ min (b / 64) (length text))
+    (e : n ≡ length (name-of text a)) (f : m ≡ length (name-of text b)) where
+  pub compared-parts : (k : ℕ) → k ≡ compared (take (x + n - x) (drop x text)) (take (y + m - y) (drop y text)) → k ≡ compared (name-of text a) (name-of text b)
+  compared-parts k h = rw (name-between text a x s n e, name-between text b y t m f) at h
 
-pub copy-none : (text : List ℕ) (w n : ℕ) (copy : List ℕ) → length copy ≡ 40 → Copying text w n copy 0
-copy-none text w n copy l = record { room = l; within = omega arith; begun = refl }
-
-module _ (text : List ℕ) (w start n : ℕ) (copy : List ℕ) (i : ℕ) (s : start ≡ min (w / 64) (length text)) (e : n ≡ length (name-of text w))
-    (h : Copying text w n copy i) (l : i < n) where
-  pub copy-fits : length text * 1 < 2 ^ 63 → Fits w64 (start + i)
-  copy-fits m = omega (arith, name-within text w start s n e)
-
-  pub copy-reads : start + i < length text
-  copy-reads = omega (arith, name-within text w start s n e)
-
-  pub copy-room : i < 40
-  copy-room = omega (arith, name-short text w n e)
-
-  byte-of : getD (name-of text w) i 0 ≡ getD text (start + i) 0
-  byte-of = rw (← name-part text w start s n e, getD-take n (drop start text) i 0 l) (getD-drop start text i 0)
-
-  pub copy-on : (after : List ℕ) → after ≡ set copy i (getD text (start + i) 0) → Copying text w n after (i + 1)
-  copy-on after q =
-      let c : i < length copy = omega (arith, h .room, copy-room) in
-      let d : i < length (name-of text w) = omega arith in
-      record {
-        room = rw (q, length-set) (h .room);
-        within = omega arith;
-        begun = rw (q, add-one, take-suc-set copy i (getD text (start + i) 0) c, take-suc (name-of text w) i 0 d, h .begun, byte-of);
-      }
-
-pub copy-done : (text : List ℕ) (w n : ℕ) (copy : List ℕ) (i : ℕ) → n ≡ length (name-of text w) → Copying text w n copy i → n ≤ i
-    → take (length (name-of text w)) copy ≡ name-of text w
-copy-done text w n copy i e h l =
-    let k : i ≡ length (name-of text w) = omega (arith, h .within) in
-    (rw k at (h .begun)) ∙ take-length (name-of text w)
-
-pub copy-long : (text : List ℕ) (w n : ℕ) (copy : List ℕ) → n ≡ length (name-of text w) → take (length (name-of text w)) copy ≡ name-of text w → n ≤ length copy
-copy-long text w n copy e h = omega (arith, length-take (length (name-of text w)) copy, ap length h)
+  pub same-parts : (r : Bool) → r ≡ same (take (x + n - x) (drop x text)) (take (y + m - y) (drop y text)) → r ≡ same (name-of text a) (name-of text b)
+  same-parts r h = rw (name-between text a x s n e, name-between text b y t m f) at h

@@ -2,7 +2,7 @@
 // A name is one word: the place where it starts times 64, and its length.
 ghost use mathlib.Core.Path.{_≡_};
 ghost use Prim.Native.Nat.{_/_, min};
-ghost use lib.ListN.{length, getD, take};
+ghost use lib.ListN.{length, getD};
 ghost use Rattle.meaning.specs.Names.{same, not-after};
 ghost use Rattle.meaning.specs.Tokens.{is-word, run-end, at-hyphen, at-word};
 ghost use Rattle.names.specs.Word.{name-of, compared};
@@ -122,37 +122,29 @@ fn name_length(text: &[u8], w: u32) -> usize
     lesser(lesser((w % 64) as usize, 40), left)
 }
 
-// An array that begins with the bytes of the name w.
-fn copied(text: &[u8], w: u32) -> [u8; 40]
-    ensures { λ r. ⌜ take (length (name-of (now (text .entry)) w)) r ≡ name-of (now (text .entry)) w ⌝ }
-{
-    let start = name_start(text, w);
-    let n = name_length(text, w);
-    let mut copy = [0; 40];
-    let mut i = 0;
-    while i < n {
-        copy[i] = text[start + i];
-        i += 1;
-    }
-    copy
-}
-
-// 1 if a and b are the same name, 0 if a comes first, 2 if b does. Both are copied and compared there.
+// 1 if a and b are the same name, 0 if a comes first, 2 if b does. They are compared where they stand in the text.
 pub fn compare(text: &[u8], a: u32, b: u32) -> u8
     ensures { λ r. ⌜ r ≡ compared (name-of (now (text .entry)) a) (name-of (now (text .entry)) b) ⌝ }
 {
-    let x = copied(text, a);
-    let y = copied(text, b);
-    let n = name_length(text, a);
-    let m = name_length(text, b);
-    compare_bytes(&x[0..n], &y[0..m])
+    let x = name_start(text, a);
+    let y = name_start(text, b);
+    let n = x + name_length(text, a);
+    let m = y + name_length(text, b);
+    compare_bytes(&text[x..n], &text[y..m])
 }
 
-// Are a and b the same name?
+// Are a and b the same name? One word is one name, with no look at the text.
 pub fn same_name(text: &[u8], a: u32, b: u32) -> bool
     ensures { λ r. ⌜ r ≡ same (name-of (now (text .entry)) a) (name-of (now (text .entry)) b) ⌝ }
 {
-    compare(text, a, b) == 1
+    if a == b {
+        return true;
+    }
+    let x = name_start(text, a);
+    let y = name_start(text, b);
+    let n = x + name_length(text, a);
+    let m = y + name_length(text, b);
+    same_bytes(&text[x..n], &text[y..m])
 }
 
 // Are a and b the same name, or does a come first?

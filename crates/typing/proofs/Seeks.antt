@@ -32,11 +32,11 @@ is-variable-kind text tape (suc k) sorts = rw (eqb·suc-zero k) (go (eqb (suc k)
     go false = refl
 
 module _ (text tape : List ℕ) (a : ℕ) (x : Row) (b : Bool) (e : b ≡ same (name-of text a) (name-of text (x .name))) where
-  pub variable-other : b ≡ false → false ≡ variable-called (name-of text a) (item-of text tape x)
+  variable-other : b ≡ false → false ≡ variable-called (name-of text a) (item-of text tape x)
   unfolding variable-called item-of is-called
   variable-other h = rw (← e, h)
 
-  pub variable-told : b ≡ true → eqb (x .kind) 1 ≡ variable-called (name-of text a) (item-of text tape x)
+  variable-told : b ≡ true → eqb (x .kind) 1 ≡ variable-called (name-of text a) (item-of text tape x)
   unfolding variable-called item-of is-called
   variable-told h = rw (← e, h) (sym (is-variable-kind text tape (x .kind) (x .sorts)))
 
@@ -97,13 +97,39 @@ module _ (text tape : List ℕ) (a : ℕ) (sorts : List ℕ) (n : ℕ) (x : Row)
   abbrev such : Bool
   such = function-called (name-of text a) (map (sort-of text tape) (take n sorts)) (item-of text tape x)
 
-  pub function-other : b ≡ false → false ≡ such
+  function-other : b ≡ false → false ≡ such
   unfolding function-called item-of is-called
   function-other h = rw (← e, h)
 
-  pub function-told : (r : Bool) → b ≡ true → r ≡ takes (map (sort-of text tape) (take n sorts)) (shape-of text tape (x .kind) (x .sorts)) → r ≡ such
+  function-told : (r : Bool) → b ≡ true → r ≡ takes (map (sort-of text tape) (take n sorts)) (shape-of text tape (x .kind) (x .sorts)) → r ≡ such
   unfolding function-called item-of is-called
   function-told r h t = rw (← e, h) t
+
+-- the same of row i of a table: v is the word of its name, and y the row
+module _ (text tape w : List ℕ) (a b i v : ℕ) (c : Bool) (e : v ≡ getD w (b + i * 16 + 1) 0) (f : c ≡ same (name-of text a) (name-of text v)) where
+  abbrev row : Row
+  row = row-at w (b + i * 16)
+
+  called : c ≡ same (name-of text a) (name-of text (row .name))
+  unfolding row-at
+  called = rw e at f
+
+  pub variable-off : c ≡ false → false ≡ variable-called (name-of text a) (item-of text tape row)
+  variable-off h = variable-other text tape a row c called h
+
+  pub variable-there : (y : Row) → y ≡ row → c ≡ true → eqb (y .kind) 1 ≡ variable-called (name-of text a) (item-of text tape row)
+  variable-there y g h = rw g (variable-told text tape a row c called h)
+
+  module _ (sorts : List ℕ) (n : ℕ) where
+    abbrev such-there : Bool
+    such-there = function-called (name-of text a) (map (sort-of text tape) (take n sorts)) (item-of text tape row)
+
+    pub function-off : c ≡ false → false ≡ such-there
+    function-off h = function-other text tape a sorts n row c called h
+
+    pub function-there : (y : Row) (r : Bool) → y ≡ row → c ≡ true → r ≡ takes (map (sort-of text tape) (take n sorts)) (shape-of text tape (y .kind) (y .sorts))
+        → r ≡ such-there
+    function-there y r g h t = function-told text tape a sorts n row c called r h (rw g at t)
 
 -- ---- the rows of a table: those up to i do not pass
 
@@ -127,13 +153,13 @@ module _ (test : Item → Bool) (text tape w : List ℕ) (b n : ℕ) where
       let f : before test (items-at text tape w b n) ≡ i + 0 = inv .rest ∙ rw z in
       omega (arith, f, inv .inside)
 
-  module _ (i : ℕ) (y : Row) (r : Bool) (h : i < n) (inv : Seeking test text tape w b n i) (e : y ≡ row-at w (b + i * 16)) (f : r ≡ test (item-of text tape y)) where
+  module _ (i : ℕ) (r : Bool) (h : i < n) (inv : Seeking test text tape w b n i) (f : r ≡ test (item-of text tape (row-at w (b + i * 16)))) where
     here : before test (items-at text tape w (b + i * 16) (n - i)) ≡ pick r 0 (suc (before test (items-at text tape w (b + (i + 1) * 16) (n - (i + 1)))))
     unfolding before items-at
     here =
         let s : n - i ≡ suc (n - (i + 1)) = omega arith in
         let p : b + i * 16 + 16 ≡ b + (i + 1) * 16 = omega arith in
-        rw (s, p, ← e, ← f)
+        rw (s, p, ← f)
 
     pub seek-again : r ≡ false → Seeking test text tape w b n (i + 1)
     unfolding pick
@@ -148,6 +174,6 @@ module _ (test : Item → Bool) (text tape w : List ℕ) (b n : ℕ) where
         omega (arith, inv .rest, g)
 
 -- what the answers of the search hand to `search`
-pub ruleset tests = (variable-other, variable-told, takes-none, takes-fewer, takes-told, function-other, function-told, needs)
+pub ruleset tests = (variable-off, variable-there, takes-none, takes-fewer, takes-told, function-off, function-there, needs)
 
 pub ruleset seeks = (seek-start, seek-again, seek-none, seek-found, needs)

@@ -1,26 +1,34 @@
 // The first known item that a name can be: a variable, or a function that takes given sorts.
-use tables::Row;
 use tables::entries::same_word;
+use tables::entries::word_at;
 use tables::rows::read_row;
 use tables::sorts::same_sorts;
 ghost use mathlib.Core.Path.{_≡_};
 ghost use mathlib.Core.List.{map};
-ghost use Prim.Native.Nat.{_≤_, _-_, min};
-ghost use lib.ListN.{length, take};
+ghost use Prim.Native.Nat.{_+_, _-_, _*_, _≤_, min};
+ghost use lib.ListN.{length, getD, take};
 ghost use Rattle.meaning.specs.Lists.{before};
 ghost use Rattle.meaning.specs.Typing.{takes};
 ghost use Rattle.names.specs.Word.{name-of};
-ghost use Rattle.tables.specs.Rows.{sort-of, shape-of, item-of};
+ghost use Rattle.tables.specs.Rows.{sort-of, shape-of, item-of, row-at};
 ghost use Rattle.forms.specs.Memory.{part};
 ghost use Rattle.forms.specs.Forms.{items-at};
 ghost use Rattle.typing.specs.Known.{variable-called, function-called};
 
-// Is the row a variable called w?
-fn is_such_variable(text: &[u8], tape: &[u32], w: u32, row: Row) -> bool
-    ensures { λ r. ⌜ r ≡ variable-called (name-of (now (text .entry)) w) (item-of (now (text .entry)) (now (tape .entry)) row) ⌝ }
+// The word of the name of row i of those from b on.
+fn row_name(work: &[u32], b: u32, i: u32) -> u32
+    ensures { λ r. ⌜ r ≡ getD (now (work .entry)) (b + i * 16 + 1) 0 ⌝ }
 {
-    let name = row.name;
-    if same_word(text, w, name) {
+    word_at(work, b as usize + i as usize * 16 + 1)
+}
+
+// Is row i of those from b on a variable called w? Its name decides most: the row is read only where it is w.
+fn is_such_variable(text: &[u8], work: &[u32], t: usize, b: u32, i: u32, w: u32) -> bool
+    requires { ⌜ t ≤ length (now work) ⌝ }
+    ensures { λ r. ⌜ r ≡ variable-called (name-of (now (text .entry)) w) (item-of (now (text .entry)) (part (now (work .entry)) 0 t) (row-at (now (work .entry)) (b + i * 16))) ⌝ }
+{
+    if same_word(text, w, row_name(work, b, i)) {
+        let row = read_row(work, b, i);
         let kind = row.kind;
         return kind == 1;
     }
@@ -55,16 +63,25 @@ fn takes(text: &[u8], tape: &[u32], kind: u32, b: [u32; 9], a: [u32; 9], n: usiz
     same_sorts(text, tape, a, b, n)
 }
 
-// Is the row a function called w that takes the first n sorts?
-fn is_such_function(text: &[u8], tape: &[u32], w: u32, sorts: [u32; 9], n: usize, row: Row) -> bool
-    requires { ⌜ n ≤ 9 ⌝ }
-    ensures { λ r. ⌜ r ≡ function-called (name-of (now (text .entry)) w) (map (sort-of (now (text .entry)) (now (tape .entry))) (take n sorts)) (item-of (now (text .entry)) (now (tape .entry)) row) ⌝ }
+// Is row i of those from b on a function called w that takes the first n sorts?
+fn is_such_function(
+    text: &[u8],
+    work: &[u32],
+    t: usize,
+    b: u32,
+    i: u32,
+    w: u32,
+    sorts: [u32; 9],
+    n: usize,
+) -> bool
+    requires { ⌜ (t ≤ length (now work)) × (n ≤ 9) ⌝ }
+    ensures { λ r. ⌜ r ≡ function-called (name-of (now (text .entry)) w) (map (sort-of (now (text .entry)) (part (now (work .entry)) 0 t)) (take n sorts)) (item-of (now (text .entry)) (part (now (work .entry)) 0 t) (row-at (now (work .entry)) (b + i * 16))) ⌝ }
 {
-    let name = row.name;
-    if same_word(text, w, name) {
+    if same_word(text, w, row_name(work, b, i)) {
+        let row = read_row(work, b, i);
         let kind = row.kind;
         let own = row.sorts;
-        return takes(text, tape, kind, own, sorts, n);
+        return takes(text, &work[0..t], kind, own, sorts, n);
     }
     false
 }
@@ -76,8 +93,7 @@ pub fn find_variable(text: &[u8], work: &[u32], t: usize, b: u32, n: u32, w: u32
 {
     let mut i = 0;
     while i < n {
-        let row = read_row(work, b, i);
-        if is_such_variable(text, &work[0..t], w, row) {
+        if is_such_variable(text, work, t, b, i, w) {
             return i;
         }
         i += 1;
@@ -101,8 +117,7 @@ pub fn find_function(
 {
     let mut i = 0;
     while i < n {
-        let row = read_row(work, b, i);
-        if is_such_function(text, &work[0..t], w, sorts, count, row) {
+        if is_such_function(text, work, t, b, i, w, sorts, count) {
             return i;
         }
         i += 1;

@@ -21,11 +21,7 @@ find-item-spec =
     Inv-loop
     μ-loop
     (λ c. search finds)  -- loop-holds
-    (λ c κs. search finds)  -- read-row-requires
-    (λ c. search finds)  -- sub-one-item
-    (λ c. search finds)  -- part-one-item-start
-    (λ c. search finds)  -- part-one-item-end
-    (λ c κs. search finds)  -- one-item-requires
+    (λ c κs. search finds)  -- is-item-requires
     (λ c. search finds)  -- returns
     (λ c. search finds)  -- add-i
     (λ c. search finds)  -- loop-less

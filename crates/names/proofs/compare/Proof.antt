@@ -1,7 +1,6 @@
 -- `names::compare` meets its contract.
 -- Assumes nothing.
-use Rattle.names.proofs.Compared.{compared-copies}
-use Rattle.names.proofs.Places.{copy-long}
+use Rattle.names.proofs.Places.{name-fits, name-within, compared-parts}
 use borrow.Author.Needs.{needs}
 use Rattle.names.proofs.compare.Statement.{statement}
 use Rattle.names.proofs.compare.Tie as tie
@@ -10,16 +9,18 @@ pub compare-spec : {M : Type 1} → statement M
 compare-spec =
     tie.close
     (tie.spec
-    (λ c κs. search needs)  -- copied-requires
-    (λ c κs. search needs)  -- copied-requires-2
+    (λ c κs. search needs)  -- name-start-requires
+    (λ c κs. search needs)  -- name-start-requires-2
     (λ c κs. search needs)  -- name-length-requires
+    (λ c. search (name-fits, needs))  -- add-n
     (λ c κs. search needs)  -- name-length-requires-2
+    (λ c. search (name-fits, needs))  -- add-m
     (λ c. search needs)  -- sub-compare-bytes
     (λ c. search needs)  -- part-compare-bytes-start
-    (λ c. search (copy-long, needs))  -- part-compare-bytes-end
+    (λ c. search (name-within, needs))  -- part-compare-bytes-end
     (λ c. search needs)  -- sub-compare-bytes-2
     (λ c. search needs)  -- part-compare-bytes-start-2
-    (λ c. search (copy-long, needs))  -- part-compare-bytes-end-2
+    (λ c. search (name-within, needs))  -- part-compare-bytes-end-2
     (λ c κs. search needs)  -- compare-bytes-requires
-    (λ c. search (compared-copies, needs))  -- returns
+    (λ c. search (compared-parts, needs))  -- returns
     )

@@ -11,7 +11,9 @@ repeats-spec =
     (tie.spec
     (λ c κs. search needs)  -- role-at-requires
     (λ c κs. search needs)  -- role-at-requires-2
+    (λ c κs. search needs)  -- same-name-at-requires
     (λ c κs. search needs)  -- same-declared-requires
     (λ c. search cases)  -- returns
     (λ c. search cases)  -- returns-2
+    (λ c. search cases)  -- returns-3
     )

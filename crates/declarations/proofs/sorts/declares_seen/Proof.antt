@@ -9,8 +9,6 @@ pub declares-seen-spec : {M : Type 1} → statement M
 declares-seen-spec =
     tie.close
     (tie.spec
-    (λ c κs. search needs)  -- first-named-requires
+    (λ c κs. search needs)  -- declares-one-requires
     (λ c. search cases)  -- returns
-    (λ c κs. search needs)  -- first-named-requires-2
-    (λ c. search cases)  -- returns-2
     )

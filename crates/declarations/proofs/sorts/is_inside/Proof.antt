@@ -9,11 +9,11 @@ pub is-inside-spec : {M : Type 1} → statement M
 is-inside-spec =
     tie.close
     (tie.spec
-    (λ c κs. search needs)  -- is-seen-requires
-    (λ c. search cases)  -- returns
     (λ c. search needs)  -- sub-hidden-place
     (λ c. search needs)  -- part-hidden-place-start
     (λ c. search needs)  -- part-hidden-place-end
     (λ c κs. search needs)  -- hidden-place-requires
+    (λ c. search cases)  -- returns
+    (λ c κs. search needs)  -- is-seen-requires
     (λ c. search cases)  -- returns-2
     )

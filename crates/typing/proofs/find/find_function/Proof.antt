@@ -25,10 +25,6 @@ find-function-spec =
     Inv-loop
     μ-loop
     (λ c. search seeks)  -- loop-holds
-    (λ c κs. search seeks)  -- read-row-requires
-    (λ c. search seeks)  -- sub-is-such-function
-    (λ c. search seeks)  -- part-is-such-function-start
-    (λ c. search seeks)  -- part-is-such-function-end
     (λ c κs. search seeks)  -- is-such-function-requires
     (λ c. search seeks)  -- returns
     (λ c. search seeks)  -- add-i

@@ -21,10 +21,6 @@ find-variable-spec =
     Inv-loop
     μ-loop
     (λ c. search seeks)  -- loop-holds
-    (λ c κs. search seeks)  -- read-row-requires
-    (λ c. search seeks)  -- sub-is-such-variable
-    (λ c. search seeks)  -- part-is-such-variable-start
-    (λ c. search seeks)  -- part-is-such-variable-end
     (λ c κs. search seeks)  -- is-such-variable-requires
     (λ c. search seeks)  -- returns
     (λ c. search seeks)  -- add-i

@@ -9,7 +9,9 @@ pub is-such-variable-spec : {M : Type 1} → statement M
 is-such-variable-spec =
     tie.close
     (tie.spec
+    (λ c κs. search needs)  -- row-name-requires
     (λ c κs. search needs)  -- same-word-requires
+    (λ c κs. search needs)  -- read-row-requires
     (λ c. search tests)  -- returns
     (λ c. search tests)  -- returns-2
     )
