@@ -1,0 +1,10 @@
+pub mod Steps
+pub mod Places
+pub mod Completes
+pub mod States
+pub mod Sofar
+pub mod Stepping
+pub mod Heads
+pub mod FirstSteps
+pub mod LastSteps
+pub mod Next

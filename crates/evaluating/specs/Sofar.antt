@@ -1,0 +1,58 @@
+-- What holds between one module and the next: what the tape says, where kept forms lie, and which modules are evaluated.
+use mathlib.Core.Path.{_≡_}
+use Prim.Native.Nat.{ℕ, _+_, _*_, _≤_, _<_}
+use mathlib.Core.List.{List, []}
+use lib.ListN.{length, getD}
+use Rattle.meaning.specs.Numbers.{module-limit}
+use Rattle.meaning.specs.OrderLaws.{Every}
+use Rattle.meaning.specs.Syntax.{Module}
+use Rattle.meaning.specs.Distinct.{Fresh}
+use Rattle.meaning.specs.Evaluate.{Evaluated}
+use Rattle.meaning.specs.Reached.{total-of}
+use Rattle.limits.specs.Limits.{Limited}
+use Rattle.forms.specs.Memory.{part}
+use Rattle.layout.specs.Layout.{tape-end, kept-start, Laid}
+use Rattle.modules.specs.declared.Heads.{Heads}
+use Rattle.modules.specs.Modules.{declared}
+use Rattle.modules.specs.ModuleLaws.{Spells}
+use Rattle.completing.specs.Room.{TotalsRight, TotalsMeant}
+use Rattle.own_equations.specs.Seen.{SeenAmong}
+use Rattle.hidden_items.specs.Evaluated.{SoundEnvironment}
+use Rattle.environment.specs.Environment.{EnvStands}
+use Rattle.environment.specs.Growing.{TableBelow}
+use Rattle.storing.specs.Places.{scratch-start, scratch-room}
+use Rattle.evaluating.specs.declared.states.State.{State}
+
+-- the t entries of the tape spell modules as reading leaves them
+pub record Told (text tape : List ℕ) (t : ℕ) (h : Heads) (ms : List Module) : Type 0 where
+  pub spells : Spells text tape t ms h
+  pub fresh : Fresh [] ms
+  pub limited : Every Limited ms
+
+-- where things lie when module k is next: the heads on the tape, the kept forms below the cursor
+pub record Ready (t : ℕ) (w : List ℕ) (h : Heads) (k : ℕ) (s : State) : Type 0 where
+  pub laid : Laid (length w) t
+  pub scratch : scratch-start + scratch-room ≤ length w
+  pub tape : t ≤ tape-end
+  pub heads : h .count ≤ module-limit
+  pub ordered : (j : ℕ) → j < h .count → getD (h .places) j 0 ≤ getD (h .places) (j + 1) 0
+  pub within : (j : ℕ) → j < h .count → getD (h .places) (j + 1) 0 ≤ t
+  pub below : TableBelow w (s .cursor)
+  pub start : kept-start ≤ s .cursor
+  pub space : s .cursor ≤ kept-start + (k * 8 + s .totals .items * 16 + s .totals .equations * 8 + s .totals .nodes)
+  pub right : TotalsRight (s .totals)
+
+-- of the modules ms those of env are evaluated, and what is kept stands for their normal forms
+pub record Sofar (text : List ℕ) (t : ℕ) (w : List ℕ) (h : Heads) (s : State) (ms : List Module) (env : List Evaluated) : Type 0 where
+  pub told : Told text (part w 0 t) t h ms
+  pub stands : EnvStands text (part w 0 t) w (declared text (part w 0 t) h) env
+  pub seen : SeenAmong env
+  pub sound : SoundEnvironment env
+  pub totals : TotalsMeant (s .totals) (total-of env)
+
+-- there are such modules
+pub record Prepared (text : List ℕ) (t : ℕ) (w : List ℕ) (h : Heads) (k : ℕ) (s : State) : Type 0 where
+  pub ready : Ready t w h k s
+  pub modules : List Module
+  pub evaluated : List Evaluated
+  pub sofar : Sofar text t w h s modules evaluated

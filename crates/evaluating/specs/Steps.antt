@@ -1,0 +1,54 @@
+-- The first two steps on the tape, and what the imports of a module come to (meaning/specs/Evaluate.antt, `evaluate`).
+use mathlib.Core.Path.{_≡_, refl, sym, ap, ap₂, _∙_, subst}
+use mathlib.Core.Bool.{Bool, true, false}
+use Prim.Native.Nat.{ℕ, zero, suc, _+_, _-_, _≤_, _<_}
+use native.Mathlib.Omega.{arith}
+use mathlib.Core.List.{List, [], _∷_, _++_}
+use lib.Dec.{eqb}
+use lib.ListN.{length, take, getD, length-append}
+use Rattle.meaning.specs.Lists.{pick, each}
+use Rattle.meaning.specs.Names.{Name}
+use Rattle.meaning.specs.OrderLaws.{Every}
+use Rattle.meaning.specs.Syntax.{Import, Module}
+use Rattle.meaning.specs.Normal.{Normal, empty}
+use Rattle.meaning.specs.Checks.{Check, Outcome, fine, _>>=_, _>>_}
+use Rattle.meaning.specs.Evaluate.{Evaluated, names-right, imported}
+use Rattle.tape.specs.Tape.{Entry, flat-module}
+use Rattle.tables.specs.Entries.{role-at, next-with}
+use Rattle.forms.specs.declared.Made.{Made}
+use Rattle.forms.specs.Memory.{part, Kept}
+use Rattle.forms.specs.Blocks.{Makes, MadeIn}
+use Rattle.layout.specs.Layout.{joining-block, second-block}
+use Rattle.modules.specs.declared.Heads.{Heads}
+use Rattle.modules.specs.Modules.{declared, named-in, cycle-found}
+use Rattle.declarations.specs.Scans.{walked}
+use Rattle.declarations.specs.Once.{once-at}
+use Rattle.importing.specs.Clausal.{Ground}
+use Rattle.importing.specs.Spelling.{ImportsAt}
+use Rattle.importing.specs.Expressions.{FewClauses}
+use Rattle.environment.specs.Environment.{EnvStands}
+
+-- ---- steps 1 and 2
+
+unfoldable pub later-checks : List ℕ → List ℕ → Heads → ℕ → ℕ → ℕ → Check
+later-checks text tape h k from end = cycle-found text tape h k >> walked (once-at text tape from) from (end - from)
+
+unfoldable pub first-checks : List ℕ → List ℕ → Heads → ℕ → ℕ → ℕ → Check
+first-checks text tape h k from end =
+    names-right (declared text tape h) (take k (declared text tape h)) (named-in text tape h k) >> later-checks text tape h k from end
+
+-- ---- imports
+
+pub record ImportedRoom (w : List ℕ) (t : ℕ) (h : Heads) (from end : ℕ) : Type 0 where
+  pub ground : Ground w t h
+  pub begins : from ≤ end
+  pub within : end ≤ t
+
+abbrev pub imports-place : List ℕ → ℕ → ℕ → ℕ
+imports-place tape from end = next-with 11 tape from (end - from)
+
+pub record Imported (text : List ℕ) (t : ℕ) (w : List ℕ) (h : Heads) (from end : ℕ) (r : Made) (w′ : List ℕ) : Type 0 where
+  pub kept : Kept (joining-block .low) (second-block .high) w w′
+  pub made-in : MadeIn joining-block r
+  pub made : (is : List Import) (env : List Evaluated) → ImportsAt text (part w 0 t) (imports-place (part w 0 t) from end) is → length is ≤ 32768
+      → Every FewClauses is → EnvStands text (part w 0 t) w (declared text (part w 0 t) h) env → Makes text (part w′ 0 t) w′ r (imported env is)

@@ -1,0 +1,4 @@
+// One module evaluated: the four steps, after which its normal form is kept.
+pub mod evaluate;
+pub mod states;
+pub mod steps;

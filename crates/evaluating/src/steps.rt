@@ -1,0 +1,69 @@
+// The four steps for one module: the first two need its entries alone; imports are united, and its own declarations joined.
+use completing::Totals;
+use completing::complete::complete;
+use declarations::once::declared_once;
+use forms::Made;
+use forms::Verdict;
+use importing::imports::imports_from;
+use layout::joining_block;
+use modules::Heads;
+use modules::acyclic;
+use modules::names_right;
+use tables::entries::next_with;
+use uniting::empty_form;
+ghost use mathlib.Core.Path.{_≡_};
+ghost use lib.ListN.{length};
+ghost use Rattle.forms.specs.Verdicts.{told};
+ghost use Rattle.evaluating.specs.Steps.{later-checks, first-checks, ImportedRoom, Imported};
+ghost use Rattle.evaluating.specs.Completes.{CompletedRoom, CompletedAll};
+
+// 20 and 9 for module k.
+fn later_checks(text: &[u8], tape: &[u32], h: Heads, k: u32, from: u32, end: u32) -> Verdict
+    ensures { λ r. ⌜ told (now (text .entry)) r ≡ later-checks (now (text .entry)) (now (tape .entry)) h k from end ⌝ }
+{
+    match acyclic(text, tape, h, k) {
+        Verdict::Stop(n, w) => Verdict::Stop(n, w),
+        Verdict::Fine => declared_once(text, tape, from, end),
+    }
+}
+
+// Steps 1 and 2 for module k, whose entries stand from `from` up to `end`: 7, 8, 20, 9.
+pub fn first_checks(text: &[u8], tape: &[u32], h: Heads, k: u32, from: u32, end: u32) -> Verdict
+    ensures { λ r. ⌜ told (now (text .entry)) r ≡ first-checks (now (text .entry)) (now (tape .entry)) h k from end ⌝ }
+{
+    match names_right(text, tape, h, k) {
+        Verdict::Stop(n, w) => Verdict::Stop(n, w),
+        Verdict::Fine => later_checks(text, tape, h, k, from, end),
+    }
+}
+
+// Step 3, and the union of step 4: what the module whose entries stand from `from` up to `end` imports.
+pub fn imported(text: &[u8], work: &mut [u32], t: usize, h: Heads, from: u32, end: u32) -> Made
+    requires { ⌜ ImportedRoom (now work) t h from end ⌝ }
+    ensures { λ r. ⌜ Imported (now (text .entry)) t (now (work .entry)) h from end r (now (work .exit)) ⌝ }
+{
+    let i = next_with(&work[0..t], 11, from as usize, end as usize);
+    let b = joining_block();
+    let nothing = empty_form(b);
+    imports_from(text, work, t, h, 32768, i as u32, Made::Done(nothing))
+}
+
+// Steps 3 and 4 for module k, but for the order of the listing.
+pub fn completed(
+    text: &[u8],
+    work: &mut [u32],
+    t: usize,
+    h: Heads,
+    k: u32,
+    from: u32,
+    end: u32,
+    totals: Totals,
+) -> Made
+    requires { ⌜ CompletedRoom (now work) t h from end totals ⌝ }
+    ensures { λ r. ⌜ CompletedAll (now (text .entry)) t (now (work .entry)) h k from end totals r (now (work .exit)) ⌝ }
+{
+    match imported(text, work, t, h, from, end) {
+        Made::Refused(n, w) => Made::Refused(n, w),
+        Made::Done(f) => complete(text, work, t, k, from, end, f, totals),
+    }
+}
