@@ -1,0 +1,4 @@
+pub mod Turns
+pub mod ByNumber
+pub mod Turning
+pub mod Beginning

@@ -1,0 +1,221 @@
+-- One module more, or one that is passed over: how a call goes on, and how it ends with it (meaning/specs/Reached.antt, `in-turn`).
+use mathlib.Core.Path.{_≡_, refl, sym, ap, subst, _∙_}
+use mathlib.Core.Bool.{Bool, true, false}
+use mathlib.Core.List.{List, [], _∷_}
+use Prim.Native.Nat.{ℕ, _+_, _-_, _≤_, _<_}
+use native.Mathlib.Omega.{arith}
+use lib.ListN.{length, getD, drop, length-take, drop-of-length-le}
+use Rattle.meaning.specs.Lists.{pick}
+use Rattle.meaning.specs.Names.{Name}
+use Rattle.meaning.specs.Numbers.{module-limit}
+use Rattle.meaning.specs.OrderLaws.{same-self}
+use Rattle.meaning.specs.Syntax.{Module}
+use Rattle.meaning.specs.Normal.{Normal}
+use Rattle.meaning.specs.Checks.{fine, stop}
+use Rattle.meaning.specs.Evaluate.{Evaluated, normal-of, evaluate}
+use Rattle.meaning.specs.Reached.{Placed, refused-at, end-or, in-turn, total-of, module-names}
+use Rattle.names.specs.Word.{name-of}
+use Rattle.tables.specs.Entries.{word-at}
+use Rattle.forms.specs.Memory.{part}
+use Rattle.forms.specs.Forms.{Stands}
+use Rattle.module_set.specs.ModuleSet.{holds}
+use Rattle.modules.specs.declared.Heads.{Heads}
+use Rattle.modules.specs.ModuleLaws.{heads-number}
+use Rattle.modules.specs.ReachedLaws.{names-number, name-by-number, drop-some, chosen}
+use Rattle.modules.specs.Meant.{Earlier, Among, one-earlier, other-among, new-among}
+use Rattle.environment.specs.Environment.{kept-form}
+use Rattle.evaluating.specs.declared.states.State.{State}
+use Rattle.evaluating.specs.declared.evaluate.Stepped.{Stepped}
+use Rattle.evaluating.specs.declared.evaluate.Stepped.the-variants.{Kept, Refused as StepRefused}
+use Rattle.evaluating.specs.Sofar.{Ready, Sofar}
+use Rattle.evaluating.specs.Stepping.{evaluated-as, StepMeant, Stepping}
+use Rattle.turns.specs.declared.Ended.{Ended}
+use Rattle.turns.specs.declared.Ended.the-variants.{Normalised, Refused}
+use Rattle.turns.specs.Turns.{LastStands, EndsAs, Resumed, Turned}
+use Rattle.turns.specs.ByNumber.{ModuleAt, module-at, drop-later, own-name, own-number}
+
+-- ---- the meaning
+
+module _ (set k : ℕ) (earlier : List Name) (ms ys : List Module) (m : Module) (e : drop k ms ≡ m ∷ ys) where
+  abbrev later : List Placed
+  later = chosen (holds set) (k + 1) (m .name ∷ earlier) (drop (k + 1) ms)
+
+  chosen-here : holds set k ≡ true → chosen (holds set) k earlier (drop k ms) ≡ record { self = m; number = k; earlier = earlier } ∷ later
+  unfolding chosen pick
+  chosen-here c = rw (e, c, drop-later k ms ys m e)
+
+  chosen-not : holds set k ≡ false → chosen (holds set) k earlier (drop k ms) ≡ later
+  unfolding chosen pick
+  chosen-not c = rw (e, c, drop-later k ms ys m e)
+
+module _ (ds : List Name) (env : List Evaluated) (n : Normal) (x : Placed) (xs : List Placed) where
+  turn-stop : (j : ℕ) (y : Name) → evaluate ds (x .earlier) (x .number) (total-of env) env (x .self) ≡ stop j y
+      → in-turn ds env n (x ∷ xs) ≡ refused-at j (length env + 1) (x .self .name) y
+  unfolding in-turn end-or
+  turn-stop j y e = rw e
+
+  turn-fine : (new : Normal) → evaluate ds (x .earlier) (x .number) (total-of env) env (x .self) ≡ fine new
+      → in-turn ds env n (x ∷ xs) ≡ in-turn ds (evaluated-as (x .self) new ∷ env) new xs
+  unfolding in-turn end-or
+  turn-fine new e = rw e
+
+-- ---- the latest module's form stands for its normal form
+
+module _ (text : List ℕ) (t : ℕ) (w : List ℕ) (h : Heads) (s : State) (k : ℕ) (ms : List Module) (env : List Evaluated) (m : Module) (ys : List Module)
+    (n : Normal) (e : drop k ms ≡ m ∷ ys) (ready : Ready t w h (k + 1) s) (sofar : Sofar text t w h s ms (evaluated-as m n ∷ env)) where
+  latest-normal : normal-of (evaluated-as m n ∷ env) (m .name) ≡ n
+  unfolding normal-of pick
+  latest-normal = rw (same-self (m .name))
+
+  latest-stands : LastStands text t w k n
+  latest-stands =
+      let spells = sofar .told .spells in
+      let few : k ≤ 64 = omega (arith, ready .heads, drop-some k ms ys m e, heads-number text (part w 0 t) t ms h spells) in
+      let number = own-number text (part w 0 t) t ms h spells k m ys e (sofar .told .fresh) in
+      record {
+        number = few;
+        fits = ready .below .fits k few;
+        stands = subst (λ (j : ℕ). Stands text (part w 0 t) w (kept-form w j) n) number
+            (subst (Stands text (part w 0 t) w (kept-form w _)) latest-normal (sofar .stands .stands (m .name)));
+      }
+
+-- ---- what the code asks of memory
+
+module _ (text : List ℕ) (t : ℕ) (w : List ℕ) (h : Heads) (k : ℕ) (s : State) (resumed : Resumed text t w h k s) where
+  pub tape-there : t ≤ length w
+  tape-there = omega (arith, resumed .prepared .sofar .told .spells .within, length-take (t - 0) (drop 0 w))
+
+  pub ready-there : Ready t w h k s
+  ready-there = resumed .prepared .ready
+
+  pub few-there : h .count ≤ module-limit
+  few-there = resumed .prepared .ready .heads
+
+pub below : (h : Heads) (left k : ℕ) → k + left ≡ h .count → (left ≡ 0 → ⊥) → k < h .count
+below h left k c some = omega arith
+
+-- ---- how the code goes on
+
+-- no module is left
+pub turns-over : (text : List ℕ) (t : ℕ) (w : List ℕ) (h : Heads) (set left k count last : ℕ) (s : State) → left ≡ 0 → k + left ≡ h .count
+    → Turned text t w h set k count last s (Normalised count last) w
+unfolding chosen in-turn
+turns-over text t w h set left k count last s z c = record {
+  meant = λ ms env earlier n sofar before-it among size stands.
+      let none : drop k ms ≡ [] = drop-of-length-le ms {i = k} (omega (arith, heads-number text (part w 0 t) t ms h (sofar .told .spells))) in
+      subst (λ (xs : List Module). EndsAs text t w (Normalised count last) (in-turn (module-names ms) env n (chosen (holds set) k earlier xs))) (sym none)
+      (record { count-so = sym size; last-so = stands });
+}
+
+module _ (text : List ℕ) (t : ℕ) (w : List ℕ) (h : Heads) (left k : ℕ) (s : State) (c : k + left ≡ h .count) (some : left ≡ 0 → ⊥) where
+  at : (ms : List Module) (env : List Evaluated) → Sofar text t w h s ms env → ModuleAt ms k
+  at ms env sofar = module-at ms k (omega (arith, below h left k c some, heads-number text (part w 0 t) t ms h (sofar .told .spells)))
+
+  at-earlier : (ms : List Module) (env : List Evaluated) (sofar : Sofar text t w h s ms env) (earlier : List Name) → Earlier (module-names ms) k earlier
+      → Earlier (module-names ms) (k + 1) (at ms env sofar .self .name ∷ earlier)
+  at-earlier ms env sofar earlier before-it =
+      let m = at ms env sofar in
+      one-earlier (module-names ms) k (m .self .name) earlier (omega (arith, drop-some k ms (m .later) (m .self) (m .here), names-number ms))
+      (name-by-number k ms (m .later) (m .self) (m .here)) before-it
+
+  -- module k is not in the set
+  pub passed-resumed : Resumed text t w h k s → Resumed text t w h (k + 1) s
+  passed-resumed resumed =
+      let p = resumed .prepared in
+      let ready = p .ready in
+      record {
+        prepared = record {
+          ready = record {
+            laid = ready .laid;
+            scratch = ready .scratch;
+            tape = ready .tape;
+            heads = ready .heads;
+            ordered = ready .ordered;
+            within = ready .within;
+            below = ready .below;
+            start = ready .start;
+            space = omega (arith, ready .space);
+            right = ready .right;
+          };
+          modules = p .modules;
+          evaluated = p .evaluated;
+          sofar = p .sofar;
+        };
+        earlier = at (p .modules) (p .evaluated) (p .sofar) .self .name ∷ resumed .earlier;
+        before-it = at-earlier (p .modules) (p .evaluated) (p .sofar) (resumed .earlier) (resumed .before-it);
+        among = other-among (p .evaluated) (resumed .earlier) _ (resumed .among);
+      }
+
+  pub passed-turned : (set count last : ℕ) (b : Bool) (end : Ended) (w′ : List ℕ) → b ≡ holds set k → b ≡ false
+      → Turned text t w h set (k + 1) count last s end w′ → Turned text t w h set k count last s end w′
+  passed-turned set count last b end w′ e f more = record {
+    meant = λ ms env earlier n sofar before-it among size stands.
+        let m = at ms env sofar in
+        subst (λ (xs : List Placed). EndsAs text t w′ end (in-turn (module-names ms) env n xs))
+        (sym (chosen-not set k earlier ms (m .later) (m .self) (m .here) (sym e ∙ f)))
+        (more .meant ms env (m .self .name ∷ earlier) n sofar (at-earlier ms env sofar earlier before-it) (other-among env earlier (m .self .name) among)
+        size stands);
+  }
+
+  module _ (step : Stepped) (w₁ : List ℕ) (stepping : Stepping text t w h k s step w₁) where
+    stepped : (ms : List Module) (env : List Evaluated) (earlier : List Name) (sofar : Sofar text t w h s ms env)
+        → Earlier (module-names ms) k earlier → Among env earlier → (r : Stepped) → step ≡ r
+        → StepMeant text t w₁ h k ms env (at ms env sofar .self) (evaluate (module-names ms) earlier k (total-of env) env (at ms env sofar .self)) r
+    stepped ms env earlier sofar before-it among r e =
+        let m = at ms env sofar in
+        subst (StepMeant text t w₁ h k ms env (m .self) (evaluate (module-names ms) earlier k (total-of env) env (m .self))) e
+        (stepping .meant ms env (m .self) (m .later) earlier sofar (m .here) before-it among)
+
+    -- module k is in the set, and refused
+    pub turn-refused : (set count last : ℕ) (b : Bool) (name number culprit : ℕ) → b ≡ holds set k → b ≡ true
+        → name ≡ word-at (part w 0 t) (getD (h .places) k 0) → step ≡ StepRefused number culprit
+        → Turned text t w h set k count last s (Refused number (count + 1) name culprit) w₁
+    turn-refused set count last b name number culprit e f q g = record {
+      meant = λ ms env earlier n sofar before-it among size stands.
+          let m = at ms env sofar in
+          let stop-so = stepped ms env earlier sofar before-it among (StepRefused number culprit) g in
+          let end = Refused number (count + 1) name culprit in
+          subst (λ (xs : List Placed). EndsAs text t w₁ end (in-turn (module-names ms) env n xs))
+          (sym (chosen-here set k earlier ms (m .later) (m .self) (m .here) (sym e ∙ f)))
+          (subst (EndsAs text t w₁ end) (sym (turn-stop (module-names ms) env n _ _ number (name-of text culprit) stop-so))
+          (record {
+            number-so = refl;
+            count-so = ap (λ (i : ℕ). i + 1) (sym size);
+            module-so = ap (name-of text) q ∙ own-name text (part w 0 t) t ms h (sofar .told .spells) k (m .self) (m .later) (m .here);
+            culprit-so = refl;
+          }));
+    }
+
+    -- module k is in the set, and its normal form kept
+    module _ (r : State) (g : step ≡ Kept r) where
+      pub kept-resumed : Resumed text t w h k s → Resumed text t w₁ h (k + 1) r
+      kept-resumed resumed =
+          let p = resumed .prepared in
+          let m = at (p .modules) (p .evaluated) (p .sofar) in
+          let kept = stepped (p .modules) (p .evaluated) (resumed .earlier) (p .sofar) (resumed .before-it) (resumed .among) (Kept r) g in
+          record {
+            prepared = record {
+              ready = kept .ready;
+              modules = p .modules;
+              evaluated = evaluated-as (m .self) (kept .normal) ∷ p .evaluated;
+              sofar = kept .sofar;
+            };
+            earlier = m .self .name ∷ resumed .earlier;
+            before-it = at-earlier (p .modules) (p .evaluated) (p .sofar) (resumed .earlier) (resumed .before-it);
+            among = new-among (p .evaluated) (resumed .earlier) (evaluated-as (m .self) (kept .normal)) (resumed .among);
+          }
+
+      pub kept-turned : (set count last : ℕ) (b : Bool) (end : Ended) (w₂ : List ℕ) → b ≡ holds set k → b ≡ true
+          → Turned text t w₁ h set (k + 1) (count + 1) k r end w₂ → Turned text t w h set k count last s end w₂
+      kept-turned set count last b end w₂ e f more = record {
+        meant = λ ms env earlier n sofar before-it among size stands.
+            let m = at ms env sofar in
+            let kept = stepped ms env earlier sofar before-it among (Kept r) g in
+            let new = evaluated-as (m .self) (kept .normal) in
+            subst (λ (xs : List Placed). EndsAs text t w₂ end (in-turn (module-names ms) env n xs))
+            (sym (chosen-here set k earlier ms (m .later) (m .self) (m .here) (sym e ∙ f)))
+            (subst (EndsAs text t w₂ end) (sym (turn-fine (module-names ms) env n _ _ (kept .normal) (kept .fine-so)))
+            (more .meant ms (new ∷ env) (m .self .name ∷ earlier) (kept .normal) (kept .sofar) (at-earlier ms env sofar earlier before-it)
+            (new-among env earlier new among) (omega (arith, size))
+            (latest-stands text t w₁ h r k ms env (m .self) (m .later) (kept .normal) (m .here) (kept .ready) (kept .sofar))));
+      }

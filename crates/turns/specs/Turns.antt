@@ -1,0 +1,75 @@
+-- How a call ends: in memory, and as the meaning says (meaning/specs/Reached.antt, `in-turn`).
+use mathlib.Core.Path.{_≡_}
+use Prim.Native.Nat.{ℕ, _≤_}
+use mathlib.Core.List.{List, []}
+use lib.ListN.{length, drop}
+use Rattle.meaning.specs.Lists.{before}
+use Rattle.meaning.specs.Names.{Name, same}
+use Rattle.meaning.specs.Numbers.{module-limit, memory-size}
+use Rattle.meaning.specs.Syntax.{Module}
+use Rattle.meaning.specs.Normal.{Normal, empty}
+use Rattle.meaning.specs.Evaluate.{Evaluated}
+use Rattle.meaning.specs.Reached as Reached
+use Rattle.meaning.specs.Reached.{in-turn, reached, module-names}
+use Rattle.names.specs.Word.{name-of}
+use Rattle.forms.specs.Memory.{part}
+use Rattle.forms.specs.Forms.{Stands}
+use Rattle.forms.specs.Blocks.{Fits}
+use Rattle.layout.specs.Layout.{tape-end}
+use Rattle.module_set.specs.ModuleSet.{holds}
+use Rattle.modules.specs.declared.Heads.{Heads}
+use Rattle.modules.specs.ReachedLaws.{chosen}
+use Rattle.modules.specs.Meant.{Earlier, Among}
+use Rattle.environment.specs.Environment.{kept-form}
+use Rattle.evaluating.specs.declared.states.State.{State}
+use Rattle.turns.specs.declared.Ended.{Ended}
+use Rattle.turns.specs.declared.Ended.the-variants.{Normalised, Refused}
+use Rattle.evaluating.specs.Sofar.{Told, Sofar, Prepared}
+
+-- the form kept for module number `last` stands for the normal form
+pub record LastStands (text : List ℕ) (t : ℕ) (w : List ℕ) (last : ℕ) (n : Normal) : Type 0 where
+  pub number : last ≤ module-limit
+  pub fits : Fits (kept-form w last)
+  pub stands : Stands text (part w 0 t) w (kept-form w last) n
+
+pub record ListedAs (text : List ℕ) (t : ℕ) (w : List ℕ) (count last : ℕ) (counted : ℕ) (n : Normal) : Type 0 where
+  pub count-so : count ≡ counted
+  pub last-so : LastStands text t w last n
+
+pub record RefusedAs (text : List ℕ) (number count m culprit : ℕ) (told counted : ℕ) (evaluating name : Name) : Type 0 where
+  pub number-so : number ≡ told
+  pub count-so : count ≡ counted
+  pub module-so : name-of text m ≡ evaluating
+  pub culprit-so : name-of text culprit ≡ name
+
+abbrev pub EndsAs : List ℕ → ℕ → List ℕ → Ended → Reached.Ended → Type 0
+EndsAs text t w (Normalised count last) (Reached.normalised counted n) = ListedAs text t w count last counted n
+EndsAs text t w (Normalised count last) (Reached.refused-at told counted evaluating name) = ⊥
+EndsAs text t w (Refused number count m culprit) (Reached.normalised counted n) = ⊥
+EndsAs text t w (Refused number count m culprit) (Reached.refused-at told counted evaluating name) =
+    RefusedAs text number count m culprit told counted evaluating name
+
+-- there are such modules, and those evaluated stand before module k
+pub record Resumed (text : List ℕ) (t : ℕ) (w : List ℕ) (h : Heads) (k : ℕ) (s : State) : Type 0 where
+  pub prepared : Prepared text t w h k s
+  pub earlier : List Name
+  pub before-it : Earlier (module-names (prepared .modules)) k earlier
+  pub among : Among (prepared .evaluated) earlier
+
+-- modules from number k on, after `count` others, the latest of which is number `last`
+pub record Turned (text : List ℕ) (t : ℕ) (w : List ℕ) (h : Heads) (set k count last : ℕ) (s : State) (r : Ended) (w′ : List ℕ) : Type 0 where
+  pub meant : (ms : List Module) (env : List Evaluated) (earlier : List Name) (n : Normal) → Sofar text t w h s ms env
+      → Earlier (module-names ms) k earlier → Among env earlier → length env ≡ count → LastStands text t w last n
+      → EndsAs text t w′ r (in-turn (module-names ms) env n (chosen (holds set) k earlier (drop k ms)))
+
+-- what is given at first: memory, and a tape that reading can leave
+pub record Given (text : List ℕ) (t : ℕ) (w : List ℕ) (h : Heads) : Type 0 where
+  pub size : memory-size ≤ length w
+  pub tape : t ≤ tape-end
+  pub modules : List Module
+  pub told : Told text (part w 0 t) t h modules
+
+-- module k, and the modules that it reaches
+pub record AllTurned (text : List ℕ) (t : ℕ) (w : List ℕ) (h : Heads) (k : ℕ) (r : Ended) (w′ : List ℕ) : Type 0 where
+  pub meant : (ms : List Module) (asked : Name) → Told text (part w 0 t) t h ms → k ≡ before (same asked) (module-names ms)
+      → EndsAs text t w′ r (in-turn (module-names ms) [] empty (reached asked ms))

@@ -1,0 +1,83 @@
+// The modules that the asked one reaches, in text order, each once, up to the first refused.
+use evaluating::evaluate::Stepped;
+use evaluating::evaluate::evaluate;
+use evaluating::states::State;
+use evaluating::states::first_state;
+use keeping::clear_forms;
+use layout::kept_start;
+use layout::table_start;
+use modules::Heads;
+use modules::name_of_module;
+use modules::reached;
+ghost use mathlib.Core.Path.{_≡_};
+ghost use Prim.Native.Nat.{_+_, _≤_};
+ghost use Rattle.turns.specs.Turns.{Resumed, Given, Turned, AllTurned};
+
+// How a call ends: each normal form is kept, that of the latest module for number `last`; or the refusal's number with the words of the module evaluated then and of the culprit's name.
+// `count` modules were evaluated, the refused one included.
+pub enum Ended {
+    Normalised {
+        count: u32,
+        last: u32,
+    },
+    Refused {
+        number: u32,
+        count: u32,
+        module: u32,
+        culprit: u32,
+    },
+}
+
+// Of `left` modules from number k on, those of the set, after `count` others, the latest of which is number `last`.
+fn evaluate_from(
+    text: &[u8],
+    work: &mut [u32],
+    t: usize,
+    h: Heads,
+    set: u64,
+    left: u32,
+    k: u32,
+    count: u32,
+    last: u32,
+    s: State,
+) -> Ended
+    requires { ⌜ k + left ≡ h .count ⌝ }
+    requires { ⌜ count ≤ k ⌝ }
+    requires { ⌜ Resumed (now text) t (now work) h k s ⌝ }
+    ensures { λ r. ⌜ Turned (now (text .entry)) t (now (work .entry)) h set k count last s r (now (work .exit)) ⌝ }
+{
+    if left == 0 {
+        return Ended::Normalised { count, last };
+    }
+    if module_set::has(set, k) {
+        let module = name_of_module(&work[0..t], h, k);
+        match evaluate(text, work, t, h, k, s) {
+            Stepped::Refused(number, culprit) => {
+                return Ended::Refused {
+                    number,
+                    count: count + 1,
+                    module,
+                    culprit,
+                };
+            }
+            Stepped::Kept(r) => {
+                return evaluate_from(text, work, t, h, set, left - 1, k + 1, count + 1, k, r);
+            }
+        }
+    }
+    evaluate_from(text, work, t, h, set, left - 1, k + 1, count, last, s)
+}
+
+// Module k and the modules that it reaches. Before the first, the row behind those of all modules stands for the latest: it has nothing.
+pub fn evaluate_reached(text: &[u8], work: &mut [u32], t: usize, h: Heads, k: u32) -> Ended
+    requires { ⌜ Given (now text) t (now work) h ⌝ }
+    ensures { λ r. ⌜ AllTurned (now (text .entry)) t (now (work .entry)) h k r (now (work .exit)) ⌝ }
+{
+    let set = reached(text, &work[0..t], h, k);
+    let table = table_start();
+    let kept = kept_start();
+    clear_forms(work, table, 65, kept);
+    let s = first_state();
+    let n = h.count;
+    evaluate_from(text, work, t, h, set, n, 0, 0, 64, s)
+}
