@@ -1,0 +1,14 @@
+-- `asf::answers::refused` meets its contract. Assumes nothing.
+use Rattle.asf.proofs.Cases.{cases}
+use borrow.Author.Needs.{needs}
+use Rattle.asf.proofs.answers.refused.Statement.{statement}
+use Rattle.asf.proofs.answers.refused.Tie as tie
+
+pub refused-spec : {M : Type 1} → statement M
+refused-spec =
+    tie.close
+    (tie.spec
+    (λ c κs. search needs)  -- name-in-requires
+    (λ c κs. search needs)  -- name-in-requires-2
+    (λ c. search cases)  -- returns
+    )

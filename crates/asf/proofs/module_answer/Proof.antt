@@ -1,0 +1,25 @@
+-- `asf::module_answer` meets its contract. Assumes nothing.
+use Rattle.asf.proofs.Cases.{cases}
+use borrow.Author.Needs.{needs}
+use Rattle.asf.proofs.module_answer.Statement.{statement}
+use Rattle.asf.proofs.module_answer.Tie as tie
+
+pub module-answer-spec : {M : Type 1} → statement M
+module-answer-spec =
+    tie.close
+    (tie.spec
+    (λ c. search needs)  -- sub-name-of-module
+    (λ c. search needs)  -- part-name-of-module-start
+    (λ c. search cases)  -- part-name-of-module-end
+    (λ c κs. search needs)  -- name-of-module-requires
+    (λ c κs. search cases)  -- evaluate-reached-requires
+    (λ c. search needs)  -- enum-known-number
+    (λ c κs. search needs)  -- refused-requires
+    (λ c. search needs)  -- enum-known-count
+    (λ c κs. search cases)  -- list-module-requires
+    (λ c. search needs)  -- same-length
+    (λ c. search cases)  -- returns
+    (λ c. search needs)  -- same-length-2
+    (λ c. search needs)  -- same-length-3
+    (λ c. search needs)  -- returns-2
+    )

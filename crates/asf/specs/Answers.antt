@@ -1,0 +1,43 @@
+-- The answer as the code has it, and document 01's number and values for it (meaning/specs/Answer.antt).
+use Prim.Native.Nat.{ℕ, _-_}
+use mathlib.Core.List.{List, [], _++_}
+use lib.ListN.{length, replicate}
+use Rattle.meaning.specs.Names as Names
+use Rattle.meaning.specs.Numbers.{name-size, accepted}
+use Rattle.meaning.specs.Reached.{short-or-blank}
+use Rattle.meaning.specs.Answer as Meaning
+use Rattle.meaning.specs.Contract.{Call}
+use Rattle.asf.specs.declared.answers.Name.{Name}
+use Rattle.asf.specs.declared.answers.Answer.{Answer}
+
+-- a name of at most 40 bytes, and zeros behind it
+unfoldable pub held : Names.Name → Name
+held n = record { bytes = n ++ replicate (name-size - length n) 0; length = length n }
+
+-- what the code has of an answer. For 6 and 19 the module is the asked one, which may have more than 40 bytes: it is blank then, and the
+-- caller has it. Every other name of an answer has at most 40
+unfoldable pub told : Meaning.Answer → Answer
+told a = record {
+  number = a .number;
+  modules = a .modules;
+  evaluating = held (short-or-blank (a .evaluating));
+  culprit = held (a .culprit);
+  at = a .at;
+  listing = length (Meaning.listing a);
+}
+
+-- the same of an answer with a listing of so many bytes
+unfoldable pub told-listed : ℕ → ℕ → Answer
+told-listed modules size = record { number = accepted; modules = modules; evaluating = held []; culprit = held []; at = 0; listing = size }
+
+-- what a call gives: the answer, and the lent slices afterwards
+pub record Returned : Type 0 where
+  pub answer : Answer
+  pub output : List ℕ
+  pub memory : List ℕ
+
+unfoldable pub returned : Answer → List ℕ → List ℕ → Returned
+returned r output memory = record { answer = r; output = output; memory = memory }
+
+unfoldable pub told-call : Call → Returned
+told-call c = record { answer = told (c .answer); output = c .output; memory = c .memory }

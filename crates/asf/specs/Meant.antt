@@ -1,0 +1,347 @@
+-- From one step of a call to the next: what is read, found, evaluated and listed, and how the call ends.
+use mathlib.Core.Path.{_≡_, refl, sym, ap, subst, _∙_}
+use Prim.Native.Nat.{ℕ, zero, suc, _+_, _-_, _*_, _<_, _≤_, min}
+use native.Mathlib.Omega.{arith}
+use mathlib.Core.Bool.{Bool, true, false}
+use mathlib.Core.List.{List, [], _++_, map}
+use borrow.Author.Tests.{leb-true}
+use lib.Dec.{leb}
+use lib.ListN.{length, getD, take, drop, length-append, length-drop}
+use lib.Seq.{length-take-le, take-take, take-append-le}
+use Rattle.meaning.specs.Lists.{pick, before}
+use Rattle.meaning.specs.Names.{Name, same, member}
+use Rattle.meaning.specs.Numbers.{text-size, memory-size, asked-absent, lent-short, over-size}
+use Rattle.meaning.specs.Syntax.{Module}
+use Rattle.meaning.specs.Distinct.{read-fresh}
+use Rattle.meaning.specs.Grammar.{Result, modules, read}
+use Rattle.meaning.specs.Normal.{Normal, empty}
+use Rattle.meaning.specs.Reached as Reached
+use Rattle.meaning.specs.Reached.{normalised, refused-at, in-turn, reached, module-names, short-or-blank, normalise}
+use Rattle.meaning.specs.Listing.{lines-text, listing-lines}
+use Rattle.meaning.specs.Answer as Meaning
+use Rattle.meaning.specs.Answer.{refusal, of-ended, of-read, within, output-after}
+use Rattle.names.specs.Word.{name-of}
+use Rattle.tape.specs.Tape.{spelled, entries}
+use Rattle.entries.specs.declared.Place.{Place}
+use Rattle.entries.specs.declared.Reading.{Reading}
+use Rattle.entries.specs.declared.Reading.the-variants.{Done, Refused}
+use Rattle.entries.specs.Model.{Out, out}
+use Rattle.entries.specs.Model as Model
+use Rattle.meant.specs.Matches as Matches
+use Rattle.meant.specs.Meant.{done-meant, refused-meant}
+use Rattle.limits.specs.Limits.{limits-read, modules-few}
+use Rattle.tables.specs.Entries.{word-at, name-at}
+use Rattle.hidden_items.specs.Sound.{HiddenSound}
+use Rattle.hidden_items.specs.Evaluated.{SoundEnd, normalise-sound}
+use Rattle.forms.specs.declared.Form.{Form}
+use Rattle.forms.specs.Memory.{part}
+use Rattle.layout.specs.Layout.{tape-end, table-start}
+use Rattle.keeping.specs.Keeping.{form-at}
+use Rattle.modules.specs.declared.Heads.{Heads}
+use Rattle.modules.specs.Modules.{HeadsOf, names-of, declared}
+use Rattle.modules.specs.ModuleLaws.{heads-number, declared-names}
+use Rattle.modules.specs.Members.{member-found, member-absent}
+use Rattle.modules.specs.ReachedLaws.{found-name, names-number}
+use Rattle.modules.specs.Meant.{asked-number}
+use Rattle.environment.specs.Environment.{kept-form}
+use Rattle.evaluating.specs.Sofar.{Told}
+use Rattle.turns.specs.declared.Ended.{Ended}
+use Rattle.turns.specs.declared.Ended.the-variants as Ended
+use Rattle.turns.specs.Turns.{LastStands, EndsAs, Given, AllTurned}
+use Rattle.listing.specs.declared.Written.{Written}
+use Rattle.listing.specs.declared.Written.the-variants.{Fits, TooLong}
+use Rattle.listing.specs.Lines.{listing-text}
+use Rattle.listing.specs.Meant.{listing-meant}
+use Rattle.listing.specs.Fit as Fit
+use Rattle.listing.specs.Fit.{result, fitted}
+use Rattle.listing.specs.Lent.{Lent, answer-when, lent-meant}
+use Rattle.asf.specs.declared.answers.Answer.{Answer}
+use Rattle.asf.specs.Answers.{held, told, told-listed}
+use Rattle.asf.specs.Told.{short-name, refusal-within, refusal-leaves}
+use Rattle.asf.specs.Steps.{Answered, Spoken, Found, Evaluated}
+
+-- ---- a refusal leaves the output
+
+pub refusal-answered : (asked : Name) (text o : List ℕ) (r : Answer) (number count : ℕ) (m c : Name) (at : ℕ)
+    → of-read asked (read text) ≡ refusal number count m c at → r ≡ told (refusal number count m c at) → Answered asked text o r o
+refusal-answered asked text o r number count m c at e h =
+    let whole : within (length o) asked (of-read asked (read text)) ≡ refusal number count m c at =
+    ap (within (length o) asked) e ∙ refusal-within (length o) asked number count m c at in
+    record { answer = h ∙ ap told (sym whole); output = sym (ap (λ (a : Meaning.Answer). output-after a o) whole ∙ refusal-leaves number count m c at o) }
+
+-- ---- what is read
+
+only-short : (b : Bool) (x : Out) (tape : List ℕ) (p : Place) → pick b x (Model.wiped (Refused over-size text-size) tape) .answer ≡ Done p → b ≡ true
+unfolding Model.wiped pick
+only-short true x tape p e = refl
+only-short false x tape p e = let z : _≡_ {A = ℕ} 0 1 = cc in absurd (omega arith)
+
+module _ (text w : List ℕ) (end : ℕ) (there : memory-size ≤ length w) (last : end ≡ tape-end) where
+  abbrev tape : List ℕ
+  tape = part w 0 end
+
+  pub end-within : end ≤ length w
+  unfolding memory-size tape-end
+  end-within = omega (arith, last)
+
+  tape-size : length tape ≡ end
+  tape-size = length-take-le (end - 0) w (omega (arith, end-within)) ∙ omega arith
+
+  enough : min (length text) text-size ≤ length tape
+  unfolding text-size tape-end
+  enough = omega (arith, tape-size, last)
+
+  -- a text that is read is short enough
+  read-short : (p : Place) → Model.read text tape .answer ≡ Done p → length text ≤ text-size
+  unfolding Model.read
+  read-short p e = leb-true (length text) text-size (only-short (leb (length text) text-size) _ tape p e)
+
+  module _ (q : Reading) (tape′ : List ℕ) (e : out q tape′ ≡ Model.read text tape) where
+    answer-so : q ≡ Model.read text tape .answer
+    answer-so = ap (λ (o : Out). o .answer) e
+
+    tape-so : tape′ ≡ Model.read text tape .tape
+    tape-so = ap (λ (o : Out). o .tape) e
+
+    pub unread-answered : (number place : ℕ) (asked : Name) (o : List ℕ) (r : Answer) → q ≡ Refused number place → r ≡ told (refusal number 0 [] [] place)
+        → Answered asked text o r o
+    unfolding of-read
+    unread-answered number place asked o r d h =
+        refusal-answered asked text o r number 0 [] [] place
+        (ap (of-read asked) (refused-meant text tape enough number place (sym answer-so ∙ d))) h
+
+    pub read-spoken : (p : Place) → q ≡ Done p → Spoken text (p .entries) (tape′ ++ drop (end - 0) (drop 0 w))
+    unfolding entries text-size tape-end
+    read-spoken p d =
+        let meant = done-meant text tape enough p (sym answer-so ∙ d) in
+        let says = meant .says in
+        let short = read-short p (sym answer-so ∙ d) in
+        let size : length tape′ ≡ length tape = ap length tape-so ∙ says .size in
+        let t = p .entries in
+        let rest = drop (end - 0) (drop 0 w) in
+        let whole : length (tape′ ++ rest) ≡ length w =
+        omega (arith, length-append tape′ rest, size, tape-size, length-drop (end - 0) w, end-within) in
+        let front : take t (part (tape′ ++ rest) 0 t) ≡ take t tape′ =
+        take-take t (t - 0) (tape′ ++ rest) (omega arith) ∙ take-append-le t tape′ rest (omega (arith, size, tape-size, says .within, short, last)) in
+        record {
+          size = omega (arith, whole, there);
+          tape = omega (arith, says .within, short);
+          modules = meant .modules;
+          state = Matches.state p;
+          read-so = meant .read;
+          said = ap (map (spelled text)) (front ∙ ap (take t) tape-so) ∙ says .said;
+        }
+
+-- ---- what is found
+
+module _ (text : List ℕ) (t : ℕ) (w : List ℕ) (spoken : Spoken text t w) where
+  abbrev all : List Module
+  all = spoken .modules
+
+  pub tape-within : t ≤ length w
+  unfolding memory-size tape-end
+  tape-within = omega (arith, spoken .size, spoken .tape)
+
+  pub tape-small : t < 4294967296
+  unfolding tape-end
+  tape-small = omega (arith, spoken .tape)
+
+  module _ (h : Heads) (heads : HeadsOf (part w 0 t) t h) where
+    pub spoken-told : Told text (part w 0 t) t h all
+    spoken-told = record {
+      spells = record {
+        within = omega (arith, length-take-le (t - 0) (drop 0 w) (omega (arith, tape-within)));
+        says = spoken .said;
+        few = modules-few text all (spoken .state) (spoken .read-so);
+        begun = heads;
+      };
+      fresh = read-fresh text all (spoken .state) (spoken .read-so);
+      limited = limits-read text all (spoken .state) (spoken .read-so);
+    }
+
+    pub spoken-given : Given text t w h
+    spoken-given = record { size = spoken .size; tape = spoken .tape; modules = all; told = spoken-told }
+
+    count-so : h .count ≡ length (module-names all)
+    count-so = heads-number text (part w 0 t) t all h (spoken-told .spells) ∙ sym (names-number all)
+
+    module _ (asked : Name) (k : ℕ) (e : k ≡ before (λ (v : Name). same v asked) (declared text (part w 0 t) h)) where
+      number-so : k ≡ before (same asked) (module-names all)
+      number-so = e ∙ asked-number asked (declared text (part w 0 t) h) ∙ ap (before (same asked)) (declared-names text (part w 0 t) t all h (spoken-told .spells))
+
+      pub asked-found : k < h .count → Found asked text t w h k
+      asked-found l = record { spoken = spoken; heads = heads; number = number-so; there = omega (arith, l, count-so) }
+
+      pub absent-answered : (o : List ℕ) (r : Answer) → h .count ≤ k → r ≡ told (refusal asked-absent 0 asked (short-or-blank asked) 0)
+          → Answered asked text o r o
+      unfolding of-read of-ended normalise pick
+      absent-answered o r l q =
+          let none : member asked (module-names all) ≡ false = member-absent asked (module-names all) (omega (arith, l, count-so, number-so)) in
+          let ended : normalise asked all ≡ refused-at asked-absent 0 asked (short-or-blank asked) = rw none in
+          refusal-answered asked text o r asked-absent 0 asked (short-or-blank asked) 0
+          (ap (of-read asked) (spoken .read-so) ∙ ap (of-ended asked) ended) q
+
+-- ---- what is evaluated
+
+-- a refusal is that of the meaning
+refused-end : (text : List ℕ) (t : ℕ) (w : List ℕ) (number count m c : ℕ) (e : Reached.Ended) → EndsAs text t w (Ended.Refused number count m c) e
+    → e ≡ refused-at number count (name-of text m) (name-of text c)
+refused-end text t w number count m c (normalised counted n) h = absurd h
+refused-end text t w number count m c (refused-at told counted evaluating name) h =
+    λ i. refused-at (sym (h .number-so) i) (sym (h .count-so) i) (sym (h .module-so) i) (sym (h .culprit-so) i)
+
+-- the last form stands for the normal form of the meaning
+record NormalEnd (text : List ℕ) (t : ℕ) (w : List ℕ) (count last : ℕ) (e : Reached.Ended) : Type 0 where
+  normal : Normal
+  ended : e ≡ normalised count normal
+  stands : LastStands text t w last normal
+  sound : HiddenSound normal
+
+normal-end : (text : List ℕ) (t : ℕ) (w : List ℕ) (count last : ℕ) (e : Reached.Ended) → SoundEnd e → EndsAs text t w (Ended.Normalised count last) e
+    → NormalEnd text t w count last e
+normal-end text t w count last (normalised counted n) s h =
+    record { normal = n; ended = ap (λ (c : ℕ). normalised c n) (sym (h .count-so)); stands = h .last-so; sound = s }
+normal-end text t w count last (refused-at told counted evaluating name) s h = absurd h
+
+-- a module's name by its number
+name-by-number : (text tape places : List ℕ) (i c j : ℕ) → j < c → getD (names-of text tape places i c) j [] ≡ name-at text tape (getD places (i + j) 0)
+unfolding names-of
+name-by-number text tape places i zero j l = absurd (omega arith)
+name-by-number text tape places i (suc c) zero l = let z : i ≡ i + 0 = omega arith in ap (λ (n : ℕ). name-at text tape (getD places n 0)) z
+name-by-number text tape places i (suc c) (suc j) l =
+    let z : suc i + j ≡ i + suc j = omega arith in
+    name-by-number text tape places (suc i) c j (omega arith) ∙ ap (λ (n : ℕ). name-at text tape (getD places n 0)) z
+
+module _ (asked text : List ℕ) (t : ℕ) (w : List ℕ) (h : Heads) (k : ℕ) (found : Found asked text t w h k) where
+  abbrev ms : List Module
+  ms = found .spoken .modules
+
+  pub found-within : t ≤ length w
+  found-within = tape-within text t w (found .spoken)
+
+  pub found-given : Given text t w h
+  found-given = spoken-given text t w (found .spoken) h (found .heads)
+
+  called-asked : name-at text (part w 0 t) (getD (h .places) k 0) ≡ asked
+  unfolding declared
+  called-asked =
+      let spells = spoken-told text t w (found .spoken) h (found .heads) .spells in
+      let z : k ≡ 0 + k = omega arith in
+      let few : k < h .count = omega (arith, found .there, names-number ms, heads-number text (part w 0 t) t ms h spells) in
+      ap (λ (n : ℕ). name-at text (part w 0 t) (getD (h .places) n 0)) z
+      ∙ sym (name-by-number text (part w 0 t) (h .places) 0 (h .count) k few)
+      ∙ ap (λ (ds : List Name). getD ds k []) (declared-names text (part w 0 t) t ms h spells)
+      ∙ ap (λ (n : ℕ). getD (module-names ms) n []) (found .number)
+      ∙ found-name (module-names ms) asked (omega (arith, found .number, found .there))
+
+  ending : normalise asked ms ≡ in-turn (module-names ms) [] empty (reached asked ms)
+  unfolding normalise pick
+  ending =
+      let there : member asked (module-names ms) ≡ true = member-found asked (module-names ms) (omega (arith, found .number, found .there)) in
+      rw there
+
+  answering : of-read asked (read text) ≡ of-ended asked (normalise asked ms)
+  unfolding of-read
+  answering = ap (of-read asked) (found .spoken .read-so)
+
+  module _ (e : Ended) (w′ : List ℕ) (turned : AllTurned text t w h k e w′) where
+    ends : EndsAs text t w′ e (normalise asked ms)
+    ends =
+        subst (EndsAs text t w′ e) (sym ending)
+        (turned .meant ms asked (spoken-told text t w (found .spoken) h (found .heads)) (found .number))
+
+    pub refused-answered : (number count m c : ℕ) (o : List ℕ) (r : Answer) → e ≡ Ended.Refused number count m c
+        → r ≡ told (refusal number count (name-of text m) (name-of text c) 0) → Answered asked text o r o
+    unfolding of-ended
+    refused-answered number count m c o r d q =
+        let end = refused-end text t w′ number count m c (normalise asked ms) (subst (λ (x : Ended). EndsAs text t w′ x (normalise asked ms)) d ends) in
+        refusal-answered asked text o r number count (name-of text m) (name-of text c) 0 (answering ∙ ap (of-ended asked) end) q
+
+    pub form-evaluated : (name count last : ℕ) → name ≡ word-at (part w 0 t) (getD (h .places) k 0) → length w′ ≡ length w
+        → e ≡ Ended.Normalised count last → Evaluated asked text t w′ name count last
+    form-evaluated name count last n size d =
+        let end = normal-end text t w′ count last (normalise asked ms) (normalise-sound asked ms)
+        (subst (λ (x : Ended). EndsAs text t w′ x (normalise asked ms)) d ends) in
+        record {
+          tape = omega (arith, size, found-within);
+          normal = end .normal;
+          stands = end .stands;
+          sound = end .sound;
+          called = ap (name-of text) n ∙ called-asked;
+          ended = answering ∙ ap (of-ended asked) (end .ended);
+        }
+
+-- ---- what is listed
+
+listing-told : (asked : Name) (count : ℕ) (n : Normal)
+    → told (of-ended asked (normalised count n)) ≡ told-listed count (length (Meaning.listing (of-ended asked (normalised count n))))
+unfolding told told-listed of-ended
+listing-told asked count n = λ i. record {
+  number = 0;
+  modules = count;
+  evaluating = held (short-name [] (omega arith) i);
+  culprit = held [];
+  at = 0;
+  listing = length (lines-text (listing-lines asked n));
+}
+
+fits-size : (b : Bool) (n : ℕ) (bs o o′ : List ℕ)
+    → result (Fits n) o′ ≡ pick b (result (Fits (length bs)) (bs ++ drop (length bs) o)) (result TooLong o) → n ≡ length bs
+unfolding pick
+fits-size true n bs o o′ e = let f : Fits n ≡ Fits (length bs) = ap (λ (x : Fit.Result). x .ended) e in cc
+fits-size false n bs o o′ e = let f : Fits n ≡ TooLong = ap (λ (x : Fit.Result). x .ended) e in cc
+
+module _ (asked text : List ℕ) (t : ℕ) (w : List ℕ) (name count last : ℕ) (evaluated : Evaluated asked text t w name count last) where
+  pub listed-within : t ≤ length w
+  listed-within = evaluated .tape
+
+  module _ (table : ℕ) (f : Form) (place : table ≡ table-start) (form : f ≡ form-at w (table + last * 16)) where
+    form-so : f ≡ kept-form w last
+    form-so = form ∙ ap (λ (b : ℕ). form-at w (b + last * 16)) place
+
+    pub hidden-few : f .«hidden_count» < 2147483648
+    hidden-few =
+        let fits = evaluated .stands .fits in
+        let same : f .«hidden_count» ≡ kept-form w last .«hidden_count» = ap (λ (g : Form). g .«hidden_count») form-so in
+        omega (arith, same, fits .items)
+
+    abbrev whole : Meaning.Answer
+    whole = of-ended asked (normalised count (evaluated .normal))
+
+    bytes-so : listing-text text (part w 0 t) w name f ≡ Meaning.listing whole
+    unfolding of-ended
+    bytes-so =
+        ap (listing-text text (part w 0 t) w name) form-so
+        ∙ listing-meant text (part w 0 t) w (kept-form w last) (evaluated .normal) name (evaluated .stands .stands) (evaluated .sound)
+        ∙ ap (λ (m : Name). lines-text (listing-lines m (evaluated .normal))) (evaluated .called)
+
+    module _ (o : List ℕ) (v : Written) (o′ : List ℕ) (e : result v o′ ≡ fitted (listing-text text (part w 0 t) w name f) o) where
+      written : result v o′ ≡ fitted (Meaning.listing whole) o
+      written = e ∙ ap (λ (bs : List ℕ). fitted bs o) bytes-so
+
+      lent : Lent asked whole o v o′
+      lent = lent-meant asked whole o v o′ written
+
+      output-so : o′ ≡ output-after (within (length o) asked (of-read asked (read text))) o
+      output-so = sym (ap (λ (a : Meaning.Answer). output-after (within (length o) asked a) o) (evaluated .ended) ∙ lent .output)
+
+      answer-lent : within (length o) asked (of-read asked (read text)) ≡ answer-when asked whole v
+      answer-lent = ap (within (length o) asked) (evaluated .ended) ∙ lent .answer
+
+      pub listed-answered : (n : ℕ) (r : Answer) → v ≡ Fits n → r ≡ told-listed count n → Answered asked text o r o′
+      unfolding answer-when fitted
+      listed-answered n r d q =
+          let size : n ≡ length (Meaning.listing whole) = fits-size _ n (Meaning.listing whole) o o′ (rw d at written) in
+          record {
+            answer =
+                q
+                ∙ ap (told-listed count) size
+                ∙ sym (listing-told asked count (evaluated .normal))
+                ∙ ap told (sym (answer-lent ∙ ap (answer-when asked whole) d));
+            output = output-so;
+          }
+
+      pub long-answered : (r : Answer) → v ≡ TooLong → r ≡ told (refusal lent-short count asked [] 0) → Answered asked text o r o′
+      unfolding answer-when of-ended
+      long-answered r d q =
+          record { answer = q ∙ ap told (sym (answer-lent ∙ ap (answer-when asked whole) d)); output = output-so }

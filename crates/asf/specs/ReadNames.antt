@@ -1,0 +1,145 @@
+-- The names of modules that are read have at most 40 bytes. So has the module that an answer names, unless it is the asked one; and where the
+-- asked name has more, no module is called so, and the answer's number tells the module.
+use mathlib.Core.Path.{_≡_, refl, ap, subst}
+use mathlib.Core.Logic.{_⊎_, inl, inr}
+use Prim.Native.Nat.{ℕ, _/_, _<_, _≤_, min}
+use native.Mathlib.Omega.{arith}
+use mathlib.Core.Bool.{Bool, false}
+use mathlib.Core.List.{List, [], _∷_, _++_}
+use borrow.Author.Tests.{le-leb, lt-leb}
+use lib.Dec.{leb}
+use lib.ListN.{length, take, replicate, length-replicate}
+use Rattle.meaning.specs.Laws.{by-cases}
+use Rattle.meaning.specs.Lists.{pick, each}
+use Rattle.meaning.specs.OrderLaws.{Every, same-equal}
+use Rattle.meaning.specs.Names.{Name, member}
+use Rattle.meaning.specs.Numbers.{text-size, name-size, asked-absent, lent-short}
+use Rattle.meaning.specs.Syntax.{Module}
+use Rattle.meaning.specs.Grammar.{State, Result, done, refused, read}
+use Rattle.meaning.specs.Normal.{Normal, empty}
+use Rattle.meaning.specs.Checks.{Outcome, fine, stop}
+use Rattle.meaning.specs.Evaluate.{Evaluated, evaluate}
+use Rattle.meaning.specs.Reached.{Placed, reached-among, reached, Ended, normalised, refused-at, end-or, total-of, in-turn, module-names, short-or-blank, normalise}
+use Rattle.meaning.specs.Answer.{Answer, refusal, of-ended, of-read, within, answer}
+use Rattle.limits.specs.EveryLaws.{every-made}
+use Rattle.tape.specs.Tape.{Entry, spelled, entries, flat-module, flat-modules}
+use Rattle.meant.specs.Meant.{read-done}
+use Rattle.asf.specs.Told.{word-short}
+use Rattle.asf.specs.ReadNumbers.{refused-low}
+
+abbrev Short : Name → Type 0
+Short n = length n ≤ name-size
+
+-- ---- the modules of a text
+
+after-front : {A : Type 0} (P : A → Type 0) (xs ys : List A) → Every P (xs ++ ys) → Every P ys
+after-front P [] ys h = h
+after-front P (x ∷ xs) ys h = after-front P xs ys (h .1)
+
+abbrev ShortEntry : Entry → Type 0
+ShortEntry e = Short (e .name)
+
+entries-short : (text : List ℕ) (n : ℕ) (tape : List ℕ) → Every ShortEntry (entries text n tape)
+unfolding entries spelled
+entries-short text n tape = every-made ShortEntry (spelled text) (λ w. word-short text (w / 32)) (take n tape)
+
+flat-short : (ms : List Module) → Every ShortEntry (each flat-module ms) → Every (λ (m : Module). Short (m .name)) ms
+unfolding each flat-module
+flat-short [] h = tt
+flat-short (m ∷ ms) h = (h .0, flat-short ms (after-front ShortEntry (flat-module m) (each flat-module ms) h))
+
+pub read-names : (text : List ℕ) (ms : List Module) (s : State) → read text ≡ done ms s → Every (λ (m : Module). Short (m .name)) ms
+unfolding flat-modules
+read-names text ms s e =
+    let tape : List ℕ = replicate (length text) 0 in
+    let there : min (length text) text-size ≤ length tape = omega (arith, length-replicate {A = ℕ} (length text) 0) in
+    let r = read-done text tape there ms s e in
+    flat-short ms (subst (Every ShortEntry) (r .says .said) (entries-short text _ _))
+
+-- ---- the module that an answer names
+
+abbrev Named : Name → Name → Type 0
+Named asked m = Short m ⊎ (m ≡ asked)
+
+abbrev EndNamed : Name → Ended → Type 0
+EndNamed asked (normalised count n) = Unit {0}
+EndNamed asked (refused-at number count m c) = Named asked m
+
+reached-short : (asked : Name) (k : ℕ) (earlier : List Name) (ms : List Module) → Every (λ (m : Module). Short (m .name)) ms
+    → Every (λ (x : Placed). Short (x .self .name)) (reached-among asked k earlier ms)
+unfolding reached-among
+reached-short asked k earlier [] h = tt
+reached-short asked k earlier (m ∷ ms) h =
+    let later = reached-short asked _ (m .name ∷ earlier) ms (h .1) in
+    by-cases (Every (λ (x : Placed). Short (x .self .name))) _ _ _ (λ e. (h .0, later)) (λ e. later)
+
+ended-named : (asked : Name) (count : ℕ) (m : Name) (more : Normal → Ended) (o : Outcome Normal) → Short m → ((n : Normal) → EndNamed asked (more n))
+    → EndNamed asked (end-or count m more o)
+unfolding end-or
+ended-named asked count m more (fine n) h f = f n
+ended-named asked count m more (stop k w) h f = inl h
+
+turns-named : (asked : Name) (declared : List Name) (env : List Evaluated) (last : Normal) (xs : List Placed) → Every (λ (x : Placed). Short (x .self .name)) xs
+    → EndNamed asked (in-turn declared env last xs)
+unfolding in-turn
+turns-named asked declared env last [] h = tt
+turns-named asked declared env last (x ∷ xs) h =
+    ended-named asked _ (x .self .name) _ (evaluate declared (x .earlier) (x .number) (total-of env) env (x .self)) (h .0)
+    (λ n. turns-named asked declared _ n xs (h .1))
+
+abbrev AnswerNamed : Name → Answer → Type 0
+AnswerNamed asked a = Named asked (a .evaluating)
+
+end-named : (asked : Name) (e : Ended) → EndNamed asked e → AnswerNamed asked (of-ended asked e)
+unfolding of-ended refusal
+end-named asked (normalised count n) h = inl (omega arith)
+end-named asked (refused-at number count m c) h = h
+
+read-named : (asked : Name) (text : List ℕ) (r : Result (List Module)) → read text ≡ r → AnswerNamed asked (of-read asked r)
+unfolding of-read refusal normalise reached
+read-named asked text (done ms s) e =
+    end-named asked _
+    (by-cases (EndNamed asked) _ _ _
+    (λ q. turns-named asked (module-names ms) [] empty (reached asked ms) (reached-short asked 0 [] ms (read-names text ms s e))) (λ q. inr refl))
+read-named asked text (refused number at) e = inl (omega arith)
+
+pub answer-named : (memory-lent output-lent : ℕ) (asked : Name) (text : List ℕ) → AnswerNamed asked (answer memory-lent output-lent asked text)
+unfolding answer within refusal
+answer-named memory-lent output-lent asked text =
+    by-cases (AnswerNamed asked) _ _ _ (λ e. inr refl)
+    (λ e. by-cases (AnswerNamed asked) _ _ _ (λ k. read-named asked text (read text) refl) (λ k. inr refl))
+
+-- ---- an asked name of more than 40 bytes
+
+none-long : (asked : Name) → name-size < length asked → (ms : List Module) → Every (λ (m : Module). Short (m .name)) ms
+    → member asked (module-names ms) ≡ false
+unfolding member module-names
+none-long asked l [] h = refl
+none-long asked l (m ∷ ms) h =
+    by-cases (λ (b : Bool). b ≡ false) _ _ _ (λ e. absurd (omega (arith, ap length (same-equal asked (m .name) e), h .0, l)))
+    (λ e. none-long asked l ms (h .1))
+
+-- blank up to 5, and from 6 on the asked one
+abbrev pub named-by-number : Name → ℕ → Name
+named-by-number asked number = pick (leb number 5) [] asked
+
+abbrev ByNumber : Name → Answer → Type 0
+ByNumber asked a = a .evaluating ≡ named-by-number asked (a .number)
+
+from-six : (asked : Name) (number count : ℕ) (c : Name) (at : ℕ) → 5 < number → ByNumber asked (refusal number count asked c at)
+unfolding refusal pick
+from-six asked number count c at h = rw (lt-leb number 5 h)
+
+read-long : (asked : Name) (text : List ℕ) → name-size < length asked → (r : Result (List Module)) → read text ≡ r → ByNumber asked (of-read asked r)
+unfolding of-read of-ended normalise refusal pick
+read-long asked text l (done ms s) e =
+    let absent : normalise asked ms ≡ refused-at asked-absent 0 asked (short-or-blank asked) = rw (none-long asked l ms (read-names text ms s e)) in
+    rw absent (from-six asked asked-absent 0 (short-or-blank asked) 0 (omega arith))
+read-long asked text l (refused number at) e = rw (le-leb number 5 (refused-low text number at e))
+
+pub answer-long : (memory-lent output-lent : ℕ) (asked : Name) (text : List ℕ) → name-size < length asked
+    → ByNumber asked (answer memory-lent output-lent asked text)
+unfolding answer within
+answer-long memory-lent output-lent asked text l =
+    by-cases (ByNumber asked) _ _ _ (λ e. from-six asked lent-short 0 [] 0 (omega arith))
+    (λ e. by-cases (ByNumber asked) _ _ _ (λ k. read-long asked text l (read text) refl) (λ k. from-six asked lent-short _ [] 0 (omega arith)))

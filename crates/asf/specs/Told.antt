@@ -1,0 +1,52 @@
+-- What the answers are as structs: names that are held, and refusals.
+use mathlib.Core.Path.{_≡_, refl}
+use Prim.Native.Nat.{ℕ, _<_, _≤_}
+use native.Mathlib.Omega.{arith}
+use mathlib.Core.List.{List, []}
+use borrow.Author.Tests.{le-leb, lt-leb}
+use lib.ListN.{length, length-take}
+use Rattle.meaning.specs.Lists.{pick, each}
+use Rattle.meaning.specs.Names as Names
+use Rattle.meaning.specs.Numbers.{name-size}
+use Rattle.meaning.specs.Reached.{short-or-blank}
+use Rattle.meaning.specs.Listing.{lines-text}
+use Rattle.meaning.specs.Answer.{refusal, within, output-after}
+use Rattle.names.specs.Word.{name-of}
+use Rattle.asf.specs.declared.answers.Name.{Name}
+use Rattle.asf.specs.declared.answers.Answer.{Answer}
+use Rattle.asf.specs.Answers.{held, told}
+
+-- ---- names
+
+pub short-name : (n : Names.Name) → length n ≤ name-size → short-or-blank n ≡ n
+unfolding short-or-blank pick
+short-name n h = rw (le-leb (length n) name-size h)
+
+pub long-name : (n : Names.Name) → name-size < length n → short-or-blank n ≡ []
+unfolding short-or-blank pick
+long-name n h = rw (lt-leb (length n) name-size h)
+
+pub word-short : (text : List ℕ) (w : ℕ) → length (name-of text w) ≤ name-size
+unfolding name-of
+word-short text w = rw length-take (omega arith)
+
+-- ---- refusals
+
+-- a name and a culprit that are held already
+abbrev pub refusal-held : ℕ → ℕ → Name → Name → ℕ → Answer
+refusal-held number modules m c at = record { number = number; modules = modules; evaluating = m; culprit = c; at = at; listing = 0 }
+
+pub refusal-told : (number modules : ℕ) (m c : Names.Name) (at : ℕ)
+    → told (refusal number modules m c at) ≡ refusal-held number modules (held (short-or-blank m)) (held c) at
+unfolding told refusal lines-text each
+refusal-told number modules m c at = refl
+
+-- a refusal needs no room, and leaves the output
+pub refusal-within : (n : ℕ) (asked : Names.Name) (number modules : ℕ) (m c : Names.Name) (at : ℕ)
+    → within n asked (refusal number modules m c at) ≡ refusal number modules m c at
+unfolding within refusal lines-text each pick
+refusal-within n asked number modules m c at = rw (le-leb 0 n (omega arith))
+
+pub refusal-leaves : (number modules : ℕ) (m c : Names.Name) (at : ℕ) (o : List ℕ) → output-after (refusal number modules m c at) o ≡ o
+unfolding output-after refusal lines-text each
+refusal-leaves number modules m c at o = refl

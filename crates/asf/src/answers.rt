@@ -1,0 +1,130 @@
+// The answer of a call: document 01's number and values.
+ghost use mathlib.Core.Path.{_≡_};
+ghost use mathlib.Core.List.{[]};
+ghost use Rattle.meaning.specs.Numbers.{asked-absent, lent-short};
+ghost use Rattle.meaning.specs.Reached.{short-or-blank};
+ghost use Rattle.meaning.specs.Answer.{refusal};
+ghost use Rattle.names.specs.Word.{name-of};
+ghost use Rattle.asf.specs.Answers.{held, told, told-listed};
+
+// A name of at most 40 bytes, and zeros behind it.
+pub struct Name {
+    pub bytes: [u8; 40],
+    pub length: usize,
+}
+
+// The number; how many modules were evaluated, the refused one included; the module evaluated when refused; the culprit; its place; and how
+// long the listing is. For 6 and 19 the module is the asked one, or blank where the asked name has more than 40 bytes: the caller has it.
+pub struct Answer {
+    pub number: u32,
+    pub modules: u32,
+    pub evaluating: Name,
+    pub culprit: Name,
+    pub at: usize,
+    pub listing: usize,
+}
+
+fn blank() -> Name
+    ensures { λ r. ⌜ r ≡ held [] ⌝ }
+{
+    let bytes = [0; 40];
+    Name { bytes, length: 0 }
+}
+
+// The name, or a blank one if it has more than 40 bytes.
+fn short_or_blank(name: &[u8]) -> Name
+    ensures { λ r. ⌜ r ≡ held (short-or-blank (now (name .entry))) ⌝ }
+{
+    let mut bytes = [0; 40];
+    if 40 < name.len() {
+        return blank();
+    }
+    let length = pen::put_text(&mut bytes, 0, 41, name);
+    Name { bytes, length }
+}
+
+// The name that the word w stands for.
+fn name_in(text: &[u8], w: u32) -> Name
+    ensures { λ r. ⌜ r ≡ held (name-of (now (text .entry)) w) ⌝ }
+{
+    let mut bytes = [0; 40];
+    let length = pen::put_name(&mut bytes, 0, 41, text, w);
+    Name { bytes, length }
+}
+
+// 0, with a listing of so many bytes.
+pub fn listed(modules: u32, listing: usize) -> Answer
+    ensures { λ r. ⌜ r ≡ told-listed modules listing ⌝ }
+{
+    let none = blank();
+    Answer {
+        number: 0,
+        modules,
+        evaluating: none,
+        culprit: none,
+        at: 0,
+        listing,
+    }
+}
+
+// 1 to 5.
+pub fn unread(number: u8, at: usize) -> Answer
+    ensures { λ r. ⌜ r ≡ told (refusal number 0 [] [] at) ⌝ }
+{
+    let none = blank();
+    Answer {
+        number: number as u32,
+        modules: 0,
+        evaluating: none,
+        culprit: none,
+        at,
+        listing: 0,
+    }
+}
+
+// 6.
+pub fn absent(asked: &[u8]) -> Answer
+    ensures { λ r. ⌜ r ≡ told (refusal asked-absent 0 (now (asked .entry)) (short-or-blank (now (asked .entry))) 0) ⌝ }
+{
+    let name = short_or_blank(asked);
+    Answer {
+        number: 6,
+        modules: 0,
+        evaluating: name,
+        culprit: name,
+        at: 0,
+        listing: 0,
+    }
+}
+
+// 7 to 18, and 20.
+pub fn refused(text: &[u8], number: u32, modules: u32, module: u32, culprit: u32) -> Answer
+    ensures { λ r. ⌜ r ≡ told (refusal number modules (name-of (now (text .entry)) «module») (name-of (now (text .entry)) culprit) 0) ⌝ }
+{
+    let evaluating = name_in(text, module);
+    let name = name_in(text, culprit);
+    Answer {
+        number,
+        modules,
+        evaluating,
+        culprit: name,
+        at: 0,
+        listing: 0,
+    }
+}
+
+// 19.
+pub fn lent_short(asked: &[u8], modules: u32) -> Answer
+    ensures { λ r. ⌜ r ≡ told (refusal lent-short modules (now (asked .entry)) [] 0) ⌝ }
+{
+    let none = blank();
+    let evaluating = short_or_blank(asked);
+    Answer {
+        number: 19,
+        modules,
+        evaluating,
+        culprit: none,
+        at: 0,
+        listing: 0,
+    }
+}
