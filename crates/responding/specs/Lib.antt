@@ -1,0 +1,4 @@
+pub mod Program
+pub mod Short
+pub mod Printed
+pub mod Enough

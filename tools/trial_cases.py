@@ -1,0 +1,153 @@
+#!/usr/bin/env python3
+"""Writes the standard input of crates/trials and what it must print: trial_cases.py REFERENCE
+
+REFERENCE is the program `reference-asfnorm` (rust/README.md). The cases: every vector of rust/reference/vectors, with the output that stands
+there; every example of docs/ANSWERS.md; and sizes at their limit and one beyond. What these last must print is what the reference prints, and
+where less is lent than the program lends, 19 if the listing is longer or the working memory shorter.
+A case is a line `MEMORY OUTPUT INPUT PRINTED NAME`, four numbers of seven digits, and then its input and what must be printed."""
+import glob
+import os
+import re
+import subprocess
+import sys
+
+MEMORY, OUTPUT = 1048576, 65536
+here = os.path.dirname(os.path.dirname(os.path.abspath(__file__)))
+cases = []
+
+
+def reference(given):
+    return subprocess.run([sys.argv[1]], input=given, stdout=subprocess.PIPE, check=True).stdout
+
+
+def case(name, given, printed, memory=MEMORY, output=OUTPUT):
+    cases.append((name, memory, output, given, printed))
+
+
+def tried(name, given, answer):
+    """a case whose number is known beforehand"""
+    given = given.encode()
+    printed = reference(given)
+    assert printed.startswith(b'answer=%d\n' % answer), (name, printed[:60])
+    case(name, given, printed)
+
+
+def refused(answer, modules, module):
+    return b'answer=%d\nmodules=%d\nmodule=%s\nname=\nat=0\n' % (answer, modules, module)
+
+
+# ---- the vectors
+
+for path in sorted(glob.glob(here + '/rust/reference/vectors/*/*.in')):
+    given, printed = open(path, 'rb').read(), open(path[:-3] + '.out', 'rb').read()
+    case(os.path.basename(path)[:-3], given, printed)
+
+# ---- the help sheet: the input below a number gives it
+
+number = None
+for title, block in re.findall(r'^#+ (\d+):|^```\n(.*?)^```', open(here + '/docs/ANSWERS.md').read(), re.M | re.S):
+    if title:
+        number = int(title)
+    elif block.startswith('normalise='):
+        tried('answer-%d' % number, block, number)
+
+# ---- sizes at their limit, and one beyond
+
+
+def chain(count):
+    """so many modules, each of which imports the one before"""
+    modules = ['module M0 begin exports begin sorts S end end M0']
+    modules += ['module M%d begin imports M%d end M%d' % (i, i - 1, i) for i in range(1, count)]
+    return 'normalise=M%d\n' % (count - 1) + '\n'.join(modules) + '\n'
+
+
+tried('modules-64', chain(64), 0)
+tried('modules-65', chain(65), 4)
+
+
+def named(size):
+    name = 'N' * size
+    return 'module %s begin exports begin sorts %s functions f : %s -> %s end end %s\n' % ((name,) * 5)
+
+
+tried('name-40', 'normalise=' + 'N' * 40 + '\n' + named(40), 0)
+tried('name-41', 'normalise=M\n' + named(41), 4)
+tried('asked-40', 'normalise=' + 'M' * 40 + '\n' + named(40), 6)
+tried('asked-41', 'normalise=' + 'N' * 41 + '\n' + named(40), 2)
+
+
+def items(count):
+    return 'normalise=M\nmodule M begin exports begin sorts ' + ','.join('s%d' % i for i in range(count)) + ' end end M\n'
+
+
+tried('items-512', items(512), 0)
+tried('items-513', items(513), 18)
+
+
+def spaced(size):
+    text = 'module M begin exports begin sorts S end end M'
+    return 'normalise=M\n' + text + ' ' * (size - len(text))
+
+
+tried('text-32768', spaced(32768), 0)
+tried('text-32769', spaced(32769), 4)
+
+# ---- the listing's size: all that the program lends, and one byte more. An equation's tag makes it longer byte by byte
+
+
+def wide(functions, tags):
+    declared = ' '.join('f%d : S#S#S#S#S#S#S#S -> S' % i for i in range(functions))
+    equations = ' '.join('[%s] c = c' % ('t' * size) for size in tags)
+    return ('normalise=Wide\nmodule Slim begin exports begin sorts S functions c : -> S %s end end Slim\n'
+            'module Wide begin imports Slim { renamed by [ S -> %s ] } equations %s end Wide\n') % (declared, 'W' * 40, equations)
+
+
+def size_printed(printed):
+    """the listing's size, behind the two lines before it"""
+    return len(printed) - len(b''.join(printed.splitlines(True)[:2]))
+
+
+def listing_size(given):
+    """one more than the program lends, if that is not enough"""
+    printed = reference(given.encode())
+    return size_printed(printed) if printed.startswith(b'answer=0\n') else OUTPUT + 1
+
+
+def filled(size):
+    """an input whose listing has so many bytes"""
+    functions = 1
+    while listing_size(wide(functions + 1, [1])) <= size - 60:
+        functions += 1
+    tags = [1]
+    while True:
+        left = size - listing_size(wide(functions, tags))
+        if left < 40:
+            tags[0] += left
+            return wide(functions, tags)
+        tags.append(1)
+
+
+exact = filled(OUTPUT)
+assert listing_size(exact) == OUTPUT
+tried('listing-65536', exact, 0)
+tried('listing-65537', exact.replace(' equations [t', ' equations [tt', 1), 19)
+
+# ---- less is lent: output of the listing's size and one byte less, no output, and a word of working memory less
+
+for name in ['L', 'I.1.18', '3.1-Nstrings']:
+    given, printed = [(g, p) for n, m, o, g, p in cases if n == name][0]
+    modules = int(re.search(rb'modules=(\d+)', printed).group(1))
+    asked = given[10:given.index(b'\n')]
+    size = size_printed(printed)
+    case(name + '-exact', given, printed, output=size)
+    case(name + '-one-byte-short', given, refused(19, modules, asked), output=size - 1)
+    case(name + '-no-output', given, refused(19, modules, asked), output=0)
+    case(name + '-one-word-short', given, refused(19, 0, asked), memory=MEMORY - 1)
+    case(name + '-no-memory', given, refused(19, 0, asked), memory=0)
+case('no-request-no-memory', b'normalise', refused(2, 0, b''), memory=0)
+
+with open(here + '/crates/trials/stdin', 'wb') as f:
+    for name, memory, output, given, printed in cases:
+        f.write(b'%07d %07d %07d %07d %s\n' % (memory, output, len(given), len(printed), name.encode()) + given + printed)
+with open(here + '/crates/trials/stdout', 'w') as f:
+    f.write(''.join(name + ' ok\n' for name, *rest in cases) + '%d of %d\n' % (len(cases), len(cases)))
