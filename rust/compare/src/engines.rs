@@ -5,9 +5,6 @@ use reference::{asfnorm, normalise, Answer, Lent};
 use std::io::{self, Write};
 use std::process::{Command, Stdio};
 
-/// An implementation of document 01: asked name, text, length of the lent output.
-pub type Normaliser = fn(&[u8], &[u8], usize) -> Answer;
-
 pub fn reference(asked: &[u8], text: &[u8], output: usize) -> Answer {
     normalise(asked, text, Lent::output(output))
 }
@@ -26,27 +23,6 @@ pub fn reference_with_short_memory(asked: &[u8], text: &[u8], output: usize) -> 
         output,
     };
     normalise(asked, text, lent)
-}
-
-pub fn compare(case: &Case, one: Normaliser, other: Normaliser) -> Option<Difference> {
-    let expected = one(&case.asked, &case.text, case.output);
-    let found = other(&case.asked, &case.text, case.output);
-    (expected != found).then(|| Difference {
-        reference: told(&expected),
-        other: told(&found),
-    })
-}
-
-fn told(answer: &Answer) -> String {
-    format!(
-        "number {} modules {} module {:?} name {:?} at {}\n{}",
-        answer.number,
-        answer.modules,
-        String::from_utf8_lossy(&answer.module),
-        String::from_utf8_lossy(&answer.name),
-        answer.at,
-        String::from_utf8_lossy(&answer.listing)
-    )
 }
 
 /// The standard input of `asfnorm` for a case.

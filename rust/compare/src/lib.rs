@@ -5,13 +5,15 @@ pub mod cases;
 pub mod damage;
 pub mod diamonds;
 pub mod draft;
+pub mod driver;
 pub mod engines;
 pub mod generic;
+pub mod loads;
 pub mod names;
-#[cfg(feature = "proved")]
 pub mod proved;
 pub mod random;
 pub mod shrink;
 pub mod sizes;
 pub mod spelling;
+pub mod timing;
 pub mod view;

@@ -2,7 +2,9 @@
 
 use compare::cases::{case, Case};
 use compare::engines::{self, Difference};
+use compare::proved::Proved;
 use compare::shrink::shrink;
+use compare::timing;
 use std::collections::BTreeMap;
 use std::env;
 use std::error::Error;
@@ -12,7 +14,8 @@ use std::process::ExitCode;
 const USAGE: &str = "usage:
   compare tally COUNT [FIRST]            answers of the reference over seeds, by kind of text
   compare program PATH COUNT [FIRST]     a program like asfnorm against the reference
-  compare proved COUNT [FIRST]           the proved library (feature `proved`) against the reference
+  compare proved COUNT FIRST DRIVER..    the proved library, behind its driver in C, against the reference
+  compare time TIMES DRIVER..            times of the library and of the reference, as a table
   compare input SEED                     the standard input of asfnorm for a seed";
 
 fn main() -> Result<ExitCode, Box<dyn Error>> {
@@ -23,8 +26,13 @@ fn main() -> Result<ExitCode, Box<dyn Error>> {
         ["tally", count, first] => tally(count.parse()?, first.parse()?),
         ["program", path, count] => against_program(path, count.parse()?, 0),
         ["program", path, count, first] => against_program(path, count.parse()?, first.parse()?),
-        ["proved", count] => against_proved(count.parse()?, 0),
-        ["proved", count, first] => against_proved(count.parse()?, first.parse()?),
+        ["proved", count, first, _, ..] => {
+            against_proved(&arguments[3..], count.parse()?, first.parse()?)
+        }
+        ["time", times, _, ..] => {
+            timing::table(times.parse()?, &arguments[2..])?;
+            Ok(ExitCode::SUCCESS)
+        }
         ["input", seed] => input(seed.parse()?),
         _ => {
             eprintln!("{USAGE}");
@@ -67,6 +75,9 @@ fn search(
     differ: impl Fn(&Case) -> Option<Difference>,
 ) -> Result<ExitCode, Box<dyn Error>> {
     for seed in first..first + count {
+        if seed > first && (seed - first) % 10_000 == 0 {
+            eprintln!("{} seeds from {first}: no difference so far", seed - first);
+        }
         let case = case(seed);
         if differ(&case).is_some() {
             let smallest = shrink(&case, |smaller| differ(smaller).is_some());
@@ -100,22 +111,8 @@ fn against_program(path: &str, count: u64, first: u64) -> Result<ExitCode, Box<d
     })
 }
 
-/// With the working memory whole, and with one word too few.
-#[cfg(feature = "proved")]
-fn against_proved(count: u64, first: u64) -> Result<ExitCode, Box<dyn Error>> {
-    use compare::proved::{proved, proved_with_short_memory};
-    search(count, first, |case| {
-        engines::compare(case, engines::reference, proved).or_else(|| {
-            engines::compare(
-                case,
-                engines::reference_with_short_memory,
-                proved_with_short_memory,
-            )
-        })
-    })
-}
-
-#[cfg(not(feature = "proved"))]
-fn against_proved(_: u64, _: u64) -> Result<ExitCode, Box<dyn Error>> {
-    Err("built without the feature `proved`".into())
+/// The words of the command that starts the driver: itself, or an emulator and the driver.
+fn against_proved(command: &[String], count: u64, first: u64) -> Result<ExitCode, Box<dyn Error>> {
+    let proved = Proved::new(command);
+    search(count, first, |case| proved.compare(case))
 }

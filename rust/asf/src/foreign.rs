@@ -1,0 +1,144 @@
+//! The calls of C, and what they are lent.
+
+use crate::refusal::Refusal;
+use crate::{Listing, NAME_BYTES, OUTPUT_BYTES};
+
+// As in `c/asf.h`: a pointer is followed by the number of elements behind it.
+extern "C" {
+    fn asf_memory_words() -> usize;
+    fn asf_normalise(
+        asked: *const u8,
+        asked_length: usize,
+        text: *const u8,
+        text_length: usize,
+        work: *mut u32,
+        work_length: usize,
+        out: *mut u8,
+        out_length: usize,
+        values: *mut usize,
+        values_length: usize,
+        names: *mut u8,
+        names_length: usize,
+    ) -> u32;
+    fn asf_line(
+        listing: *const u8,
+        listing_length: usize,
+        place: usize,
+        values: *mut usize,
+        values_length: usize,
+    ) -> u32;
+    fn asf_visible(listing: *const u8, listing_length: usize) -> usize;
+}
+
+/// The working memory and the output, kept between calls.
+pub struct Memory {
+    work: Vec<u32>,
+    out: Vec<u8>,
+}
+
+impl Default for Memory {
+    fn default() -> Memory {
+        Memory::new()
+    }
+}
+
+impl Memory {
+    /// The working memory that the library needs, and room for a listing of [`OUTPUT_BYTES`].
+    pub fn new() -> Memory {
+        Memory::with_output(OUTPUT_BYTES)
+    }
+
+    /// The same with room for a listing of so many bytes; a longer one is refused by 19.
+    pub fn with_output(bytes: usize) -> Memory {
+        // SAFETY: the function takes nothing.
+        let words = unsafe { asf_memory_words() };
+        Memory {
+            work: vec![0; words],
+            out: vec![0; bytes],
+        }
+    }
+
+    /// Normalises the asked module of a text.
+    pub fn normalise(&mut self, asked: &[u8], text: &[u8]) -> Result<Listing, Refusal> {
+        let mut values = [0; 6];
+        let mut names = [0; 2 * NAME_BYTES];
+        // SAFETY: each pointer comes from a slice and is followed by its length; what is lent for writing is borrowed as such, so that
+        // nothing overlaps it. The library asks nothing else of its callers.
+        let number = unsafe {
+            asf_normalise(
+                asked.as_ptr(),
+                asked.len(),
+                text.as_ptr(),
+                text.len(),
+                self.work.as_mut_ptr(),
+                self.work.len(),
+                self.out.as_mut_ptr(),
+                self.out.len(),
+                values.as_mut_ptr(),
+                values.len(),
+                names.as_mut_ptr(),
+                names.len(),
+            )
+        };
+        let [_, modules, at, module, name, listing] = values;
+        if number == 0 {
+            return Ok(Listing {
+                bytes: self.out[..listing].to_vec(),
+                modules: modules as u32,
+            });
+        }
+        Err(Refusal {
+            number,
+            modules: modules as u32,
+            module: match number {
+                // the library tells the asked name only where it has at most 40 bytes
+                6 | 19 => asked.to_vec(),
+                _ => names[..module].to_vec(),
+            },
+            name: names[NAME_BYTES..][..name].to_vec(),
+            at,
+        })
+    }
+}
+
+/// What stands at a place of a listing, by its places: where the key ends, where the value begins and ends, where the next line is.
+pub enum Read {
+    Line {
+        mark: usize,
+        value: usize,
+        end: usize,
+        next: usize,
+    },
+    End,
+    Bad,
+}
+
+pub fn line_at(listing: &[u8], place: usize) -> Read {
+    let mut values = [0; 5];
+    // SAFETY: as above.
+    let number = unsafe {
+        asf_line(
+            listing.as_ptr(),
+            listing.len(),
+            place,
+            values.as_mut_ptr(),
+            values.len(),
+        )
+    };
+    let [_, mark, value, end, next] = values;
+    match number {
+        0 => Read::Line {
+            mark,
+            value,
+            end,
+            next,
+        },
+        1 => Read::End,
+        _ => Read::Bad,
+    }
+}
+
+pub fn visible_length(listing: &[u8]) -> usize {
+    // SAFETY: as above.
+    unsafe { asf_visible(listing.as_ptr(), listing.len()) }
+}

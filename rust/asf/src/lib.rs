@@ -1,0 +1,51 @@
+//! Normalising ASF specifications by the proved library: [`normalise`] gives a module's normal form as a [`Listing`], or a [`Refusal`].
+//! All that is unsafe here is three calls of C, in `foreign`.
+
+mod foreign;
+mod lines;
+mod refusal;
+
+pub use foreign::Memory;
+pub use lines::{lines, visible, BadLine, Line, Lines};
+pub use refusal::Refusal;
+
+/// The most bytes of a text that is read.
+pub const TEXT_BYTES: usize = 32_768;
+/// The most bytes of a name.
+pub const NAME_BYTES: usize = 40;
+/// The bytes that are lent for a listing, unless [`Memory::with_output`] says otherwise.
+pub const OUTPUT_BYTES: usize = 65_536;
+
+/// The normal form of a module, as lines `key=value`.
+#[derive(Clone, Debug, PartialEq, Eq)]
+pub struct Listing {
+    bytes: Vec<u8>,
+    modules: u32,
+}
+
+impl Listing {
+    /// The whole listing.
+    pub fn bytes(&self) -> &[u8] {
+        &self.bytes
+    }
+
+    /// How many modules were evaluated.
+    pub fn modules(&self) -> u32 {
+        self.modules
+    }
+
+    /// Its lines, from the first on.
+    pub fn lines(&self) -> Lines<'_> {
+        lines(&self.bytes)
+    }
+
+    /// The part that shows what of the module other modules can see.
+    pub fn visible(&self) -> &[u8] {
+        visible(&self.bytes)
+    }
+}
+
+/// Normalises the asked module of a text. It lends working memory and output for this one call; [`Memory`] keeps them for more.
+pub fn normalise(asked: &[u8], text: &[u8]) -> Result<Listing, Refusal> {
+    Memory::new().normalise(asked, text)
+}

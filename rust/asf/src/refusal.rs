@@ -1,0 +1,87 @@
+//! Why a module has no listing, with a text for each number.
+
+use std::error::Error;
+use std::fmt;
+
+/// The number, how many modules were evaluated (the refused one included), the module evaluated when refused, the culprit's name, and for
+/// 1 to 5 its place in the text. What a number does not tell is blank or 0.
+#[derive(Clone, Debug, PartialEq, Eq)]
+pub struct Refusal {
+    pub(crate) number: u32,
+    pub(crate) modules: u32,
+    pub(crate) module: Vec<u8>,
+    pub(crate) name: Vec<u8>,
+    pub(crate) at: usize,
+}
+
+impl Refusal {
+    /// 1 to 20.
+    pub fn number(&self) -> u32 {
+        self.number
+    }
+
+    /// How many modules were evaluated, the refused one included; 0 for 1 to 6.
+    pub fn modules(&self) -> u32 {
+        self.modules
+    }
+
+    /// The module evaluated when refused; the asked one for 6 and 19, blank for 1 to 5.
+    pub fn module(&self) -> &[u8] {
+        &self.module
+    }
+
+    /// The culprit's name.
+    pub fn name(&self) -> &[u8] {
+        &self.name
+    }
+
+    /// The culprit's place in the text, in bytes from 0; 0 from 6 up.
+    pub fn at(&self) -> usize {
+        self.at
+    }
+}
+
+/// What each number says, in the words of the help sheet (docs/ANSWERS.md), which has an example and a remedy for each.
+fn text(number: u32) -> &'static str {
+    match number {
+        1 => "these bytes are no part of the language",
+        2 => "this may not stand here",
+        3 => "another name is closed than was opened",
+        4 => "more than a text may have",
+        5 => "two modules have this name",
+        6 => "the asked module is not in the text",
+        7 => "there is no module of this name",
+        8 => "the module comes too late",
+        9 => "declared twice",
+        10 => "one name for two things",
+        11 => "arguments do not tell which",
+        12 => "this variable is taken",
+        13 => "this sort is not there",
+        14 => "nothing to rename",
+        15 => "no such parameter, or one too many",
+        16 => "what is bound does not fit",
+        17 => "an equation makes no sense",
+        18 => "the normal form is too large",
+        19 => "the listing does not fit",
+        20 => "modules import each other in a circle",
+        _ => "no such number",
+    }
+}
+
+impl fmt::Display for Refusal {
+    fn fmt(&self, f: &mut fmt::Formatter<'_>) -> fmt::Result {
+        write!(f, "{}: {}", self.number, text(self.number))?;
+        if self.number <= 5 {
+            return write!(f, ", at byte {}", self.at);
+        }
+        if !self.module.is_empty() {
+            write!(f, ", module {}", String::from_utf8_lossy(&self.module))?;
+        }
+        if !self.name.is_empty() {
+            write!(f, ", name {}", String::from_utf8_lossy(&self.name))?;
+        }
+        Ok(())
+    }
+}
+
+impl Error for Refusal {}

@@ -1,0 +1,228 @@
+//! The texts whose times are measured: small ones, a specification near every limit, and texts made to take long.
+
+use reference::TEXT_BYTES;
+
+/// A text with a name for the table and the module that is asked.
+pub struct Load {
+    pub title: &'static str,
+    pub asked: &'static str,
+    pub text: String,
+}
+
+pub fn loads() -> Vec<Load> {
+    let vector = |title, asked, input: &'static str| {
+        let (_, text) = input.split_once('\n').expect("a first line");
+        load(title, asked, text.to_string())
+    };
+    vec![
+        vector(
+            "L",
+            "M2",
+            include_str!("../../reference/vectors/appendix/L.in"),
+        ),
+        vector(
+            "Nstrings, section 3.1",
+            "Nstrings",
+            include_str!("../../reference/vectors/appendix/3.1-Nstrings.in"),
+        ),
+        load("near every limit", "Top", near_every_limit()),
+        load(
+            "one sort name, 16,000 times",
+            "M",
+            sorts(&repeated(16_000), true),
+        ),
+        load("9,000 sorts exported", "M", sorts(&names(9_000), true)),
+        load("9,000 sorts hidden", "M", sorts(&names(9_000), false)),
+        load("constants to the brim", "M", constants()),
+        load("variables to the brim", "M", variables()),
+        load("one function over 3,600 types", "M", overloaded()),
+        load("terms over 3,000 constants", "M", terms()),
+        load(
+            "64 modules, each imported 16 times",
+            "m63",
+            imported_often(),
+        ),
+        load("15 renamings of 500 sorts", "m1", renamings()),
+    ]
+}
+
+fn load(title: &'static str, asked: &'static str, text: String) -> Load {
+    assert!(text.len() <= TEXT_BYTES, "{title}: {} bytes", text.len());
+    Load { title, asked, text }
+}
+
+fn joined(count: usize, separator: &str, element: impl Fn(usize) -> String) -> String {
+    let elements: Vec<String> = (0..count).map(element).collect();
+    elements.join(separator)
+}
+
+/// The shortest names, but for the keywords among them.
+fn names(count: usize) -> Vec<String> {
+    let letters: Vec<char> = ('a'..='z').chain('A'..='Z').chain('0'..='9').collect();
+    let mut names: Vec<String> = Vec::new();
+    let mut stems = vec![String::new()];
+    while names.len() < count {
+        let longer = |stem: &String| -> Vec<String> {
+            letters
+                .iter()
+                .map(|letter| format!("{stem}{letter}"))
+                .collect()
+        };
+        stems = stems.iter().flat_map(longer).collect();
+        names.extend(
+            stems
+                .iter()
+                .filter(|name| !["to", "by", "end"].contains(&name.as_str()))
+                .cloned(),
+        );
+    }
+    names.truncate(count);
+    names
+}
+
+fn repeated(count: usize) -> Vec<String> {
+    vec!["A".to_string(); count]
+}
+
+fn sorts(names: &[String], exported: bool) -> String {
+    let list = brim(names, ",", 60);
+    if exported {
+        format!("module M begin exports begin sorts {list} end end M")
+    } else {
+        format!("module M begin sorts {list} end M")
+    }
+}
+
+/// As many elements as a text holds beside so many bytes.
+fn brim(elements: &[String], separator: &str, beside: usize) -> String {
+    let mut text = String::new();
+    for element in elements {
+        if text.len() + separator.len() + element.len() + beside > TEXT_BYTES {
+            break;
+        }
+        if !text.is_empty() {
+            text.push_str(separator);
+        }
+        text.push_str(element);
+    }
+    text
+}
+
+fn constants() -> String {
+    let declared: Vec<String> = names(6_000)
+        .iter()
+        .map(|name| format!("{name}:->A"))
+        .collect();
+    let list = brim(&declared, "\n", 90);
+    format!("module M begin exports begin sorts A functions {list} end end M")
+}
+
+fn variables() -> String {
+    let declared: Vec<String> = names(10_000)
+        .iter()
+        .map(|name| format!("v{name}"))
+        .collect();
+    let list = brim(&declared, ",", 90);
+    format!("module M begin exports begin sorts A end variables {list}:->A end M")
+}
+
+/// As many input types of two sorts as a text holds, under one function name.
+fn overloaded() -> String {
+    let sorts = names(60);
+    let pairs = sorts.iter().flat_map(|one| {
+        let declared = |other| format!("f:{one}#{other}->a");
+        sorts.iter().map(declared).collect::<Vec<String>>()
+    });
+    let declared = brim(&pairs.collect::<Vec<String>>(), "\n", 250);
+    let sorts = sorts.join(",");
+    format!("module M begin exports begin sorts {sorts} functions {declared} end end M")
+}
+
+/// Equations of 34 nodes, most of them the constant that was declared last.
+fn terms() -> String {
+    let constants = names(3_000);
+    let last = &constants[2_999];
+    let eight = format!("f({})", vec![last.as_str(); 8].join(","));
+    let side = format!(
+        "f({},{})",
+        [eight.as_str(); 2].join(","),
+        vec![last.as_str(); 6].join(",")
+    );
+    let declared: Vec<String> = constants.iter().map(|name| format!("{name}:->A")).collect();
+    let front = format!(
+        "module M begin exports begin sorts A functions {}\nf:A#A#A#A#A#A#A#A->A end equations ",
+        declared.join("\n")
+    );
+    let equations = brim(
+        &vec![format!("[e]{side}={eight}"); 200],
+        "\n",
+        front.len() + 20,
+    );
+    format!("{front}{equations} end M")
+}
+
+/// A chain of 64 modules, each of which imports the one before it 16 times.
+fn imported_often() -> String {
+    joined(64, "\n", |module| match module {
+        0 => format!(
+            "module m0 begin exports begin sorts {} end end m0",
+            joined(7, ",", |sort| format!("s{sort}"))
+        ),
+        _ => {
+            let imports = joined(16, ",", |_| format!("m{}", module - 1));
+            format!("module m{module} begin imports {imports} end m{module}")
+        }
+    })
+}
+
+fn renamings() -> String {
+    let declared = joined(500, ",", |sort| format!("s{sort}"));
+    let imports = joined(15, ",", |import| {
+        let pairs = joined(32, ",", |pair| format!("s{0}->t{0}", import * 32 + pair));
+        format!("m0 {{renamed by [{pairs}]}}")
+    });
+    format!("module m0 begin exports begin sorts {declared} end end m0\nmodule m1 begin imports {imports} end m1\n")
+}
+
+/// 64 modules, 992 items, 480 equations, close to 32,768 bytes: 16 modules of 31 items and 15 equations over 47 empty ones, and a top that
+/// imports them all, four renamed.
+fn near_every_limit() -> String {
+    let mut text = joined(47, "", |module| {
+        format!("module Empty{module} begin end Empty{module}\n")
+    });
+    text += &joined(16, "", leaf);
+    let imports = joined(16, ",", |module| match module % 4 {
+        0 => format!("Leaf{module} {{renamed by [combine{module}x0 -> joined{module}]}}"),
+        _ => format!("Leaf{module}"),
+    });
+    text += &format!("module Top begin imports {imports} end Top\n");
+    text
+}
+
+/// Two sorts, 20 functions, 5 hidden ones, four variables, 15 equations.
+fn leaf(module: usize) -> String {
+    let imports = joined(if module == 15 { 2 } else { 3 }, ",", |import| {
+        format!("Empty{}", module * 3 + import)
+    });
+    let functions = joined(20, "\n", |f| match f % 4 {
+        0 => format!("combine{module}x{f} : Element{module} # Element{module} -> Element{module}"),
+        1 => format!("measure{module}x{f} : Element{module} -> Result{module}"),
+        2 => format!("initial{module}x{f} : -> Element{module}"),
+        _ => format!("convert{module}x{f} : Result{module} -> Element{module}"),
+    });
+    let hidden = joined(5, "\n", |f| {
+        format!("aux{f} : Element{module} -> Element{module}")
+    });
+    let equations = joined(15, "\n", |e| {
+        let f = e % 5 * 4;
+        format!(
+            "[e{e}] combine{module}x{f}(x, aux{}(y)) = convert{module}x{}(measure{module}x{}(x))",
+            e / 3,
+            f + 3,
+            f + 1
+        )
+    });
+    format!(
+        "module Leaf{module} begin exports begin sorts Element{module}, Result{module} functions\n{functions} end\nimports {imports}\nfunctions {hidden}\nvariables x, y, z, u : -> Element{module}\nequations {equations} end Leaf{module}\n"
+    )
+}

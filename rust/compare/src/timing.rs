@@ -1,0 +1,72 @@
+//! Times of the proved library and of the reference on the same texts, as a table. Nothing is held to a time.
+
+use crate::driver::Driver;
+use crate::loads::{loads, Load};
+use reference::{normalise, Answer, Lent, OUTPUT_BYTES};
+use std::io;
+
+/// The least time of so many calls for every load.
+pub fn table(times: usize, command: &[String]) -> io::Result<()> {
+    println!("| Text | Bytes | Answer | Proved, ms | Reference, ms | Ratio |");
+    println!("|---|---|---|---|---|---|");
+    for load in loads() {
+        let mut driver = Driver::start(command)?;
+        println!("{}", row(&load, times, &mut driver)?);
+    }
+    Ok(())
+}
+
+fn row(load: &Load, times: usize, driver: &mut Driver) -> io::Result<String> {
+    let (asked, text) = (load.asked.as_bytes(), load.text.as_bytes());
+    let proved = driver.time(asked, text, OUTPUT_BYTES, times)?;
+    let (answer, reference) = least_time(asked, text, times);
+    if proved.number != answer.number {
+        let message = format!("{}: {} and {}", load.title, proved.number, answer.number);
+        return Err(io::Error::new(io::ErrorKind::InvalidData, message));
+    }
+    let (proved, reference) = (proved.least as f64 / 1e6, reference as f64 / 1e6);
+    Ok(format!(
+        "| {} | {} | {} | {proved:.3} | {reference:.3} | {:.2} |",
+        load.title,
+        text.len(),
+        answer.number,
+        proved / reference
+    ))
+}
+
+/// The least time of a call of the reference, in nanoseconds. What it allocates, it allocates within the call.
+fn least_time(asked: &[u8], text: &[u8], times: usize) -> (Answer, u64) {
+    let answer = normalise(asked, text, Lent::output(OUTPUT_BYTES));
+    let mut least = u64::MAX;
+    for _ in 0..times {
+        let start = processor_time();
+        std::hint::black_box(normalise(asked, text, Lent::output(OUTPUT_BYTES)));
+        least = least.min(processor_time() - start);
+    }
+    (answer, least)
+}
+
+#[repr(C)]
+struct Moment {
+    seconds: i64,
+    nanoseconds: i64,
+}
+
+extern "C" {
+    fn clock_gettime(clock: i32, moment: *mut Moment) -> i32;
+}
+
+/// Linux's clock of the processor's time for this process.
+const PROCESS_TIME: i32 = 2;
+
+/// The processor's time for this process, in nanoseconds: other work on the machine does not count.
+fn processor_time() -> u64 {
+    let mut moment = Moment {
+        seconds: 0,
+        nanoseconds: 0,
+    };
+    // SAFETY: the C library, which std links, writes one moment through the pointer.
+    let failed = unsafe { clock_gettime(PROCESS_TIME, &mut moment) };
+    assert_eq!(failed, 0, "the clock is read");
+    moment.seconds as u64 * 1_000_000_000 + moment.nanoseconds as u64
+}
