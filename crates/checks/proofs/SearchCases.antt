@@ -5,10 +5,12 @@ use mathlib.Core.Option.{none, some}
 use mathlib.Core.List.{List, [], _∷_, map}
 use Prim.Native.Nat.{ℕ, zero, suc, _+_, _*_, _-_, _≤_, _<_}
 use native.Mathlib.Omega.{arith}
-use lib.Dec.{ltb}
+use lib.Dec.{eqb, ltb}
 use lib.ListN.{getD}
+use mir.Syntax.{w32}
+use mir.Val.{Fits}
 use borrow.Author.Needs.{needs}
-use borrow.Author.Tests.{ltb-true, ltb-false}
+use borrow.Author.Tests.{eq-eqb, ne-eqb, eqb-false, ltb-true, ltb-false}
 use Rattle.meaning.specs.Lists.{pick, any}
 use Rattle.meaning.specs.Names.{Name, same, not-after}
 use Rattle.meaning.specs.OrderLaws.{same-equal, same-self, not-after-antisymmetric}
@@ -22,8 +24,10 @@ use Rattle.order.specs.Order.{name-in, InOrder}
 use Rattle.order.specs.Sorting.{ordered-names}
 use Rattle.order.specs.Ordered.{row-item, row-called, ordered-items, ordered-called}
 use Rattle.checks.specs.declared.Test.{Test}
+use Rattle.checks.specs.declared.Test.the-variants.{Sorts, Functions, Overloading}
 use Rattle.checks.specs.declared.Found.the-variants.{At, Nothing}
-use Rattle.checks.specs.Clashes.{named, wrong, clash-name, repeated-name, but-name, wrong-parts}
+use Rattle.checks.specs.Clashes.{named, wrong, clash-name, repeated-name, but-name, first-rival, wrong-parts}
+use Rattle.checks.proofs.PairCases.{sorts-first}
 
 -- ---- what the order table points at from place i on
 
@@ -106,7 +110,7 @@ module _ (text tape w : List ℕ) (b n p : ℕ) (t : Test) where
   pub outer-start : Outer text tape w b n p t 0
   outer-start = record { inside = omega arith; comes = refl }
 
-  pub inner-start : (i : ℕ) (x : Row) → i < n → Inner text tape w b n p t i x (i + 1)
+  inner-start : (i : ℕ) (x : Row) → i < n → Inner text tape w b n p t i x (i + 1)
   inner-start i x h = record { behind = omega arith; inside = omega arith; comes = refl }
 
   module _ (ord : InOrder text w (b + 1) 16 p n) where
@@ -177,6 +181,62 @@ module _ (text tape w : List ℕ) (b n p : ℕ) (t : Test) where
     unfolding at-odds named
     outer-none i l out = sym (ap (at-odds called (wrong t)) (from-none f w p n i l)) ∙ out .comes ∙ found-all
 
+-- ---- `first_rival`
+
+module _ (t : Test) (kind i n : ℕ) where
+  pub rival-sort : t ≡ Sorts → kind ≡ 0 → i + 1 ≡ first-rival t kind i n
+  unfolding first-rival pick
+  rival-sort e h = rw (e, eq-eqb kind 0 h)
+
+  pub rival-none : t ≡ Sorts → (kind ≡ 0 → ⊥) → n ≡ first-rival t kind i n
+  unfolding first-rival pick
+  rival-none e h = rw (e, ne-eqb kind 0 h)
+
+  pub rival-function : t ≡ Functions → i + 1 ≡ first-rival t kind i n
+  unfolding first-rival
+  rival-function e = rw e
+
+  pub rival-overloading : t ≡ Overloading → i + 1 ≡ first-rival t kind i n
+  unfolding first-rival
+  rival-overloading e = rw e
+
+module _ (text tape w : List ℕ) (b n p i : ℕ) (x : Row) (h : i < n) where
+  -- no sort is at odds with what is none
+  none-rival : (x .kind ≡ 0 → ⊥) → (l : ℕ) → i + 1 ≤ l → l < n → wrong Sorts (item-of text tape x) (row-item text tape w b (getD w (p + l) 0)) ≡ false
+  unfolding but-name
+  none-rival d l m k =
+      let y = row-at w (b + getD w (p + l) 0 * 16) in
+      wrong-parts Sorts (item-of text tape x) (item-of text tape y)
+      ∙ ap (λ (q : Bool). same (item-of text tape x .name) (item-of text tape y .name) && q) (sym (sorts-first text tape x y d))
+      ∙ never (same (item-of text tape x .name) (item-of text tape y .name))
+    where
+      never : (q : Bool) → (q && false) ≡ false
+      never true = refl
+      never false = refl
+
+  start-at : (t : Test) → Inner text tape w b n p t i x (first-rival t (x .kind) i n)
+  unfolding first-rival pick any
+  start-at Functions = inner-start text tape w b n p Functions i x h
+  start-at Overloading = inner-start text tape w b n p Overloading i x h
+  start-at Sorts = go (eqb (x .kind) 0) refl
+    where
+      go : (q : Bool) → eqb (x .kind) 0 ≡ q → Inner text tape w b n p Sorts i x (pick q (i + 1) n)
+      go true e = inner-start text tape w b n p Sorts i x h
+      go false e =
+          let f = row-item text tape w b in
+          let none-later = none-from f w p n (wrong Sorts (item-of text tape x)) (n - (i + 1)) (i + 1) refl (none-rival (eqb-false (x .kind) 0 e)) in
+          record {
+            behind = h;
+            inside = omega arith;
+            comes = ap (any (wrong Sorts (item-of text tape x))) (from-none f w p n n (omega arith)) ∙ sym none-later;
+          }
+
+  pub rival-start : (t : Test) (j : ℕ) → j ≡ first-rival t (x .kind) i n → Inner text tape w b n p t i x j
+  rival-start t j e = rw e (start-at t)
+
+pub next-fits : (j n : ℕ) → j < n → Fits w32 n → Fits w32 (j + 1)
+next-fits j n h f = omega (arith, h, f .fits)
+
 -- ---- `find_repeated`
 
 pub record Neighbours (text w : List ℕ) (b n p i : ℕ) : Type 0 where
@@ -246,7 +306,11 @@ pub ruleset cases = (
   row-told,
   name-told,
   outer-start,
-  inner-start,
+  rival-sort,
+  rival-none,
+  rival-function,
+  rival-overloading,
+  rival-start,
   inner-again,
   inner-other,
   outer-found,

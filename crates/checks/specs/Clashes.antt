@@ -3,8 +3,9 @@ use mathlib.Core.Path.{_≡_, refl}
 use mathlib.Core.Bool.{Bool, true, false, not, _&&_, _||_}
 use mathlib.Core.Option.{Option, none, some}
 use mathlib.Core.List.{List}
-use Prim.Native.Nat.{ℕ, _-_}
-use Rattle.meaning.specs.Lists.{agree}
+use Prim.Native.Nat.{ℕ, _+_, _-_}
+use lib.Dec.{eqb}
+use Rattle.meaning.specs.Lists.{pick, agree}
 use Rattle.meaning.specs.Names.{Name, same}
 use Rattle.meaning.specs.Origins.{same-sort, same-shape, is-sort, is-function, Item}
 use Rattle.meaning.specs.Checks.{least-at-odds, other-origin, sorts-clash, functions-clash, other-output, both-in-one, overloaded}
@@ -46,6 +47,12 @@ unfoldable pub but-name : Test → Item → Item → Bool
 but-name Sorts a b = two-sorts a b
 but-name Functions a b = two-functions a b
 but-name Overloading a b = two-overloaded a b
+
+-- where the search for what is at odds with the i-th of n rows, of that kind, begins: only a sort is at odds with sorts
+unfoldable pub first-rival : Test → ℕ → ℕ → ℕ → ℕ
+first-rival Sorts kind i n = pick (eqb kind 0) (i + 1) n
+first-rival Functions kind i n = i + 1
+first-rival Overloading kind i n = i + 1
 
 -- equal inputs and different outputs
 unfoldable pub overloaded-types : List ℕ → List ℕ → ℕ → List ℕ → ℕ → List ℕ → Bool

@@ -9,12 +9,12 @@ use tables::Row;
 use tables::entries::same_word;
 use tables::rows::read_row;
 ghost use mathlib.Core.Path.{_≡_};
-ghost use Prim.Native.Nat.{_+_, _*_};
+ghost use Prim.Native.Nat.{_+_, _*_, _<_};
 ghost use lib.ListN.{getD};
 ghost use Rattle.tables.specs.Rows.{row-at};
 ghost use Rattle.forms.specs.Forms.{names-at, items-at};
 ghost use Rattle.order.specs.Order.{InOrder};
-ghost use Rattle.checks.specs.Clashes.{named, clash-name, repeated-name};
+ghost use Rattle.checks.specs.Clashes.{named, clash-name, first-rival, repeated-name};
 
 // The row that is i-th in order.
 fn row_by(w: &[u32], b: u32, p: u32, i: u32) -> Row
@@ -22,6 +22,24 @@ fn row_by(w: &[u32], b: u32, p: u32, i: u32) -> Row
 {
     let k = number_in(w, p, i);
     read_row(w, b, k)
+}
+
+// Where the search for what is at odds with the row x, which is i-th in order, begins: only a sort is at odds with sorts.
+fn first_rival(test: Test, x: Row, i: u32, n: u32) -> u32
+    requires { ⌜ i < n ⌝ }
+    ensures { λ r. ⌜ r ≡ first-rival test (x .kind) i n ⌝ }
+{
+    let kind = x.kind;
+    match test {
+        Test::Sorts => {
+            if kind == 0 {
+                return i + 1;
+            }
+            n
+        }
+        Test::Functions => i + 1,
+        Test::Overloading => i + 1,
+    }
 }
 
 // The least name of two of the n items at b that are at odds. Items of one name stand side by side in the order table, so that a row is
@@ -33,7 +51,7 @@ pub fn find_clash(text: &[u8], tape: &[u32], w: &[u32], b: u32, n: u32, p: u32, 
     let mut i = 0;
     'outer: while i < n {
         let x = row_by(w, b, p, i);
-        let mut j = i + 1;
+        let mut j = first_rival(test, x, i, n);
         while j < n {
             let y = row_by(w, b, p, j);
             if same_called(text, x, y) {
