@@ -2,7 +2,7 @@
  *
  * Nothing is allocated and nothing is kept between calls: all memory is lent by the caller. A pointer is followed by the number of elements
  * that it points to; it is never null, also where that number is 0. What is lent for writing overlaps nothing else that is lent in a call.
- * The library is compiled for x86-64. */
+ * The archive is compiled for x86-64. */
 #ifndef ASF_H
 #define ASF_H
 
@@ -13,7 +13,7 @@
 extern "C" {
 #endif
 
-/* The most bytes of a text, and of a name. */
+/* The most bytes of each of the two texts, library and customer's, and of a name. */
 #define ASF_TEXT_BYTES 32768
 #define ASF_NAME_BYTES 40
 
@@ -24,11 +24,12 @@ extern "C" {
 enum {
     ASF_NUMBER,         /* the answer, as returned: 0 done, 1 to 20 refused */
     ASF_MODULES,        /* how many modules were evaluated, a refused one included */
-    ASF_AT,             /* for 1 to 5 the place in the text, in bytes from 0 */
+    ASF_AT,             /* for 1 to 5 the place in the text or, where ASF_IN_LIBRARY is 1, in the library, in bytes from 0 */
     ASF_MODULE_LENGTH,  /* bytes of the name of the module that was evaluated when refused; for 6 and 19 the asked one, blank (0) if it has
                            more than 40 bytes */
     ASF_CULPRIT_LENGTH, /* bytes of the culprit's name */
     ASF_LISTING_LENGTH, /* bytes of the listing, at the front of the output */
+    ASF_IN_LIBRARY,     /* 1 where ASF_AT is a place in the library, else 0 */
     ASF_VALUES
 };
 
@@ -53,14 +54,34 @@ enum {
 #define ASF_END 1
 #define ASF_BAD_LINE 21
 
+/* Where asf_fetch puts what in `values`, and how many values there are. */
+enum {
+    ASF_PART_IN_LIBRARY, /* 1 where the part is one of the library, 0 where it is one of the text */
+    ASF_PART_PLACE,      /* where it begins there, in bytes from 0 */
+    ASF_PART_LENGTH,     /* its bytes */
+    ASF_PART_VALUES
+};
+
+/* What asf_fetch returns: a part, or none. */
+#define ASF_PART 0
+#define ASF_NO_PART 1
+
 /* The words of working memory that asf_normalise needs. */
 size_t asf_memory_words(void);
 
-/* Normalises the module `asked` of the specification `text` and returns the answer's number. On 0 the listing stands at the front of `out`
+/* Normalises the module `asked` of a specification and returns the answer's number. The specification is `library` and `text`: the modules
+ * of the library count as standing before those of the text, and a library of length 0 is none. On 0 the listing stands at the front of `out`
  * and the bytes behind it are unchanged; on any other number all of `out` is unchanged. `work` is zero afterwards in all cases. `values` and
- * `names` get what the answer says, as much of it as there is room; what is behind it is unchanged. Every text and every name is answered. */
-uint32_t asf_normalise(const uint8_t *asked, size_t asked_length, const uint8_t *text, size_t text_length, uint32_t *work, size_t work_length,
-                       uint8_t *out, size_t out_length, size_t *values, size_t values_length, uint8_t *names, size_t names_length);
+ * `names` get what the answer says, as much of it as there is room; what is behind it is unchanged. All texts and every name are answered. */
+uint32_t asf_normalise(const uint8_t *asked, size_t asked_length, const uint8_t *library, size_t library_length, const uint8_t *text,
+                       size_t text_length, uint32_t *work, size_t work_length, uint8_t *out, size_t out_length, size_t *values,
+                       size_t values_length, uint8_t *names, size_t names_length);
+
+/* Finds the part of `library` or of `text` that declares the module `name`: from the first byte of its `module` to the last byte of the name
+ * behind its `end`. Nothing is copied: `values` gets where the part stands, as much of it as there is room, and is unchanged where there is
+ * none. Texts that asf_normalise refuses are looked through too, up to what is no token or no module. */
+uint32_t asf_fetch(const uint8_t *name, size_t name_length, const uint8_t *library, size_t library_length, const uint8_t *text,
+                   size_t text_length, size_t *values, size_t values_length);
 
 /* Reads the line of a listing that begins at `place`. `values` gets the line's places, as much of them as there is room, and is unchanged
  * where no line is read. */

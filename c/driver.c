@@ -77,16 +77,49 @@ static struct lent taken(size_t length) {
     return lent;
 }
 
-/* What one call of asf_normalise lends. */
-struct call {
-    struct lent asked, text, work, out, values, names;
+/* A module's name and a specification, for reading alone. */
+struct question {
+    struct lent name, library, text;
 };
 
-/* The name and the text are read, in this order. */
-static struct call lend_call(size_t asked, size_t text, size_t words, size_t out, size_t values, size_t names) {
+static struct question taken_question(const uint32_t *lengths) {
+    struct question q;
+    q.name = taken(lengths[0]);
+    q.library = taken(lengths[1]);
+    q.text = taken(lengths[2]);
+    return q;
+}
+
+static void give_back_question(struct question *q) {
+    give_back(q->name);
+    give_back(q->library);
+    give_back(q->text);
+}
+
+static int guarded_question(const struct question *q) {
+    return guarded(q->name) && guarded(q->library) && guarded(q->text);
+}
+
+/* A sum that changes with any one byte. */
+static uint64_t sum(struct lent lent, uint64_t h) {
+    for (size_t i = 0; i < lent.length; i++) h = (h ^ lent.start[i]) * 1099511628211u;
+    return h;
+}
+
+static uint64_t sum_question(const struct question *q) {
+    return sum(q->text, sum(q->library, sum(q->name, 14695981039346656037u)));
+}
+
+/* What one call of asf_normalise lends. */
+struct call {
+    struct question question;
+    struct lent work, out, values, names;
+};
+
+/* The lengths of the question stand first; it is read. */
+static struct call lend_call(const uint32_t *question, size_t words, size_t out, size_t values, size_t names) {
     struct call c;
-    c.asked = taken(asked);
-    c.text = taken(text);
+    c.question = taken_question(question);
     c.work = lend(words * 4);
     c.out = lend(out);
     c.values = lend(values * sizeof(size_t));
@@ -95,8 +128,7 @@ static struct call lend_call(size_t asked, size_t text, size_t words, size_t out
 }
 
 static void give_back_call(struct call *c) {
-    give_back(c->asked);
-    give_back(c->text);
+    give_back_question(&c->question);
     give_back(c->work);
     give_back(c->out);
     give_back(c->values);
@@ -104,8 +136,10 @@ static void give_back_call(struct call *c) {
 }
 
 static uint32_t normalise(struct call *c) {
-    return asf_normalise(c->asked.start, c->asked.length, c->text.start, c->text.length, (uint32_t *)c->work.start, c->work.length / 4, c->out.start,
-                         c->out.length, (size_t *)c->values.start, c->values.length / sizeof(size_t), c->names.start, c->names.length);
+    const struct question *q = &c->question;
+    return asf_normalise(q->name.start, q->name.length, q->library.start, q->library.length, q->text.start, q->text.length,
+                         (uint32_t *)c->work.start, c->work.length / 4, c->out.start, c->out.length, (size_t *)c->values.start,
+                         c->values.length / sizeof(size_t), c->names.start, c->names.length);
 }
 
 /* The processor's time for this process, in nanoseconds: other work on the machine does not count. */
@@ -115,38 +149,47 @@ static uint64_t now(void) {
     return (uint64_t)t.tv_sec * 1000000000u + (uint64_t)t.tv_nsec;
 }
 
-/* A sum that changes with any one byte. */
-static uint64_t sum(struct lent lent) {
-    uint64_t h = 14695981039346656037u;
-    for (size_t i = 0; i < lent.length; i++) h = (h ^ lent.start[i]) * 1099511628211u;
-    return h;
-}
-
-static uint32_t broken(const struct call *c, size_t listing, uint64_t asked_sum, uint64_t text_sum) {
+static uint32_t broken(const struct call *c, size_t listing, uint64_t question_sum) {
     uint32_t flags = 0;
     if (!all_zero(c->work)) flags |= MEMORY_NOT_ZERO;
     if (!filled(c->out.start + listing, c->out.length - listing)) flags |= OUTPUT_CHANGED;
-    if (!guarded(c->asked) || !guarded(c->text) || !guarded(c->work) || !guarded(c->out) || !guarded(c->values) || !guarded(c->names))
+    if (!guarded_question(&c->question) || !guarded(c->work) || !guarded(c->out) || !guarded(c->values) || !guarded(c->names))
         flags |= GUARD_CHANGED;
-    if (sum(c->asked) != asked_sum || sum(c->text) != text_sum) flags |= INPUT_CHANGED;
+    if (sum_question(&c->question) != question_sum) flags |= INPUT_CHANGED;
     return flags;
 }
 
-/* Lengths of name, text, memory in words, output, values, names, and of the listing that is expected; then name and text. The reply: number,
- * what was broken, values, names, and as many bytes of the output as are expected. */
+/* Lengths of name, library, text, memory in words, output, values, names, and of the listing that is expected; then name, library and text.
+ * The reply: number, what was broken, values, names, and as many bytes of the output as are expected. */
 static void answer(void) {
-    uint32_t h[7];
+    uint32_t h[8];
     get(h, sizeof h);
-    struct call c = lend_call(h[0], h[1], h[2], h[3], h[4], h[5]);
-    uint64_t asked_sum = sum(c.asked), text_sum = sum(c.text);
+    struct call c = lend_call(h, h[3], h[4], h[5], h[6]);
+    uint64_t question_sum = sum_question(&c.question);
     uint32_t number = normalise(&c);
-    size_t listing = h[6] < c.out.length ? h[6] : c.out.length;
+    size_t listing = h[7] < c.out.length ? h[7] : c.out.length;
     put_word(number);
-    put_word(broken(&c, listing, asked_sum, text_sum));
+    put_word(broken(&c, listing, question_sum));
     put(c.values.start, c.values.length);
     put(c.names.start, c.names.length);
     put(c.out.start, listing);
     give_back_call(&c);
+}
+
+/* Lengths of name, library, text and values; then name, library and text. The reply: number, what was broken, values. */
+static void fetch(void) {
+    uint32_t h[4];
+    get(h, sizeof h);
+    struct question q = taken_question(h);
+    struct lent values = lend(h[3] * sizeof(size_t));
+    uint64_t question_sum = sum_question(&q);
+    uint32_t number = asf_fetch(q.name.start, q.name.length, q.library.start, q.library.length, q.text.start, q.text.length,
+                                (size_t *)values.start, h[3]);
+    put_word(number);
+    put_word((guarded_question(&q) && guarded(values) ? 0 : GUARD_CHANGED) | (sum_question(&q) == question_sum ? 0 : INPUT_CHANGED));
+    put(values.start, values.length);
+    give_back_question(&q);
+    give_back(values);
 }
 
 /* A listing's length, a place, and the listing. The reply: the places of each line from there on, each behind a 0; what ended it; the length
@@ -170,15 +213,15 @@ static void read_back(void) {
     give_back(values);
 }
 
-/* How often, and lengths of name, text and output; then name and text. The reply: number, and the least processor time of a call in nanoseconds. The
- * library clears the working memory within the call. */
+/* Lengths of name, library, text and output, and how often; then name, library and text. The reply: number, and the least processor time of a
+ * call in nanoseconds. The library clears the working memory within the call. */
 static void time_calls(void) {
-    uint32_t h[4];
+    uint32_t h[5];
     get(h, sizeof h);
-    struct call c = lend_call(h[1], h[2], asf_memory_words(), h[3], ASF_VALUES, ASF_NAMES);
+    struct call c = lend_call(h, asf_memory_words(), h[3], ASF_VALUES, ASF_NAMES);
     uint32_t number = 0;
     uint64_t least = UINT64_MAX;
-    for (uint32_t i = 0; i < h[0]; i++) {
+    for (uint32_t i = 0; i < h[4]; i++) {
         uint64_t start = now();
         number = normalise(&c);
         uint64_t taken = now() - start;
@@ -195,6 +238,7 @@ int main(void) {
         if (kind == 0) answer();
         else if (kind == 1) read_back();
         else if (kind == 2) time_calls();
+        else if (kind == 3) fetch();
         else stop("no such request");
         fflush(stdout);
     }

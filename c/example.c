@@ -1,30 +1,32 @@
-/* Normalises one module of a specification: example NAME < FILE. It prints the visible lines of its normal form, or why it is refused. */
+/* Normalises one module of a specification: example NAME [LIBRARY] < FILE. It prints the visible lines of its normal form, or why it is
+ * refused. LIBRARY is a file whose modules count as standing before those of FILE. */
 #include "asf.h"
 
 #include <stdio.h>
 #include <string.h>
 
+static uint8_t library[ASF_TEXT_BYTES + 1];
 static uint8_t text[ASF_TEXT_BYTES + 1];
 static uint32_t work[ASF_MEMORY_WORDS];
 static uint8_t out[65536];
 
-int main(int count, char **words) {
-    if (count != 2) {
-        fprintf(stderr, "usage: example NAME < FILE\n");
-        return 2;
-    }
-    size_t values[ASF_VALUES];
-    uint8_t names[ASF_NAMES];
-    size_t length = fread(text, 1, sizeof text, stdin);
-    uint32_t number = asf_normalise((const uint8_t *)words[1], strlen(words[1]), text, length, work, ASF_MEMORY_WORDS, out, sizeof out, values,
-                                    ASF_VALUES, names, ASF_NAMES);
-    if (number != 0) {
-        printf("refused by %u, after %zu modules: module %.*s, name %.*s, at byte %zu\n", number, values[ASF_MODULES],
-               (int)values[ASF_MODULE_LENGTH], (const char *)names + ASF_MODULE_NAME, (int)values[ASF_CULPRIT_LENGTH],
-               (const char *)names + ASF_CULPRIT_NAME, values[ASF_AT]);
-        return 1;
-    }
-    size_t visible = asf_visible(out, values[ASF_LISTING_LENGTH]);
+/* One byte more than a library may have is enough to be refused. */
+static int read_library(const char *path, size_t *length) {
+    FILE *file = fopen(path, "rb");
+    if (!file) return 0;
+    *length = fread(library, 1, sizeof library, file);
+    fclose(file);
+    return 1;
+}
+
+static void print_refusal(const size_t *values, const uint8_t *names) {
+    printf("refused by %zu, after %zu modules: module %.*s, name %.*s, at byte %zu%s\n", values[ASF_NUMBER], values[ASF_MODULES],
+           (int)values[ASF_MODULE_LENGTH], (const char *)names + ASF_MODULE_NAME, (int)values[ASF_CULPRIT_LENGTH],
+           (const char *)names + ASF_CULPRIT_NAME, values[ASF_AT], values[ASF_IN_LIBRARY] ? " of the library" : "");
+}
+
+static void print_visible(size_t listing_length) {
+    size_t visible = asf_visible(out, listing_length);
     size_t line[ASF_LINE_VALUES];
     size_t place = 0;
     while (place < visible && asf_line(out, visible, place, line, ASF_LINE_VALUES) == ASF_LINE) {
@@ -32,5 +34,23 @@ int main(int count, char **words) {
                (const char *)out + line[ASF_LINE_VALUE]);
         place = line[ASF_LINE_NEXT];
     }
+}
+
+int main(int count, char **words) {
+    size_t library_length = 0;
+    if (count < 2 || count > 3 || (count == 3 && !read_library(words[2], &library_length))) {
+        fprintf(stderr, "usage: example NAME [LIBRARY] < FILE\n");
+        return 2;
+    }
+    size_t values[ASF_VALUES];
+    uint8_t names[ASF_NAMES];
+    size_t length = fread(text, 1, sizeof text, stdin);
+    uint32_t number = asf_normalise((const uint8_t *)words[1], strlen(words[1]), library, library_length, text, length, work, ASF_MEMORY_WORDS,
+                                    out, sizeof out, values, ASF_VALUES, names, ASF_NAMES);
+    if (number != 0) {
+        print_refusal(values, names);
+        return 1;
+    }
+    print_visible(values[ASF_LISTING_LENGTH]);
     return 0;
 }

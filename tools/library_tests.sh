@@ -1,5 +1,6 @@
 #!/usr/bin/env bash
-# Tests the archive in build/library from C and from Rust, and compares it with the reference on so many seeds (library_tests.sh [SEEDS [FIRST]]).
+# Tests the archive in build/library from C and from Rust, and compares it with the reference on so many seeds (library_tests.sh [SEEDS [FIRST]]);
+# on a third as many it must answer the same however the modules are divided between library and customer's text.
 set -euo pipefail
 cd "$(dirname "$0")/.."
 seeds=${1:-5000} first=${2:-0}
@@ -11,15 +12,23 @@ compile() { # PROGRAM: from c/PROGRAM.c
 compile example
 compile driver
 
-# what both examples print for input L
-specification=rust/reference/vectors/appendix/L.in
-tail -n +2 $specification | "${RUN[@]}" build/example M2 | diff c/example.out -
-refusal=$(tail -n +2 $specification | "${RUN[@]}" build/example M3) && exit 1
+# what both examples print for the text of input L, and for its two modules as a library and a customer's text
+tail -n +2 rust/reference/vectors/appendix/L.in >build/L.asf
+head -n 3 build/L.asf >build/library.asf
+tail -n +4 build/L.asf >build/customer.asf
+"${RUN[@]}" build/example M2 <build/L.asf | diff c/example.out -
+"${RUN[@]}" build/example M2 build/library.asf <build/customer.asf | diff c/example.out -
+refusal=$("${RUN[@]}" build/example M3 <build/L.asf) && exit 1
 [ "$refusal" = "refused by 6, after 0 modules: module M3, name M3, at byte 0" ]
+printf 'module M1' >build/broken.asf
+refusal=$("${RUN[@]}" build/example M2 build/broken.asf <build/customer.asf) && exit 1
+[ "$refusal" = "refused by 2, after 0 modules: module , name , at byte 9 of the library" ]
 echo "the example in C ran"
 rust test --quiet
-tail -n +2 $specification | rust run --quiet --example normalise -- M2 | diff c/example.out -
+rust run --quiet --example normalise -- M2 <build/L.asf | diff c/example.out -
+rust run --quiet --example normalise -- M2 build/library.asf <build/customer.asf | diff c/example.out -
 echo "the tests and the example in Rust ran"
 
 cargo build --offline --release --quiet --manifest-path rust/Cargo.toml
 rust/target/release/compare proved "$seeds" "$first" "${RUN[@]}" build/driver
+rust/target/release/compare divided $((seeds / 3)) "$first" "${RUN[@]}" build/driver

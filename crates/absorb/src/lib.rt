@@ -14,6 +14,7 @@ ghost use Prim.Native.Nat.{_+_, _*_, _≤_};
 ghost use lib.ListN.{length};
 ghost use Rattle.meaning.specs.Lists.{before};
 ghost use Rattle.meaning.specs.Origins.{one-item};
+ghost use Rattle.names.specs.Joint.{joint};
 ghost use Rattle.tables.specs.Rows.{item-of, row-at};
 ghost use Rattle.forms.specs.Memory.{part};
 ghost use Rattle.forms.specs.Forms.{items-at};
@@ -21,27 +22,35 @@ ghost use Rattle.absorb.specs.Absorb.{Placed, Absorbed, AbsorbedWithin, 
 ghost use Rattle.absorb.specs.Turns.{Space, Place, Taken, TurnRoom, Turned, RoomWithin, Room};
 
 // Is row i of the table at `base` one with x? Names are compared first, and decide most: only then the row is read.
-fn is_item(text: &[u8], work: &[u32], t: usize, base: u32, i: u32, x: Row) -> bool
+fn is_item(library: &[u8], text: &[u8], work: &[u32], t: usize, base: u32, i: u32, x: Row) -> bool
     requires { ⌜ t ≤ length (now work) ⌝ }
-    ensures { λ r. ⌜ r ≡ one-item (item-of (now (text .entry)) (part (now (work .entry)) 0 t) x) (item-of (now (text .entry)) (part (now (work .entry)) 0 t) (row-at (now (work .entry)) (base + i * 16))) ⌝ }
+    ensures { λ r. ⌜ r ≡ one-item (item-of (joint (now (library .entry)) (now (text .entry))) (part (now (work .entry)) 0 t) x) (item-of (joint (now (library .entry)) (now (text .entry))) (part (now (work .entry)) 0 t) (row-at (now (work .entry)) (base + i * 16))) ⌝ }
 {
     let name = x.name;
     let called = word_at(work, base as usize + i as usize * 16 + 1);
-    if same_word(text, name, called) {
+    if same_word(library, text, name, called) {
         let y = read_row(work, base, i);
-        return one_item(text, &work[0..t], x, y);
+        return one_item(library, text, &work[0..t], x, y);
     }
     false
 }
 
 // The first of n rows that is one with x; n if there is none.
-pub fn find_item(text: &[u8], work: &[u32], t: usize, base: u32, n: u32, x: Row) -> u32
+pub fn find_item(
+    library: &[u8],
+    text: &[u8],
+    work: &[u32],
+    t: usize,
+    base: u32,
+    n: u32,
+    x: Row,
+) -> u32
     requires { ⌜ t ≤ length (now work) ⌝ }
-    ensures { λ r. ⌜ r ≡ before (one-item (item-of (now (text .entry)) (part (now (work .entry)) 0 t) x)) (items-at (now (text .entry)) (part (now (work .entry)) 0 t) (now (work .entry)) base n) ⌝ }
+    ensures { λ r. ⌜ r ≡ before (one-item (item-of (joint (now (library .entry)) (now (text .entry))) (part (now (work .entry)) 0 t) x)) (items-at (joint (now (library .entry)) (now (text .entry))) (part (now (work .entry)) 0 t) (now (work .entry)) base n) ⌝ }
 {
     let mut i = 0;
     while i < n {
-        if is_item(text, work, t, base, i, x) {
+        if is_item(library, text, work, t, base, i, x) {
             return i;
         }
         i += 1;
@@ -50,11 +59,19 @@ pub fn find_item(text: &[u8], work: &[u32], t: usize, base: u32, n: u32, x: Row)
 }
 
 // The row of x, which goes behind the n rows if it is none of them.
-pub fn place_item(text: &[u8], work: &mut [u32], t: usize, base: u32, n: u32, x: Row) -> u32
+pub fn place_item(
+    library: &[u8],
+    text: &[u8],
+    work: &mut [u32],
+    t: usize,
+    base: u32,
+    n: u32,
+    x: Row,
+) -> u32
     requires { ⌜ Space (length (now work)) t base n x ⌝ }
-    ensures { λ r. ⌜ Placed (now (text .entry)) (part (now (work .entry)) 0 t) (now (work .entry)) base n (item-of (now (text .entry)) (part (now (work .entry)) 0 t) x) r (now (work .exit)) ⌝ }
+    ensures { λ r. ⌜ Placed (joint (now (library .entry)) (now (text .entry))) (part (now (work .entry)) 0 t) (now (work .entry)) base n (item-of (joint (now (library .entry)) (now (text .entry))) (part (now (work .entry)) 0 t) x) r (now (work .exit)) ⌝ }
 {
-    let at = find_item(text, work, t, base, n, x);
+    let at = find_item(library, text, work, t, base, n, x);
     if at < n {
         return at;
     }
@@ -63,13 +80,13 @@ pub fn place_item(text: &[u8], work: &mut [u32], t: usize, base: u32, n: u32, x:
 }
 
 // Is the row taken? Where `drop` says so, those that stand in the parameter are left out.
-fn is_taken(text: &[u8], tape: &[u32], drop: bool, m: Mode, row: Row) -> bool
-    ensures { λ r. ⌜ r ≡ taken (now (text .entry)) drop (m .parameter) (item-of (now (text .entry)) (now (tape .entry)) row) ⌝ }
+fn is_taken(library: &[u8], text: &[u8], tape: &[u32], drop: bool, m: Mode, row: Row) -> bool
+    ensures { λ r. ⌜ r ≡ taken (joint (now (library .entry)) (now (text .entry))) drop (m .parameter) (item-of (joint (now (library .entry)) (now (text .entry))) (now (tape .entry)) row) ⌝ }
 {
     if drop {
         let p = m.parameter;
         let standing = row.standing;
-        if in_parameter(text, p, standing) {
+        if in_parameter(library, text, p, standing) {
             return false;
         }
         return true;
@@ -79,6 +96,7 @@ fn is_taken(text: &[u8], tape: &[u32], drop: bool, m: Mode, row: Row) -> bool
 
 // The row, moved, into the table at d, which has n rows; where it went is noted at `place`. The number of rows after.
 fn take_row(
+    library: &[u8],
     text: &[u8],
     work: &mut [u32],
     t: usize,
@@ -90,10 +108,10 @@ fn take_row(
     place: usize,
 ) -> u32
     requires { ⌜ Place (length (now work)) t d n place row ⌝ }
-    ensures { λ r. ⌜ Taken (now (text .entry)) (part (now (work .entry)) 0 t) (now (work .entry)) m visible (item-of (now (text .entry)) (part (now (work .entry)) 0 t) row) d n place r (now (work .exit)) ⌝ }
+    ensures { λ r. ⌜ Taken (joint (now (library .entry)) (now (text .entry))) (part (now (work .entry)) 0 t) (now (work .entry)) m visible (item-of (joint (now (library .entry)) (now (text .entry))) (part (now (work .entry)) 0 t) row) d n place r (now (work .exit)) ⌝ }
 {
-    let moved = moved_row(text, work, t, m, visible, row);
-    let at = place_item(text, work, t, d, n, moved);
+    let moved = moved_row(library, text, work, t, m, visible, row);
+    let at = place_item(library, text, work, t, d, n, moved);
     put_word(work, place, at);
     if at < n {
         return n;
@@ -103,6 +121,7 @@ fn take_row(
 
 // Row k of the source at s into the table at d, which has n rows. The number of rows after.
 fn absorb_row(
+    library: &[u8],
     text: &[u8],
     work: &mut [u32],
     t: usize,
@@ -116,12 +135,12 @@ fn absorb_row(
     o: u32,
 ) -> u32
     requires { ⌜ TurnRoom (length (now work)) t k d n o ⌝ }
-    ensures { λ r. ⌜ Turned (now (text .entry)) (part (now (work .entry)) 0 t) (now (work .entry)) m visible drop s k d n o r (now (work .exit)) ⌝ }
+    ensures { λ r. ⌜ Turned (joint (now (library .entry)) (now (text .entry))) (part (now (work .entry)) 0 t) (now (work .entry)) m visible drop s k d n o r (now (work .exit)) ⌝ }
 {
     let row = read_row(work, s, k);
-    if is_taken(text, &work[0..t], drop, m, row) {
+    if is_taken(library, text, &work[0..t], drop, m, row) {
         let place = o as usize + k as usize;
-        return take_row(text, work, t, m, visible, row, d, n, place);
+        return take_row(library, text, work, t, m, visible, row, d, n, place);
     }
     n
 }
@@ -129,6 +148,7 @@ fn absorb_row(
 // The rows of the source at s into the table at d, which has nd rows, while it has less than `cap`: moved through the mode, noted from o on.
 // The number of rows after.
 pub fn absorb_within(
+    library: &[u8],
     text: &[u8],
     work: &mut [u32],
     t: usize,
@@ -144,13 +164,13 @@ pub fn absorb_within(
 ) -> u32
     requires { ⌜ RoomWithin (length (now work)) t m s ns d cap o ⌝ }
     requires { ⌜ nd ≤ cap ⌝ }
-    ensures { λ r. ⌜ AbsorbedWithin (now (text .entry)) (part (now (work .entry)) 0 t) (now (work .entry)) m visible drop s ns d nd o cap r (now (work .exit)) ⌝ }
+    ensures { λ r. ⌜ AbsorbedWithin (joint (now (library .entry)) (now (text .entry))) (part (now (work .entry)) 0 t) (now (work .entry)) m visible drop s ns d nd o cap r (now (work .exit)) ⌝ }
 {
     let mut n = nd;
     let mut k = 0;
     while k < ns {
         if n < cap {
-            n = absorb_row(text, work, t, m, visible, drop, s, k, d, n, o);
+            n = absorb_row(library, text, work, t, m, visible, drop, s, k, d, n, o);
             k += 1;
         } else {
             return n;
@@ -161,6 +181,7 @@ pub fn absorb_within(
 
 // Every row of the source at s into the table at d, which has nd rows: moved through the mode, noted from o on. The number of rows after.
 pub fn absorb_items(
+    library: &[u8],
     text: &[u8],
     work: &mut [u32],
     t: usize,
@@ -174,7 +195,21 @@ pub fn absorb_items(
     o: u32,
 ) -> u32
     requires { ⌜ Room (length (now work)) t m s ns d nd o ⌝ }
-    ensures { λ r. ⌜ Absorbed (now (text .entry)) (part (now (work .entry)) 0 t) (now (work .entry)) m visible drop s ns d nd o r (now (work .exit)) ⌝ }
+    ensures { λ r. ⌜ Absorbed (joint (now (library .entry)) (now (text .entry))) (part (now (work .entry)) 0 t) (now (work .entry)) m visible drop s ns d nd o r (now (work .exit)) ⌝ }
 {
-    absorb_within(text, work, t, m, visible, drop, s, ns, d, nd, o, nd + ns)
+    absorb_within(
+        library,
+        text,
+        work,
+        t,
+        m,
+        visible,
+        drop,
+        s,
+        ns,
+        d,
+        nd,
+        o,
+        nd + ns,
+    )
 }

@@ -2,6 +2,7 @@
 use mathlib.Core.Path.{_≡_, refl, sym, ap, _∙_}
 use Prim.Native.Nat.{ℕ, zero, suc, _+_, _-_, _<_, _≤_}
 use native.Mathlib.Omega.{arith}
+use mathlib.Core.Bool.{Bool, false}
 use mathlib.Core.List.{List, [], _∷_, _++_}
 use mir.Syntax.{w32}
 use mir.Val.{Fits}
@@ -11,17 +12,19 @@ use lib.ListN.{length, drop, replicate, length-replicate}
 use Rattle.meaning.specs.Lists.{pick}
 use Rattle.meaning.specs.Numbers.{name-size, memory-size, asked-absent, lent-short}
 use Rattle.meaning.specs.Reached.{short-or-blank}
-use Rattle.meaning.specs.Answer.{refusal, answer, memory-after}
+use Rattle.meaning.specs.Answer.{refusal, unread, answer, memory-after}
+use Rattle.meaning.specs.Texts.{Texts, Reading, read-texts}
 use Rattle.meaning.specs.Contract.{call}
 use Rattle.names.specs.Word.{name-of}
+use Rattle.names.specs.Joint.{joint}
 use Rattle.pen.specs.Pen.{pen, written}
 use Rattle.pen.proofs.Laws.{laid, reached}
 use Rattle.asf.specs.declared.answers.Name.{Name}
 use Rattle.asf.specs.declared.answers.Answer.{Answer}
 use Rattle.asf.specs.Answers.{held, told, told-listed, returned, told-call}
-use Rattle.asf.specs.Told.{short-name, long-name, word-short, refusal-held, refusal-told, refusal-leaves}
+use Rattle.asf.specs.Told.{short-name, long-name, word-short, refusal-held, refusal-told, refusal-leaves, unread-held, unread-told}
 use Rattle.asf.specs.Steps.{Answered, Spoken}
-use Rattle.asf.specs.Meant.{end-within, unread-answered, read-spoken, tape-within, tape-small, asked-found, absent-answered, found-within, found-given, refused-answered, form-evaluated, listed-within, hidden-few, listed-answered, long-answered}
+use Rattle.asf.specs.Meant.{end-within, tape-room, unread-answered, read-spoken, tape-within, tape-small, asked-found, absent-answered, found-within, found-given, refused-answered, form-evaluated, listed-within, hidden-few, listed-answered, long-answered}
 
 -- ---- names
 
@@ -64,13 +67,14 @@ blank-so : held [] ≡ held (short-or-blank [])
 blank-so = ap held (sym (short-name [] (omega arith)))
 
 pub is-listed : (modules size : ℕ) (none : Name) → none ≡ held []
-    → record { number = 0; modules = modules; evaluating = none; culprit = none; at = 0; listing = size } ≡ told-listed modules size
+    → record { number = 0; modules = modules; evaluating = none; culprit = none; at = 0; «in_library» = false; listing = size } ≡ told-listed modules size
 unfolding told-listed
 is-listed modules size none e = rw e
 
-pub is-unread : (number at : ℕ) (none : Name) → none ≡ held [] → refusal-held number 0 none none at ≡ told (refusal number 0 [] [] at)
-is-unread number at none e =
-    (λ i. refusal-held number 0 ((e ∙ blank-so) i) (e i) at) ∙ sym (refusal-told number 0 [] [] at)
+pub is-unread : (in-library : Bool) (number at : ℕ) (none : Name) → none ≡ held []
+    → unread-held in-library number none none at ≡ told (unread in-library number at)
+is-unread in-library number at none e =
+    (λ i. unread-held in-library number ((e ∙ blank-so) i) (e i) at) ∙ sym (unread-told in-library number at)
 
 pub is-absent : (asked : List ℕ) (name : Name) → name ≡ held (short-or-blank asked)
     → refusal-held 6 0 name name 0 ≡ told (refusal asked-absent 0 asked (short-or-blank asked) 0)
@@ -93,8 +97,8 @@ pub is-size : 1048576 ≡ memory-size
 unfolding memory-size
 is-size = refl
 
-pub tape-fits : (text : List ℕ) (t : ℕ) (w : List ℕ) → Spoken text t w → Fits w32 t
-tape-fits text t w s = omega (arith, tape-small text t w s)
+pub tape-fits : (x : Reading) (text : List ℕ) (t : ℕ) (w : List ℕ) → Spoken x text t w → Fits w32 t
+tape-fits x text t w s = omega (arith, tape-small x text t w s)
 
 -- zeros are zeros, whatever stood there
 same-zeros : (w v : List ℕ) → length w ≡ length v → memory-after w ≡ memory-after v
@@ -104,21 +108,21 @@ same-zeros [] (y ∷ v) e = absurd (omega (arith, e))
 same-zeros (x ∷ w) [] e = absurd (omega (arith, e))
 same-zeros (x ∷ w) (y ∷ v) e = ap (λ (r : List ℕ). 0 ∷ r) (same-zeros w v (omega (arith, e)))
 
-module _ (asked text w o : List ℕ) (size : ℕ) (e : size ≡ memory-size) (r : Answer) where
+module _ (asked : List ℕ) (t : Texts) (w o : List ℕ) (size : ℕ) (e : size ≡ memory-size) (r : Answer) where
   pub memory-short : (w′ : List ℕ) → length w < size → w′ ≡ memory-after w → r ≡ told (refusal lent-short 0 asked [] 0)
-      → returned r o w′ ≡ told-call (call w o asked text)
+      → returned r o w′ ≡ told-call (call w o asked t)
   unfolding returned told-call call answer pick
   memory-short w′ l z q =
       let short = lt-ltb (length w) memory-size (omega (arith, e, l)) in
       rw short
       (λ i. record { answer = q i; output = sym (refusal-leaves lent-short 0 asked [] 0 o) i; memory = z i })
 
-  pub call-answered : (o′ w₁ w₂ : List ℕ) → size ≤ length w → Answered asked text o r o′ → length w₁ ≡ length w → w₂ ≡ memory-after w₁
-      → returned r o′ w₂ ≡ told-call (call w o asked text)
+  pub call-answered : (o′ w₁ w₂ : List ℕ) → size ≤ length w → Answered asked (read-texts t) o r o′ → length w₁ ≡ length w → w₂ ≡ memory-after w₁
+      → returned r o′ w₂ ≡ told-call (call w o asked t)
   unfolding returned told-call call answer pick
   call-answered o′ w₁ w₂ l a s z =
       let there = le-ltb (length w) memory-size (omega (arith, e, l)) in
       rw there
       (λ i. record { answer = a .answer i; output = a .output i; memory = (z ∙ same-zeros w₁ w s) i })
 
-pub ruleset cases = (is-blank, short-held, long-blank, word-held, is-listed, is-unread, is-absent, is-refused, is-short, is-size, tape-fits, memory-short, call-answered, end-within, unread-answered, read-spoken, tape-within, asked-found, absent-answered, found-within, found-given, refused-answered, form-evaluated, listed-within, hidden-few, listed-answered, long-answered, needs)
+pub ruleset cases = (is-blank, short-held, long-blank, word-held, is-listed, is-unread, is-absent, is-refused, is-short, is-size, tape-fits, memory-short, call-answered, end-within, tape-room, unread-answered, read-spoken, tape-within, asked-found, absent-answered, found-within, found-given, refused-answered, form-evaluated, listed-within, hidden-few, listed-answered, long-answered, needs)

@@ -1,5 +1,6 @@
 -- The answer as the code has it, and document 01's number and values for it (meaning/specs/Answer.antt).
 use Prim.Native.Nat.{ℕ, _-_}
+use mathlib.Core.Bool.{false}
 use mathlib.Core.List.{List, [], _++_}
 use lib.ListN.{length, replicate}
 use Rattle.meaning.specs.Names as Names
@@ -23,12 +24,13 @@ told a = record {
   evaluating = held (short-or-blank (a .evaluating));
   culprit = held (a .culprit);
   at = a .at;
+  «in_library» = a .in-library;
   listing = length (Meaning.listing a);
 }
 
 -- the same of an answer with a listing of so many bytes
 unfoldable pub told-listed : ℕ → ℕ → Answer
-told-listed modules size = record { number = accepted; modules = modules; evaluating = held []; culprit = held []; at = 0; listing = size }
+told-listed modules size = record { number = accepted; modules = modules; evaluating = held []; culprit = held []; at = 0; «in_library» = false; listing = size }
 
 -- what a call gives: the answer, and the lent slices afterwards
 pub record Returned : Type 0 where

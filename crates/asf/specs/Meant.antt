@@ -4,31 +4,27 @@ use Prim.Native.Nat.{ℕ, zero, suc, _+_, _-_, _*_, _<_, _≤_, min}
 use native.Mathlib.Omega.{arith}
 use mathlib.Core.Bool.{Bool, true, false}
 use mathlib.Core.List.{List, [], _++_, map}
-use borrow.Author.Tests.{leb-true}
-use lib.Dec.{leb}
 use lib.ListN.{length, getD, take, drop, length-append, length-drop}
 use lib.Seq.{length-take-le, take-take, take-append-le}
 use Rattle.meaning.specs.Lists.{pick, before}
 use Rattle.meaning.specs.Names.{Name, same, member}
-use Rattle.meaning.specs.Numbers.{text-size, memory-size, asked-absent, lent-short, over-size}
+use Rattle.meaning.specs.Numbers.{memory-size, asked-absent, lent-short}
 use Rattle.meaning.specs.Syntax.{Module}
 use Rattle.meaning.specs.Distinct.{read-fresh}
-use Rattle.meaning.specs.Grammar.{Result, modules, read}
+use Rattle.meaning.specs.Texts.{Reading, two-texts, all-read, refused-in, read-texts}
 use Rattle.meaning.specs.Normal.{Normal, empty}
 use Rattle.meaning.specs.Reached as Reached
 use Rattle.meaning.specs.Reached.{normalised, refused-at, in-turn, reached, module-names, short-or-blank, normalise}
 use Rattle.meaning.specs.Listing.{lines-text, listing-lines}
 use Rattle.meaning.specs.Answer as Meaning
-use Rattle.meaning.specs.Answer.{refusal, of-ended, of-read, within, output-after}
+use Rattle.meaning.specs.Answer.{refusal, of-ended, unread, of-read, within, output-after}
 use Rattle.names.specs.Word.{name-of}
+use Rattle.names.specs.Joint.{joint}
+use Rattle.two_texts.specs.declared.Both.{Both}
+use Rattle.two_texts.specs.declared.Both.the-variants.{Done, Refused}
+use Rattle.two_texts.specs.Both as TwoTexts
+use Rattle.two_texts.specs.Both.{Said}
 use Rattle.tape.specs.Tape.{spelled, entries}
-use Rattle.entries.specs.declared.Place.{Place}
-use Rattle.entries.specs.declared.Reading.{Reading}
-use Rattle.entries.specs.declared.Reading.the-variants.{Done, Refused}
-use Rattle.entries.specs.Model.{Out, out}
-use Rattle.entries.specs.Model as Model
-use Rattle.meant.specs.Matches as Matches
-use Rattle.meant.specs.Meant.{done-meant, refused-meant}
 use Rattle.limits.specs.Limits.{limits-read, modules-few}
 use Rattle.tables.specs.Entries.{word-at, name-at}
 use Rattle.hidden_items.specs.Sound.{HiddenSound}
@@ -57,84 +53,72 @@ use Rattle.listing.specs.Fit.{result, fitted}
 use Rattle.listing.specs.Lent.{Lent, answer-when, lent-meant}
 use Rattle.asf.specs.declared.answers.Answer.{Answer}
 use Rattle.asf.specs.Answers.{held, told, told-listed}
-use Rattle.asf.specs.Told.{short-name, refusal-within, refusal-leaves}
+use Rattle.asf.specs.Told.{short-name, refusal-within, refusal-leaves, unread-within, unread-leaves}
 use Rattle.asf.specs.Steps.{Answered, Spoken, Found, Evaluated}
 
 -- ---- a refusal leaves the output
 
-pub refusal-answered : (asked : Name) (text o : List ℕ) (r : Answer) (number count : ℕ) (m c : Name) (at : ℕ)
-    → of-read asked (read text) ≡ refusal number count m c at → r ≡ told (refusal number count m c at) → Answered asked text o r o
-refusal-answered asked text o r number count m c at e h =
-    let whole : within (length o) asked (of-read asked (read text)) ≡ refusal number count m c at =
+pub refusal-answered : (asked : Name) (x : Reading) (o : List ℕ) (r : Answer) (number count : ℕ) (m c : Name) (at : ℕ)
+    → of-read asked x ≡ refusal number count m c at → r ≡ told (refusal number count m c at) → Answered asked x o r o
+refusal-answered asked x o r number count m c at e h =
+    let whole : within (length o) asked (of-read asked x) ≡ refusal number count m c at =
     ap (within (length o) asked) e ∙ refusal-within (length o) asked number count m c at in
     record { answer = h ∙ ap told (sym whole); output = sym (ap (λ (a : Meaning.Answer). output-after a o) whole ∙ refusal-leaves number count m c at o) }
 
 -- ---- what is read
 
-only-short : (b : Bool) (x : Out) (tape : List ℕ) (p : Place) → pick b x (Model.wiped (Refused over-size text-size) tape) .answer ≡ Done p → b ≡ true
-unfolding Model.wiped pick
-only-short true x tape p e = refl
-only-short false x tape p e = let z : _≡_ {A = ℕ} 0 1 = cc in absurd (omega arith)
-
-module _ (text w : List ℕ) (end : ℕ) (there : memory-size ≤ length w) (last : end ≡ tape-end) where
+module _ (library text w : List ℕ) (end : ℕ) (there : memory-size ≤ length w) (last : end ≡ tape-end) where
   abbrev tape : List ℕ
   tape = part w 0 end
+
+  abbrev x : Reading
+  x = read-texts (two-texts library text)
 
   pub end-within : end ≤ length w
   unfolding memory-size tape-end
   end-within = omega (arith, last)
 
-  tape-size : length tape ≡ end
-  tape-size = length-take-le (end - 0) w (omega (arith, end-within)) ∙ omega arith
+  pub tape-room : 65536 ≤ length tape
+  unfolding tape-end
+  tape-room = omega (arith, length-take-le (end - 0) w (omega (arith, end-within)), last)
 
-  enough : min (length text) text-size ≤ length tape
-  unfolding text-size tape-end
-  enough = omega (arith, tape-size, last)
-
-  -- a text that is read is short enough
-  read-short : (p : Place) → Model.read text tape .answer ≡ Done p → length text ≤ text-size
-  unfolding Model.read
-  read-short p e = leb-true (length text) text-size (only-short (leb (length text) text-size) _ tape p e)
-
-  module _ (q : Reading) (tape′ : List ℕ) (e : out q tape′ ≡ Model.read text tape) where
-    answer-so : q ≡ Model.read text tape .answer
-    answer-so = ap (λ (o : Out). o .answer) e
-
-    tape-so : tape′ ≡ Model.read text tape .tape
-    tape-so = ap (λ (o : Out). o .tape) e
-
-    pub unread-answered : (number place : ℕ) (asked : Name) (o : List ℕ) (r : Answer) → q ≡ Refused number place → r ≡ told (refusal number 0 [] [] place)
-        → Answered asked text o r o
+  module _ (q : Both) (tape′ : List ℕ) (e : TwoTexts.Told library text tape′ q) where
+    pub unread-answered : (in-library : Bool) (number place : ℕ) (asked : Name) (o : List ℕ) (r : Answer) → q ≡ Refused in-library number place
+        → r ≡ told (unread in-library number place) → Answered asked x o r o
     unfolding of-read
-    unread-answered number place asked o r d h =
-        refusal-answered asked text o r number 0 [] [] place
-        (ap (of-read asked) (refused-meant text tape enough number place (sym answer-so ∙ d))) h
+    unread-answered in-library number place asked o r d h =
+        let so : x ≡ refused-in in-library number place = subst (TwoTexts.Told library text tape′) d e in
+        let whole : within (length o) asked (of-read asked x) ≡ unread in-library number place =
+        ap (λ (y : Reading). within (length o) asked (of-read asked y)) so ∙ unread-within (length o) asked in-library number place in
+        record {
+          answer = h ∙ ap told (sym whole);
+          output = sym (ap (λ (a : Meaning.Answer). output-after a o) whole ∙ unread-leaves in-library number place o);
+        }
 
-    pub read-spoken : (p : Place) → q ≡ Done p → Spoken text (p .entries) (tape′ ++ drop (end - 0) (drop 0 w))
-    unfolding entries text-size tape-end
-    read-spoken p d =
-        let meant = done-meant text tape enough p (sym answer-so ∙ d) in
-        let says = meant .says in
-        let short = read-short p (sym answer-so ∙ d) in
-        let size : length tape′ ≡ length tape = ap length tape-so ∙ says .size in
-        let t = p .entries in
+    pub read-spoken : (t : ℕ) → q ≡ Done t → Spoken x (joint library text) t (tape′ ++ drop (end - 0) (drop 0 w))
+    unfolding entries tape-end
+    read-spoken t d =
+        let says : Said library text t tape′ = subst (TwoTexts.Told library text tape′) d e in
         let rest = drop (end - 0) (drop 0 w) in
-        let whole : length (tape′ ++ rest) ≡ length w =
-        omega (arith, length-append tape′ rest, size, tape-size, length-drop (end - 0) w, end-within) in
+        let whole : length w ≤ length (tape′ ++ rest) =
+        omega (arith, length-append tape′ rest, says .room, length-drop (end - 0) w, end-within, last) in
         let front : take t (part (tape′ ++ rest) 0 t) ≡ take t tape′ =
-        take-take t (t - 0) (tape′ ++ rest) (omega arith) ∙ take-append-le t tape′ rest (omega (arith, size, tape-size, says .within, short, last)) in
+        take-take t (t - 0) (tape′ ++ rest) (omega arith) ∙ take-append-le t tape′ rest (omega (arith, says .within, says .room)) in
         record {
           size = omega (arith, whole, there);
-          tape = omega (arith, says .within, short);
-          modules = meant .modules;
-          state = Matches.state p;
-          read-so = meant .read;
-          said = ap (map (spelled text)) (front ∙ ap (take t) tape-so) ∙ says .said;
+          tape = says .within;
+          modules = says .modules;
+          read-so = says .read-so;
+          said = ap (map (spelled (joint library text))) front ∙ says .said;
+          few = modules-few (two-texts library text) (says .modules) (says .read-so);
+          fresh = read-fresh (two-texts library text) (says .modules) (says .read-so);
+          limited = limits-read (two-texts library text) (says .modules) (says .read-so);
+          small = says .small;
         }
 
 -- ---- what is found
 
-module _ (text : List ℕ) (t : ℕ) (w : List ℕ) (spoken : Spoken text t w) where
+module _ (x : Reading) (text : List ℕ) (t : ℕ) (w : List ℕ) (spoken : Spoken x text t w) where
   abbrev all : List Module
   all = spoken .modules
 
@@ -152,11 +136,12 @@ module _ (text : List ℕ) (t : ℕ) (w : List ℕ) (spoken : Spoken text t w) w
       spells = record {
         within = omega (arith, length-take-le (t - 0) (drop 0 w) (omega (arith, tape-within)));
         says = spoken .said;
-        few = modules-few text all (spoken .state) (spoken .read-so);
+        few = spoken .few;
         begun = heads;
       };
-      fresh = read-fresh text all (spoken .state) (spoken .read-so);
-      limited = limits-read text all (spoken .state) (spoken .read-so);
+      fresh = spoken .fresh;
+      limited = spoken .limited;
+      small = spoken .small;
     }
 
     pub spoken-given : Given text t w h
@@ -169,16 +154,16 @@ module _ (text : List ℕ) (t : ℕ) (w : List ℕ) (spoken : Spoken text t w) w
       number-so : k ≡ before (same asked) (module-names all)
       number-so = e ∙ asked-number asked (declared text (part w 0 t) h) ∙ ap (before (same asked)) (declared-names text (part w 0 t) t all h (spoken-told .spells))
 
-      pub asked-found : k < h .count → Found asked text t w h k
+      pub asked-found : k < h .count → Found asked x text t w h k
       asked-found l = record { spoken = spoken; heads = heads; number = number-so; there = omega (arith, l, count-so) }
 
       pub absent-answered : (o : List ℕ) (r : Answer) → h .count ≤ k → r ≡ told (refusal asked-absent 0 asked (short-or-blank asked) 0)
-          → Answered asked text o r o
+          → Answered asked x o r o
       unfolding of-read of-ended normalise pick
       absent-answered o r l q =
           let none : member asked (module-names all) ≡ false = member-absent asked (module-names all) (omega (arith, l, count-so, number-so)) in
           let ended : normalise asked all ≡ refused-at asked-absent 0 asked (short-or-blank asked) = rw none in
-          refusal-answered asked text o r asked-absent 0 asked (short-or-blank asked) 0
+          refusal-answered asked x o r asked-absent 0 asked (short-or-blank asked) 0
           (ap (of-read asked) (spoken .read-so) ∙ ap (of-ended asked) ended) q
 
 -- ---- what is evaluated
@@ -212,20 +197,20 @@ name-by-number text tape places i (suc c) (suc j) l =
     let z : suc i + j ≡ i + suc j = omega arith in
     name-by-number text tape places (suc i) c j (omega arith) ∙ ap (λ (n : ℕ). name-at text tape (getD places n 0)) z
 
-module _ (asked text : List ℕ) (t : ℕ) (w : List ℕ) (h : Heads) (k : ℕ) (found : Found asked text t w h k) where
+module _ (asked : List ℕ) (x : Reading) (text : List ℕ) (t : ℕ) (w : List ℕ) (h : Heads) (k : ℕ) (found : Found asked x text t w h k) where
   abbrev ms : List Module
   ms = found .spoken .modules
 
   pub found-within : t ≤ length w
-  found-within = tape-within text t w (found .spoken)
+  found-within = tape-within x text t w (found .spoken)
 
   pub found-given : Given text t w h
-  found-given = spoken-given text t w (found .spoken) h (found .heads)
+  found-given = spoken-given x text t w (found .spoken) h (found .heads)
 
   called-asked : name-at text (part w 0 t) (getD (h .places) k 0) ≡ asked
   unfolding declared
   called-asked =
-      let spells = spoken-told text t w (found .spoken) h (found .heads) .spells in
+      let spells = spoken-told x text t w (found .spoken) h (found .heads) .spells in
       let z : k ≡ 0 + k = omega arith in
       let few : k < h .count = omega (arith, found .there, names-number ms, heads-number text (part w 0 t) t ms h spells) in
       ap (λ (n : ℕ). name-at text (part w 0 t) (getD (h .places) n 0)) z
@@ -240,7 +225,7 @@ module _ (asked text : List ℕ) (t : ℕ) (w : List ℕ) (h : Heads) (k : ℕ) 
       let there : member asked (module-names ms) ≡ true = member-found asked (module-names ms) (omega (arith, found .number, found .there)) in
       rw there
 
-  answering : of-read asked (read text) ≡ of-ended asked (normalise asked ms)
+  answering : of-read asked x ≡ of-ended asked (normalise asked ms)
   unfolding of-read
   answering = ap (of-read asked) (found .spoken .read-so)
 
@@ -248,17 +233,17 @@ module _ (asked text : List ℕ) (t : ℕ) (w : List ℕ) (h : Heads) (k : ℕ) 
     ends : EndsAs text t w′ e (normalise asked ms)
     ends =
         subst (EndsAs text t w′ e) (sym ending)
-        (turned .meant ms asked (spoken-told text t w (found .spoken) h (found .heads)) (found .number))
+        (turned .meant ms asked (spoken-told x text t w (found .spoken) h (found .heads)) (found .number))
 
     pub refused-answered : (number count m c : ℕ) (o : List ℕ) (r : Answer) → e ≡ Ended.Refused number count m c
-        → r ≡ told (refusal number count (name-of text m) (name-of text c) 0) → Answered asked text o r o
+        → r ≡ told (refusal number count (name-of text m) (name-of text c) 0) → Answered asked x o r o
     unfolding of-ended
     refused-answered number count m c o r d q =
         let end = refused-end text t w′ number count m c (normalise asked ms) (subst (λ (x : Ended). EndsAs text t w′ x (normalise asked ms)) d ends) in
-        refusal-answered asked text o r number count (name-of text m) (name-of text c) 0 (answering ∙ ap (of-ended asked) end) q
+        refusal-answered asked x o r number count (name-of text m) (name-of text c) 0 (answering ∙ ap (of-ended asked) end) q
 
     pub form-evaluated : (name count last : ℕ) → name ≡ word-at (part w 0 t) (getD (h .places) k 0) → length w′ ≡ length w
-        → e ≡ Ended.Normalised count last → Evaluated asked text t w′ name count last
+        → e ≡ Ended.Normalised count last → Evaluated asked x text t w′ name count last
     form-evaluated name count last n size d =
         let end = normal-end text t w′ count last (normalise asked ms) (normalise-sound asked ms)
         (subst (λ (x : Ended). EndsAs text t w′ x (normalise asked ms)) d ends) in
@@ -282,6 +267,7 @@ listing-told asked count n = λ i. record {
   evaluating = held (short-name [] (omega arith) i);
   culprit = held [];
   at = 0;
+  «in_library» = false;
   listing = length (lines-text (listing-lines asked n));
 }
 
@@ -291,7 +277,7 @@ unfolding pick
 fits-size true n bs o o′ e = let f : Fits n ≡ Fits (length bs) = ap (λ (x : Fit.Result). x .ended) e in cc
 fits-size false n bs o o′ e = let f : Fits n ≡ TooLong = ap (λ (x : Fit.Result). x .ended) e in cc
 
-module _ (asked text : List ℕ) (t : ℕ) (w : List ℕ) (name count last : ℕ) (evaluated : Evaluated asked text t w name count last) where
+module _ (asked : List ℕ) (x : Reading) (text : List ℕ) (t : ℕ) (w : List ℕ) (name count last : ℕ) (evaluated : Evaluated asked x text t w name count last) where
   pub listed-within : t ≤ length w
   listed-within = evaluated .tape
 
@@ -322,13 +308,13 @@ module _ (asked text : List ℕ) (t : ℕ) (w : List ℕ) (name count last : ℕ
       lent : Lent asked whole o v o′
       lent = lent-meant asked whole o v o′ written
 
-      output-so : o′ ≡ output-after (within (length o) asked (of-read asked (read text))) o
+      output-so : o′ ≡ output-after (within (length o) asked (of-read asked x)) o
       output-so = sym (ap (λ (a : Meaning.Answer). output-after (within (length o) asked a) o) (evaluated .ended) ∙ lent .output)
 
-      answer-lent : within (length o) asked (of-read asked (read text)) ≡ answer-when asked whole v
+      answer-lent : within (length o) asked (of-read asked x) ≡ answer-when asked whole v
       answer-lent = ap (within (length o) asked) (evaluated .ended) ∙ lent .answer
 
-      pub listed-answered : (n : ℕ) (r : Answer) → v ≡ Fits n → r ≡ told-listed count n → Answered asked text o r o′
+      pub listed-answered : (n : ℕ) (r : Answer) → v ≡ Fits n → r ≡ told-listed count n → Answered asked x o r o′
       unfolding answer-when fitted
       listed-answered n r d q =
           let size : n ≡ length (Meaning.listing whole) = fits-size _ n (Meaning.listing whole) o o′ (rw d at written) in
@@ -341,7 +327,7 @@ module _ (asked text : List ℕ) (t : ℕ) (w : List ℕ) (name count last : ℕ
             output = output-so;
           }
 
-      pub long-answered : (r : Answer) → v ≡ TooLong → r ≡ told (refusal lent-short count asked [] 0) → Answered asked text o r o′
+      pub long-answered : (r : Answer) → v ≡ TooLong → r ≡ told (refusal lent-short count asked [] 0) → Answered asked x o r o′
       unfolding answer-when of-ended
       long-answered r d q =
           record { answer = q ∙ ap told (sym (answer-lent ∙ ap (answer-when asked whole) d)); output = output-so }

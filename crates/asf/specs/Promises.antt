@@ -4,6 +4,7 @@ use mathlib.Core.Path.{_≡_, sym, ap, _∙_}
 use mathlib.Core.Logic.{⊎-elim}
 use Prim.Native.Nat.{ℕ, _≤_}
 use native.Mathlib.Omega.{arith}
+use mathlib.Core.Bool.{Bool}
 use mathlib.Core.List.{List}
 use borrow.Author.Tests.{leb-true, leb-false}
 use lib.Dec.{leb}
@@ -14,6 +15,7 @@ use Rattle.meaning.specs.Lists.{pick}
 use Rattle.meaning.specs.Names as Names
 use Rattle.meaning.specs.Numbers.{name-size}
 use Rattle.meaning.specs.Reached.{short-or-blank}
+use Rattle.meaning.specs.Texts.{Texts}
 use Rattle.meaning.specs.Answer as Meaning
 use Rattle.meaning.specs.Answer.{answer, output-after, memory-after}
 use Rattle.meaning.specs.Contract.{call}
@@ -24,7 +26,7 @@ use Rattle.asf.specs.Answers.{held, told, Returned, told-call}
 use Rattle.asf.specs.Told.{short-name}
 use Rattle.asf.specs.ReadNames.{answer-named, named-by-number, answer-long}
 
--- ---- document 01's five values
+-- ---- document 01's five values, and the mark of the place
 
 pub record Values : Type 0 where
   pub number : ℕ
@@ -32,9 +34,10 @@ pub record Values : Type 0 where
   pub evaluating : Names.Name
   pub culprit : Names.Name
   pub at : ℕ
+  pub in-library : Bool
 
 abbrev pub meant-values : Meaning.Answer → Values
-meant-values a = record { number = a .number; modules = a .modules; evaluating = a .evaluating; culprit = a .culprit; at = a .at }
+meant-values a = record { number = a .number; modules = a .modules; evaluating = a .evaluating; culprit = a .culprit; at = a .at; in-library = a .in-library }
 
 -- a name that is held
 abbrev pub named : Name → Names.Name
@@ -45,7 +48,7 @@ unfoldable pub module-told : Names.Name → Answer → Names.Name
 module-told asked r = pick (leb (length asked) name-size) (named (r .evaluating)) (named-by-number asked (r .number))
 
 abbrev pub values : Names.Name → Answer → Values
-values asked r = record { number = r .number; modules = r .modules; evaluating = module-told asked r; culprit = named (r .culprit); at = r .at }
+values asked r = record { number = r .number; modules = r .modules; evaluating = module-told asked r; culprit = named (r .culprit); at = r .at; in-library = r .«in_library» }
 
 named-held : (n : Names.Name) → named (held n) ≡ n
 unfolding held
@@ -53,11 +56,11 @@ named-held n = take-append-seam n _
 
 -- ---- a call's result r
 
-module _ (memory output : List ℕ) (asked : Names.Name) (text : List ℕ) (r : Returned) (e : r ≡ told-call (call memory output asked text)) where
+module _ (memory output : List ℕ) (asked : Names.Name) (texts : Texts) (r : Returned) (e : r ≡ told-call (call memory output asked texts)) where
   abbrev a : Meaning.Answer
-  a = answer (length memory) (length output) asked text
+  a = answer (length memory) (length output) asked texts
 
-  pub coincide : (r′ : Returned) → r′ ≡ told-call (call memory output asked text) → r ≡ r′
+  pub coincide : (r′ : Returned) → r′ ≡ told-call (call memory output asked texts) → r ≡ r′
   coincide r′ e′ = e ∙ sym e′
 
   pub answer-told : r .answer ≡ told a
@@ -72,21 +75,21 @@ module _ (memory output : List ℕ) (asked : Names.Name) (text : List ℕ) (r : 
   module-held : length asked ≤ name-size → named (told a .evaluating) ≡ a .evaluating
   unfolding told
   module-held h =
-      let short = ⊎-elim (λ l. l) (λ (q : a .evaluating ≡ asked). omega (arith, ap length q, h)) (answer-named (length memory) (length output) asked text) in
+      let short = ⊎-elim (λ l. l) (λ (q : a .evaluating ≡ asked). omega (arith, ap length q, h)) (answer-named (length memory) (length output) asked texts) in
       named-held (short-or-blank (a .evaluating)) ∙ short-name (a .evaluating) short
 
   module-so : module-told asked (told a) ≡ a .evaluating
   unfolding module-told told
   module-so =
       by-cases (λ (m : Names.Name). m ≡ a .evaluating) _ _ _ (λ e. module-held (leb-true (length asked) name-size e))
-      (λ e. sym (answer-long (length memory) (length output) asked text (leb-false (length asked) name-size e)))
+      (λ e. sym (answer-long (length memory) (length output) asked texts (leb-false (length asked) name-size e)))
 
   -- the five values, from the answer and the asked name
   pub values-told : values asked (r .answer) ≡ meant-values a
   unfolding told
   values-told =
       ap (values asked) answer-told
-      ∙ (λ i. record { number = a .number; modules = a .modules; evaluating = module-so i; culprit = named-held (a .culprit) i; at = a .at })
+      ∙ (λ i. record { number = a .number; modules = a .modules; evaluating = module-so i; culprit = named-held (a .culprit) i; at = a .at; in-library = a .in-library })
 
   -- ---- the lent slices
 
@@ -98,11 +101,11 @@ module _ (memory output : List ℕ) (asked : Names.Name) (text : List ℕ) (r : 
   pub refused-unchanged : (r .answer .number ≡ 0 → ⊥) → r .output ≡ output
   unfolding told-call call
   refused-unchanged h =
-      ap (λ (x : Returned). x .output) e ∙ Contract.refused-unchanged memory output asked text (λ q. h (number-told ∙ q))
+      ap (λ (x : Returned). x .output) e ∙ Contract.refused-unchanged memory output asked texts (λ q. h (number-told ∙ q))
 
   pub same-length : length (r .output) ≡ length output
   unfolding told-call call
-  same-length = ap (λ (x : Returned). length (x .output)) e ∙ Contract.same-length memory output asked text
+  same-length = ap (λ (x : Returned). length (x .output)) e ∙ Contract.same-length memory output asked texts
 
   pub memory-zero : r .memory ≡ memory-after memory
   unfolding told-call call

@@ -16,12 +16,14 @@ use Rattle.meaning.specs.Names.{Name, member}
 use Rattle.meaning.specs.Numbers.{text-size, name-size, asked-absent, lent-short}
 use Rattle.meaning.specs.Syntax.{Module}
 use Rattle.meaning.specs.Grammar.{State, Result, done, refused, read}
+use Rattle.meaning.specs.Texts.{Texts, Reading, all-read, refused-in, read-texts}
+use Rattle.meaning.specs.TextsLaws.{of-both}
 use Rattle.meaning.specs.Normal.{Normal, empty}
 use Rattle.meaning.specs.Checks.{Outcome, fine, stop}
 use Rattle.meaning.specs.Evaluate.{Evaluated, evaluate}
 use Rattle.meaning.specs.Reached.{Placed, reached-among, reached, Ended, normalised, refused-at, end-or, total-of, in-turn, module-names, short-or-blank, normalise}
-use Rattle.meaning.specs.Answer.{Answer, refusal, of-ended, of-read, within, answer}
-use Rattle.limits.specs.EveryLaws.{every-made}
+use Rattle.meaning.specs.Answer.{Answer, refusal, of-ended, unread, of-read, within, answer}
+use Rattle.limits.specs.EveryLaws.{every-append, every-made}
 use Rattle.tape.specs.Tape.{Entry, spelled, entries, flat-module, flat-modules}
 use Rattle.meant.specs.Meant.{read-done}
 use Rattle.asf.specs.Told.{word-short}
@@ -48,13 +50,18 @@ unfolding each flat-module
 flat-short [] h = tt
 flat-short (m ∷ ms) h = (h .0, flat-short ms (after-front ShortEntry (flat-module m) (each flat-module ms) h))
 
-pub read-names : (text : List ℕ) (ms : List Module) (s : State) → read text ≡ done ms s → Every (λ (m : Module). Short (m .name)) ms
+text-names : (text : List ℕ) (n : ℕ) (taken : List Name) (ms : List Module) (s : State) → read text n taken ≡ done ms s
+    → Every (λ (m : Module). Short (m .name)) ms
 unfolding flat-modules
-read-names text ms s e =
+text-names text n taken ms s e =
     let tape : List ℕ = replicate (length text) 0 in
     let there : min (length text) text-size ≤ length tape = omega (arith, length-replicate {A = ℕ} (length text) 0) in
-    let r = read-done text tape there ms s e in
+    let r = read-done text n taken tape there ms s e in
     flat-short ms (subst (Every ShortEntry) (r .says .said) (entries-short text _ _))
+
+pub read-names : (texts : Texts) (ms : List Module) → read-texts texts ≡ all-read ms → Every (λ (m : Module). Short (m .name)) ms
+read-names =
+    of-both (Every (λ (m : Module). Short (m .name))) tt (λ ls ms h g. every-append (λ (m : Module). Short (m .name)) ls ms h g) text-names
 
 -- ---- the module that an answer names
 
@@ -95,19 +102,19 @@ unfolding of-ended refusal
 end-named asked (normalised count n) h = inl (omega arith)
 end-named asked (refused-at number count m c) h = h
 
-read-named : (asked : Name) (text : List ℕ) (r : Result (List Module)) → read text ≡ r → AnswerNamed asked (of-read asked r)
-unfolding of-read refusal normalise reached
-read-named asked text (done ms s) e =
+read-named : (asked : Name) (texts : Texts) (r : Reading) → read-texts texts ≡ r → AnswerNamed asked (of-read asked r)
+unfolding of-read unread normalise reached
+read-named asked texts (all-read ms) e =
     end-named asked _
     (by-cases (EndNamed asked) _ _ _
-    (λ q. turns-named asked (module-names ms) [] empty (reached asked ms) (reached-short asked 0 [] ms (read-names text ms s e))) (λ q. inr refl))
-read-named asked text (refused number at) e = inl (omega arith)
+    (λ q. turns-named asked (module-names ms) [] empty (reached asked ms) (reached-short asked 0 [] ms (read-names texts ms e))) (λ q. inr refl))
+read-named asked texts (refused-in l number at) e = inl (omega arith)
 
-pub answer-named : (memory-lent output-lent : ℕ) (asked : Name) (text : List ℕ) → AnswerNamed asked (answer memory-lent output-lent asked text)
+pub answer-named : (memory-lent output-lent : ℕ) (asked : Name) (texts : Texts) → AnswerNamed asked (answer memory-lent output-lent asked texts)
 unfolding answer within refusal
-answer-named memory-lent output-lent asked text =
+answer-named memory-lent output-lent asked texts =
     by-cases (AnswerNamed asked) _ _ _ (λ e. inr refl)
-    (λ e. by-cases (AnswerNamed asked) _ _ _ (λ k. read-named asked text (read text) refl) (λ k. inr refl))
+    (λ e. by-cases (AnswerNamed asked) _ _ _ (λ k. read-named asked texts (read-texts texts) refl) (λ k. inr refl))
 
 -- ---- an asked name of more than 40 bytes
 
@@ -130,16 +137,16 @@ from-six : (asked : Name) (number count : ℕ) (c : Name) (at : ℕ) → 5 < num
 unfolding refusal pick
 from-six asked number count c at h = rw (lt-leb number 5 h)
 
-read-long : (asked : Name) (text : List ℕ) → name-size < length asked → (r : Result (List Module)) → read text ≡ r → ByNumber asked (of-read asked r)
-unfolding of-read of-ended normalise refusal pick
-read-long asked text l (done ms s) e =
-    let absent : normalise asked ms ≡ refused-at asked-absent 0 asked (short-or-blank asked) = rw (none-long asked l ms (read-names text ms s e)) in
+read-long : (asked : Name) (texts : Texts) → name-size < length asked → (r : Reading) → read-texts texts ≡ r → ByNumber asked (of-read asked r)
+unfolding of-read of-ended normalise unread pick
+read-long asked texts l (all-read ms) e =
+    let absent : normalise asked ms ≡ refused-at asked-absent 0 asked (short-or-blank asked) = rw (none-long asked l ms (read-names texts ms e)) in
     rw absent (from-six asked asked-absent 0 (short-or-blank asked) 0 (omega arith))
-read-long asked text l (refused number at) e = rw (le-leb number 5 (refused-low text number at e))
+read-long asked texts l (refused-in m number at) e = rw (le-leb number 5 (refused-low texts m number at e))
 
-pub answer-long : (memory-lent output-lent : ℕ) (asked : Name) (text : List ℕ) → name-size < length asked
-    → ByNumber asked (answer memory-lent output-lent asked text)
+pub answer-long : (memory-lent output-lent : ℕ) (asked : Name) (texts : Texts) → name-size < length asked
+    → ByNumber asked (answer memory-lent output-lent asked texts)
 unfolding answer within
-answer-long memory-lent output-lent asked text l =
+answer-long memory-lent output-lent asked texts l =
     by-cases (ByNumber asked) _ _ _ (λ e. from-six asked lent-short 0 [] 0 (omega arith))
-    (λ e. by-cases (ByNumber asked) _ _ _ (λ k. read-long asked text l (read text) refl) (λ k. from-six asked lent-short _ [] 0 (omega arith)))
+    (λ e. by-cases (ByNumber asked) _ _ _ (λ k. read-long asked texts l (read-texts texts) refl) (λ k. from-six asked lent-short _ [] 0 (omega arith)))

@@ -6,8 +6,9 @@ use mathlib.Core.Bool.{Bool}
 use mathlib.Core.List.{List, [], _∷_}
 use Rattle.meaning.specs.Laws.{by-cases}
 use Rattle.meaning.specs.Names.{Name}
-use Rattle.meaning.specs.Numbers.{module-limit, bracket-limit, over-size, other-end, module-twice}
-use Rattle.meaning.specs.Syntax.{Term, Sides}
+use Rattle.meaning.specs.Numbers.{bracket-limit, over-size, other-end, module-twice}
+use Rattle.meaning.specs.Syntax.{Term, Sides, Module}
+use Rattle.meaning.specs.Texts.{Texts, Reading, all-read, refused-in, behind, read-behind, library-first, read-texts}
 use Rattle.meaning.specs.Grammar.{State, Result, done, refused, Parser, after, _>>=_ as bind-read, _>>_ as next-read, return, refuse, unexpected, if-next, too-many, step, expect, short-name, name, that-name, this-name, separated, many, some-of, optional, sort-list, input-type, function, signature, parameter, exports, pair, pairs, renamed, bound, perhaps-renamed, modifier, modifier-end, import-expression, imports, variable-group, variables, counted-name, term-name, term-by, in-brackets, term, sides, sides-list, implied, conditional, equation-after, no-nodes, equation, fresh-name, a-module, modules, read}
 
 abbrev UpToFive : {A : Type 0} → Result A → Type 0
@@ -237,9 +238,28 @@ module _ (text : List ℕ) where
       low-bind (low-module taken) (λ m.
       low-bind (low-if _ (low-return []) (record { refuses = λ s. low-modules n (m .name ∷ taken) .refuses s })) (λ ms. low-return _))
 
-  whole-read : UpToFive (read text)
+  text-low : (n : ℕ) (taken : List Name) → UpToFive (read text n taken)
   unfolding read
-  whole-read = by-cases UpToFive _ _ _ (λ e. low-modules module-limit [] .refuses _) (λ e. omega arith)
+  text-low n taken = by-cases UpToFive _ _ _ (λ e. low-modules n taken .refuses _) (λ e. omega arith)
 
-  pub refused-low : (k at : ℕ) → read text ≡ refused k at → k ≤ 5
-  refused-low k at e = subst UpToFive e whole-read
+-- ---- both texts
+
+abbrev LowReading : Reading → Type 0
+LowReading (all-read ms) = Unit {0}
+LowReading (refused-in l k at) = k ≤ 5
+
+behind-low : (ls : List Module) (r : Result (List Module)) → UpToFive r → LowReading (behind ls r)
+unfolding behind
+behind-low ls (done ms s) h = tt
+behind-low ls (refused k at) h = h
+
+first-low : (r : Result (List Module)) (customer : List ℕ) → UpToFive r → LowReading (library-first r customer)
+unfolding library-first read-behind
+first-low (done ls s) customer h = behind-low ls _ (text-low customer _ _)
+first-low (refused k at) customer h = h
+
+pub refused-low : (texts : Texts) (in-library : Bool) (k at : ℕ) → read-texts texts ≡ refused-in in-library k at → k ≤ 5
+unfolding read-texts read-behind
+refused-low texts in-library k at e =
+    subst LowReading e
+    (by-cases LowReading _ _ _ (λ q. behind-low [] _ (text-low (texts .customer) _ _)) (λ q. first-low _ (texts .customer) (text-low (texts .library) _ _)))

@@ -2,6 +2,7 @@
 use mathlib.Core.Path.{_≡_, refl}
 use Prim.Native.Nat.{ℕ, _<_, _≤_}
 use native.Mathlib.Omega.{arith}
+use mathlib.Core.Bool.{Bool, false}
 use mathlib.Core.List.{List, []}
 use borrow.Author.Tests.{le-leb, lt-leb}
 use lib.ListN.{length, length-take}
@@ -10,7 +11,7 @@ use Rattle.meaning.specs.Names as Names
 use Rattle.meaning.specs.Numbers.{name-size}
 use Rattle.meaning.specs.Reached.{short-or-blank}
 use Rattle.meaning.specs.Listing.{lines-text}
-use Rattle.meaning.specs.Answer.{refusal, within, output-after}
+use Rattle.meaning.specs.Answer.{refusal, unread, within, output-after}
 use Rattle.names.specs.Word.{name-of}
 use Rattle.asf.specs.declared.answers.Name.{Name}
 use Rattle.asf.specs.declared.answers.Answer.{Answer}
@@ -34,12 +35,29 @@ word-short text w = rw length-take (omega arith)
 
 -- a name and a culprit that are held already
 abbrev pub refusal-held : ℕ → ℕ → Name → Name → ℕ → Answer
-refusal-held number modules m c at = record { number = number; modules = modules; evaluating = m; culprit = c; at = at; listing = 0 }
+refusal-held number modules m c at = record { number = number; modules = modules; evaluating = m; culprit = c; at = at; «in_library» = false; listing = 0 }
 
 pub refusal-told : (number modules : ℕ) (m c : Names.Name) (at : ℕ)
     → told (refusal number modules m c at) ≡ refusal-held number modules (held (short-or-blank m)) (held c) at
 unfolding told refusal lines-text each
 refusal-told number modules m c at = refl
+
+-- 1 to 5, with a name that is held already
+abbrev pub unread-held : Bool → ℕ → Name → Name → ℕ → Answer
+unread-held in-library number m c at =
+    record { number = number; modules = 0; evaluating = m; culprit = c; at = at; «in_library» = in-library; listing = 0 }
+
+pub unread-told : (in-library : Bool) (number at : ℕ) → told (unread in-library number at) ≡ unread-held in-library number (held (short-or-blank [])) (held []) at
+unfolding told unread lines-text each
+unread-told in-library number at = refl
+
+pub unread-within : (n : ℕ) (asked : Names.Name) (in-library : Bool) (number at : ℕ) → within n asked (unread in-library number at) ≡ unread in-library number at
+unfolding within unread lines-text each pick
+unread-within n asked in-library number at = rw (le-leb 0 n (omega arith))
+
+pub unread-leaves : (in-library : Bool) (number at : ℕ) (o : List ℕ) → output-after (unread in-library number at) o ≡ o
+unfolding output-after unread lines-text each
+unread-leaves in-library number at o = refl
 
 -- a refusal needs no room, and leaves the output
 pub refusal-within : (n : ℕ) (asked : Names.Name) (number modules : ℕ) (m c : Names.Name) (at : ℕ)

@@ -3,8 +3,9 @@ ghost use mathlib.Core.Path.{_≡_};
 ghost use mathlib.Core.List.{[]};
 ghost use Rattle.meaning.specs.Numbers.{asked-absent, lent-short};
 ghost use Rattle.meaning.specs.Reached.{short-or-blank};
-ghost use Rattle.meaning.specs.Answer.{refusal};
+ghost use Rattle.meaning.specs.Answer.{refusal, unread};
 ghost use Rattle.names.specs.Word.{name-of};
+ghost use Rattle.names.specs.Joint.{joint};
 ghost use Rattle.asf.specs.Answers.{held, told, told-listed};
 
 // A name of at most 40 bytes, and zeros behind it.
@@ -13,14 +14,15 @@ pub struct Name {
     pub length: usize,
 }
 
-// The number; how many modules were evaluated, the refused one included; the module evaluated when refused; the culprit; its place; and how
-// long the listing is. For 6 and 19 the module is the asked one, or blank where the asked name has more than 40 bytes: the caller has it.
+// The number; how many modules were evaluated, the refused one included; the module evaluated when refused; the culprit; its place, and whether that
+// is in the library; and how long the listing is. For 6 and 19 the module is the asked one, or blank where the asked name has more than 40 bytes: the caller has it.
 pub struct Answer {
     pub number: u32,
     pub modules: u32,
     pub evaluating: Name,
     pub culprit: Name,
     pub at: usize,
+    pub in_library: bool,
     pub listing: usize,
 }
 
@@ -44,11 +46,11 @@ fn short_or_blank(name: &[u8]) -> Name
 }
 
 // The name that the word w stands for.
-fn name_in(text: &[u8], w: u32) -> Name
-    ensures { λ r. ⌜ r ≡ held (name-of (now (text .entry)) w) ⌝ }
+fn name_in(library: &[u8], text: &[u8], w: u32) -> Name
+    ensures { λ r. ⌜ r ≡ held (name-of (joint (now (library .entry)) (now (text .entry))) w) ⌝ }
 {
     let mut bytes = [0; 40];
-    let length = pen::put_name(&mut bytes, 0, 41, text, w);
+    let length = pen::put_name(&mut bytes, 0, 41, library, text, w);
     Name { bytes, length }
 }
 
@@ -63,13 +65,14 @@ pub fn listed(modules: u32, listing: usize) -> Answer
         evaluating: none,
         culprit: none,
         at: 0,
+        in_library: false,
         listing,
     }
 }
 
 // 1 to 5.
-pub fn unread(number: u8, at: usize) -> Answer
-    ensures { λ r. ⌜ r ≡ told (refusal number 0 [] [] at) ⌝ }
+pub fn unread(in_library: bool, number: u8, at: usize) -> Answer
+    ensures { λ r. ⌜ r ≡ told (unread «in_library» number at) ⌝ }
 {
     let none = blank();
     Answer {
@@ -78,6 +81,7 @@ pub fn unread(number: u8, at: usize) -> Answer
         evaluating: none,
         culprit: none,
         at,
+        in_library,
         listing: 0,
     }
 }
@@ -93,22 +97,31 @@ pub fn absent(asked: &[u8]) -> Answer
         evaluating: name,
         culprit: name,
         at: 0,
+        in_library: false,
         listing: 0,
     }
 }
 
 // 7 to 18, and 20.
-pub fn refused(text: &[u8], number: u32, modules: u32, module: u32, culprit: u32) -> Answer
-    ensures { λ r. ⌜ r ≡ told (refusal number modules (name-of (now (text .entry)) «module») (name-of (now (text .entry)) culprit) 0) ⌝ }
+pub fn refused(
+    library: &[u8],
+    text: &[u8],
+    number: u32,
+    modules: u32,
+    module: u32,
+    culprit: u32,
+) -> Answer
+    ensures { λ r. ⌜ r ≡ told (refusal number modules (name-of (joint (now (library .entry)) (now (text .entry))) «module») (name-of (joint (now (library .entry)) (now (text .entry))) culprit) 0) ⌝ }
 {
-    let evaluating = name_in(text, module);
-    let name = name_in(text, culprit);
+    let evaluating = name_in(library, text, module);
+    let name = name_in(library, text, culprit);
     Answer {
         number,
         modules,
         evaluating,
         culprit: name,
         at: 0,
+        in_library: false,
         listing: 0,
     }
 }
@@ -125,6 +138,7 @@ pub fn lent_short(asked: &[u8], modules: u32) -> Answer
         evaluating,
         culprit: none,
         at: 0,
+        in_library: false,
         listing: 0,
     }
 }

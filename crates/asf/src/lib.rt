@@ -1,4 +1,4 @@
-// Normalising one module of a text: from bytes to the answer and the listing. All working memory is lent, and zero afterwards.
+// Normalising one module of two texts, our library and the customer's: from bytes to the answer and the listing. All working memory is lent, and zero afterwards.
 pub mod answers;
 
 use answers::Answer;
@@ -7,7 +7,6 @@ use answers::lent_short;
 use answers::listed;
 use answers::refused;
 use answers::unread;
-use entries::Reading;
 use keeping::read_form;
 use layout::table_start;
 use layout::tape_end;
@@ -19,11 +18,15 @@ use modules::find_heads;
 use modules::name_of_module;
 use turns::Ended;
 use turns::evaluate_reached;
+use two_texts::Both;
+use two_texts::read_both;
 ghost use mathlib.Core.Path.{_≡_};
 ghost use Prim.Native.Nat.{_≤_};
 ghost use lib.ListN.{length};
 ghost use Rattle.meaning.specs.Numbers.{memory-size};
+ghost use Rattle.meaning.specs.Texts.{two-texts, read-texts};
 ghost use Rattle.meaning.specs.Contract.{call};
+ghost use Rattle.names.specs.Joint.{joint};
 ghost use Rattle.asf.specs.Answers.{returned, told-call};
 ghost use Rattle.asf.specs.Steps.{Answered, Spoken, Found, Evaluated};
 
@@ -38,6 +41,7 @@ fn memory_size() -> usize
 // lent output.
 fn list_module(
     asked: &[u8],
+    library: &[u8],
     text: &[u8],
     work: &[u32],
     t: usize,
@@ -46,12 +50,12 @@ fn list_module(
     last: u32,
     out: &mut [u8],
 ) -> Answer
-    requires { ⌜ Evaluated (now asked) (now text) t (now work) name count last ⌝ }
-    ensures { λ r. ⌜ Answered (now (asked .entry)) (now (text .entry)) (now (out .entry)) r (now (out .exit)) ⌝ }
+    requires { ⌜ Evaluated (now asked) (read-texts (two-texts (now library) (now text))) (joint (now library) (now text)) t (now work) name count last ⌝ }
+    ensures { λ r. ⌜ Answered (now (asked .entry)) (read-texts (two-texts (now (library .entry)) (now (text .entry)))) (now (out .entry)) r (now (out .exit)) ⌝ }
 {
     let table = table_start();
     let f = read_form(work, table, last);
-    match write_listing(text, work, t, name, f, out) {
+    match write_listing(library, text, work, t, name, f, out) {
         Written::Fits(n) => listed(count, n),
         Written::TooLong => lent_short(asked, count),
     }
@@ -60,6 +64,7 @@ fn list_module(
 // The answer for module k of a tape of t entries.
 fn module_answer(
     asked: &[u8],
+    library: &[u8],
     text: &[u8],
     work: &mut [u32],
     t: usize,
@@ -67,19 +72,20 @@ fn module_answer(
     k: u32,
     out: &mut [u8],
 ) -> Answer
-    requires { ⌜ Found (now asked) (now text) t (now work) h k ⌝ }
-    ensures { λ r. ⌜ Answered (now (asked .entry)) (now (text .entry)) (now (out .entry)) r (now (out .exit)) ⌝ }
+    requires { ⌜ Found (now asked) (read-texts (two-texts (now library) (now text))) (joint (now library) (now text)) t (now work) h k ⌝ }
+    ensures { λ r. ⌜ Answered (now (asked .entry)) (read-texts (two-texts (now (library .entry)) (now (text .entry)))) (now (out .entry)) r (now (out .exit)) ⌝ }
 {
     let name = name_of_module(&work[0..t], h, k);
-    match evaluate_reached(text, work, t, h, k) {
+    match evaluate_reached(library, text, work, t, h, k) {
         Ended::Refused {
             number,
             count,
             module,
             culprit,
-        } => refused(text, number, count, module, culprit),
+        } => refused(library, text, number, count, module, culprit),
         Ended::Normalised { count, last } => list_module(
             asked,
+            library,
             text,
             work,
             t,
@@ -92,44 +98,65 @@ fn module_answer(
 }
 
 // The answer for a tape of t entries: 6 where no module is called as asked.
-fn asked_answer(asked: &[u8], text: &[u8], work: &mut [u32], t: usize, out: &mut [u8]) -> Answer
-    requires { ⌜ Spoken (now text) t (now work) ⌝ }
-    ensures { λ r. ⌜ Answered (now (asked .entry)) (now (text .entry)) (now (out .entry)) r (now (out .exit)) ⌝ }
+fn asked_answer(
+    asked: &[u8],
+    library: &[u8],
+    text: &[u8],
+    work: &mut [u32],
+    t: usize,
+    out: &mut [u8],
+) -> Answer
+    requires { ⌜ Spoken (read-texts (two-texts (now library) (now text))) (joint (now library) (now text)) t (now work) ⌝ }
+    ensures { λ r. ⌜ Answered (now (asked .entry)) (read-texts (two-texts (now (library .entry)) (now (text .entry)))) (now (out .entry)) r (now (out .exit)) ⌝ }
 {
     let h = find_heads(&work[0..t], t as u32);
-    let k = find_asked(text, &work[0..t], h, asked);
+    let k = find_asked(library, text, &work[0..t], h, asked);
     let count = h.count;
     if count <= k {
         return absent(asked);
     }
-    module_answer(asked, text, work, t, h, k, out)
+    module_answer(asked, library, text, work, t, h, k, out)
 }
 
 // The answer where there is enough working memory.
-fn text_answer(asked: &[u8], text: &[u8], work: &mut [u32], out: &mut [u8]) -> Answer
+fn text_answer(
+    asked: &[u8],
+    library: &[u8],
+    text: &[u8],
+    work: &mut [u32],
+    out: &mut [u8],
+) -> Answer
     requires { ⌜ memory-size ≤ length (now work) ⌝ }
-    ensures { λ r. ⌜ Answered (now (asked .entry)) (now (text .entry)) (now (out .entry)) r (now (out .exit)) ⌝ }
+    ensures { λ r. ⌜ Answered (now (asked .entry)) (read-texts (two-texts (now (library .entry)) (now (text .entry)))) (now (out .entry)) r (now (out .exit)) ⌝ }
 {
     let end = tape_end();
-    match reading::read(text, &mut work[0..end as usize]) {
-        Reading::Refused { number, place } => unread(number, place),
-        Reading::Done(p) => {
-            let t = p.entries;
-            asked_answer(asked, text, work, t, out)
-        }
+    match read_both(library, text, &mut work[0..end as usize]) {
+        Both::Refused {
+            in_library,
+            number,
+            place,
+        } => unread(in_library, number, place),
+        Both::Done(t) => asked_answer(asked, library, text, work, t, out),
     }
 }
 
-// The normal form of the asked module, as a listing at the front of `out`; or the refusal, which leaves `out` as it was.
-pub fn normalise(asked: &[u8], text: &[u8], work: &mut [u32], out: &mut [u8]) -> Answer
-    ensures { λ r. ⌜ returned r (now (out .exit)) (now (work .exit)) ≡ told-call (call (now (work .entry)) (now (out .entry)) (now (asked .entry)) (now (text .entry))) ⌝ }
+// The normal form of the asked module, as a listing at the front of `out`; or the refusal, which leaves `out` as it was. The library's modules
+// stand before those of the text; an empty library is none.
+pub fn normalise(
+    asked: &[u8],
+    library: &[u8],
+    text: &[u8],
+    work: &mut [u32],
+    out: &mut [u8],
+) -> Answer
+    ensures { λ r. ⌜ returned r (now (out .exit)) (now (work .exit)) ≡ told-call (call (now (work .entry)) (now (out .entry)) (now (asked .entry)) (two-texts (now (library .entry)) (now (text .entry)))) ⌝ }
 {
     let size = memory_size();
     if work.len() < size {
         memory::zero_all(work);
         return lent_short(asked, 0);
     }
-    let r = text_answer(asked, text, work, out);
+    let r = text_answer(asked, library, text, work, out);
     memory::zero_all(work);
     r
 }

@@ -1,11 +1,13 @@
 -- One law for each way through the code, in the code's terms.
 use mathlib.Core.Path.{_≡_, refl, sym, ap, _∙_}
+use mathlib.Core.Bool.{Bool, true, false}
 use mathlib.Core.List.{List, [], _∷_}
 use Prim.Native.Nat.{ℕ, _+_, _≤_}
 use native.Mathlib.Omega.{arith}
 use borrow.Author.Needs.{needs}
 use lib.ListN.{length, set}
 use lib.Seq.{set-out}
+use Rattle.meaning.specs.Lists.{pick}
 use Rattle.meaning.specs.Numbers.{memory-size}
 use Rattle.pen.specs.Pen.{Pen, pen, written}
 use Rattle.listing_reader.specs.declared.Line.{Line}
@@ -15,7 +17,7 @@ use Rattle.listing_reader.specs.Places.{places-at, LineRead}
 use Rattle.asf.specs.declared.answers.Name.{Name}
 use Rattle.asf.specs.declared.answers.Answer.{Answer}
 use Rattle.asf.specs.Answers.{Returned, returned}
-use Rattle.asf_c.specs.Handed.{laid, answer-values, names-laid, handed, handed-call, line-values, line-handed, handed-line}
+use Rattle.asf_c.specs.Handed.{laid, bit-of, answer-values, names-laid, handed, handed-call, line-values, line-handed, handed-line}
 
 pub words : 1048576 ≡ memory-size
 unfolding memory-size
@@ -32,10 +34,19 @@ module _ (xs : List ℕ) (i : ℕ) where
   unfolding laid
   three-laid a b c xs₁ xs₂ xs₃ e₁ e₂ e₃ = rw (e₃, e₂, e₁)
 
-pub answer-laid : (r : Answer) (xs xs₁ xs₂ : List ℕ) → xs₁ ≡ laid 0 (r .number ∷ r .modules ∷ r .at ∷ []) xs
-    → xs₂ ≡ laid 3 (r .evaluating .length ∷ r .culprit .length ∷ r .listing ∷ []) xs₁ → xs₂ ≡ laid 0 (answer-values r) xs
+pub bit-yes : (b : Bool) → b ≡ true → 1 ≡ bit-of b
+unfolding bit-of pick
+bit-yes b e = rw e
+
+pub bit-no : (b : Bool) → b ≡ false → 0 ≡ bit-of b
+unfolding bit-of pick
+bit-no b e = rw e
+
+pub answer-laid : (r : Answer) (xs xs₁ xs₂ xs₃ : List ℕ) (m : ℕ) → xs₁ ≡ laid 0 (r .number ∷ r .modules ∷ r .at ∷ []) xs
+    → xs₂ ≡ laid 3 (r .evaluating .length ∷ r .culprit .length ∷ r .listing ∷ []) xs₁ → m ≡ bit-of (r .«in_library») → xs₃ ≡ set xs₂ 6 m
+    → xs₃ ≡ laid 0 (answer-values r) xs
 unfolding laid answer-values
-answer-laid r xs xs₁ xs₂ e₁ e₂ = rw (e₂, e₁)
+answer-laid r xs xs₁ xs₂ xs₃ m e₁ e₂ b e₃ = rw (e₃, b, e₂, e₁)
 
 pub places-laid : (p : Places) (xs xs₁ xs₂ xs₃ : List ℕ) → xs₁ ≡ laid 0 (p .number ∷ p .mark ∷ p .value ∷ []) xs → xs₂ ≡ set xs₁ 3 (p .end)
     → xs₃ ≡ set xs₂ 4 (p .next) → xs₃ ≡ laid 0 (line-values p) xs
@@ -73,4 +84,4 @@ module _ (text : List ℕ) (at : ℕ) (l : Line) (read : LineRead text at l) (va
   unfolding handed-line
   no-line place e = ap (λ (l : Line). handed-line l values) (sym e ∙ read .placed)
 
-pub ruleset cases = (words, no-room, three-laid, answer-laid, places-laid, both-laid, call-handed, keyed, at-the-end, no-line, needs)
+pub ruleset cases = (words, bit-yes, bit-no, no-room, three-laid, answer-laid, places-laid, both-laid, call-handed, keyed, at-the-end, no-line, needs)

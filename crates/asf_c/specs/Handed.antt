@@ -2,8 +2,10 @@
 -- room is left out.
 use mathlib.Core.Path.{_≡_, sym, _∙_}
 use Prim.Native.Nat.{ℕ, _+_}
+use mathlib.Core.Bool.{Bool}
 use mathlib.Core.List.{List, [], _∷_}
 use lib.ListN.{length, set}
+use Rattle.meaning.specs.Lists.{pick}
 use Rattle.meaning.specs.Numbers.{bad-line}
 use Rattle.pen.specs.Pen.{pen, written}
 use Rattle.listing_reader.specs.declared.Line.{Line}
@@ -20,9 +22,13 @@ laid i (v ∷ vs) xs = laid (i + 1) vs (set xs i v)
 
 -- ---- normalising
 
--- the values of an answer
+unfoldable pub bit-of : Bool → ℕ
+bit-of b = pick b 1 0
+
+-- the values of an answer, and last 1 where the place is in the library
 unfoldable pub answer-values : Answer → List ℕ
-answer-values r = r .number ∷ r .modules ∷ r .at ∷ r .evaluating .length ∷ r .culprit .length ∷ r .listing ∷ []
+answer-values r =
+    r .number ∷ r .modules ∷ r .at ∷ r .evaluating .length ∷ r .culprit .length ∷ r .listing ∷ bit-of (r .«in_library») ∷ []
 
 -- the two names, one behind the other, each in 40 bytes
 unfoldable pub names-laid : Name → Name → List ℕ → List ℕ

@@ -12,12 +12,13 @@ ghost use mathlib.Core.Path.{_≡_};
 ghost use mathlib.Core.List.{[], _∷_};
 ghost use Prim.Native.Nat.{_≤_};
 ghost use lib.ListN.{set};
+ghost use Rattle.meaning.specs.Texts.{two-texts};
 ghost use Rattle.meaning.specs.Contract.{call};
 ghost use Rattle.meaning.specs.Numbers.{memory-size};
 ghost use Rattle.listing_reader.specs.Places.{places-at};
 ghost use Rattle.listing_reader.specs.Visible.{visible-end};
 ghost use Rattle.asf.specs.Answers.{told-call};
-ghost use Rattle.asf_c.specs.Handed.{laid, answer-values, names-laid, handed, handed-call, line-values, line-handed, handed-line};
+ghost use Rattle.asf_c.specs.Handed.{laid, bit-of, answer-values, names-laid, handed, handed-call, line-values, line-handed, handed-line};
 
 // One value, where there is room.
 fn put_value(values: &mut [usize], i: usize, value: usize)
@@ -40,6 +41,16 @@ fn put_three(values: &mut [usize], i: usize, a: usize, b: usize, c: usize)
     put_value(values, k, c);
 }
 
+// 1 for yes, 0 for no.
+fn bit(b: bool) -> usize
+    ensures { λ r. ⌜ r ≡ bit-of b ⌝ }
+{
+    if b {
+        return 1;
+    }
+    0
+}
+
 // The values of an answer.
 fn put_answer(values: &mut [usize], r: Answer)
     ensures { λ _. ⌜ now (values .exit) ≡ laid 0 (answer-values r) (now (values .entry)) ⌝ }
@@ -50,6 +61,8 @@ fn put_answer(values: &mut [usize], r: Answer)
     let culprit = r.culprit;
     put_three(values, 0, number as usize, modules as usize, r.at);
     put_three(values, 3, evaluating.length, culprit.length, r.listing);
+    let mark = r.in_library;
+    put_value(values, 6, bit(mark));
 }
 
 // The names of an answer, each in 40 bytes.
@@ -80,19 +93,20 @@ pub extern "C" fn asf_memory_words() -> usize
     1048576
 }
 
-// Normalises the asked module of the text: the listing at the front of `out`, or a refusal's number.
+// Normalises the asked module of the library and the text behind it: the listing at the front of `out`, or a refusal's number.
 #[no_mangle]
 pub extern "C" fn asf_normalise(
     asked: &[u8],
+    library: &[u8],
     text: &[u8],
     work: &mut [u32],
     out: &mut [u8],
     values: &mut [usize],
     names: &mut [u8],
 ) -> u32
-    ensures { λ r. ⌜ handed r (now (out .exit)) (now (work .exit)) (now (values .exit)) (now (names .exit)) ≡ handed-call (told-call (call (now (work .entry)) (now (out .entry)) (now (asked .entry)) (now (text .entry)))) (now (values .entry)) (now (names .entry)) ⌝ }
+    ensures { λ r. ⌜ handed r (now (out .exit)) (now (work .exit)) (now (values .exit)) (now (names .exit)) ≡ handed-call (told-call (call (now (work .entry)) (now (out .entry)) (now (asked .entry)) (two-texts (now (library .entry)) (now (text .entry))))) (now (values .entry)) (now (names .entry)) ⌝ }
 {
-    let r = normalise(asked, text, work, out);
+    let r = normalise(asked, library, text, work, out);
     put_answer(values, r);
     put_names(names, r.evaluating, r.culprit);
     r.number

@@ -16,6 +16,7 @@ use uniting::unite_visible;
 ghost use mathlib.Core.Path.{_≡_};
 ghost use Prim.Native.Nat.{_≤_};
 ghost use lib.ListN.{length};
+ghost use Rattle.names.specs.Joint.{joint};
 ghost use Rattle.forms.specs.Memory.{part};
 ghost use Rattle.forms.specs.Verdicts.{told};
 ghost use Rattle.making.specs.Steps.{Bound};
@@ -67,12 +68,20 @@ fn named_form(b: Block, names: u32) -> Form
 }
 
 // The parameters' names: those of g but the bound one, and then the actual form's.
-fn bound_names(text: &[u8], work: &mut [u32], p: u32, g: Form, actual: Form, b: Block) -> Form
+fn bound_names(
+    library: &[u8],
+    text: &[u8],
+    work: &mut [u32],
+    p: u32,
+    g: Form,
+    actual: Form,
+    b: Block,
+) -> Form
     requires { ⌜ NamesPlaces (length (now work)) g actual b ⌝ }
-    ensures { λ r. ⌜ NamesBound (now (text .entry)) (now (work .entry)) p g actual b r (now (work .exit)) ⌝ }
+    ensures { λ r. ⌜ NamesBound (joint (now (library .entry)) (now (text .entry))) (now (work .entry)) p g actual b r (now (work .exit)) ⌝ }
 {
     let none = named_form(b, 0);
-    let n = keep_parameters(text, work, g, p, none);
+    let n = keep_parameters(library, text, work, g, p, none);
     let f = named_form(b, n);
     unite_parameters(work, actual, f)
 }
@@ -80,6 +89,7 @@ fn bound_names(text: &[u8], work: &mut [u32], p: u32, g: Form, actual: Form, b: 
 // The visible items: those of g that are not formal, moved, and then the actual form's. The notes of g's rows stand from b.visible_notes on,
 // those of the actual form's rows 1024 words behind.
 fn bound_rows(
+    library: &[u8],
     text: &[u8],
     work: &mut [u32],
     t: usize,
@@ -90,15 +100,26 @@ fn bound_rows(
     b: Block,
 ) -> Form
     requires { ⌜ NamedRoom (length (now work)) t m g actual f b ⌝ }
-    ensures { λ r. ⌜ RowsBound (now (text .entry)) t (now (work .entry)) m g actual f b r (now (work .exit)) ⌝ }
+    ensures { λ r. ⌜ RowsBound (joint (now (library .entry)) (now (text .entry))) t (now (work .entry)) m g actual f b r (now (work .exit)) ⌝ }
 {
     let notes = b.visible_notes;
-    let own = unite_visible(text, work, t, m, true, g, f, notes);
-    unite_visible(text, work, t, as_is(), false, actual, own, notes + 1024)
+    let own = unite_visible(library, text, work, t, m, true, g, f, notes);
+    unite_visible(
+        library,
+        text,
+        work,
+        t,
+        as_is(),
+        false,
+        actual,
+        own,
+        notes + 1024,
+    )
 }
 
 // These, and each formal row's note: where the actual item is.
 fn bound_visible(
+    library: &[u8],
     text: &[u8],
     work: &mut [u32],
     t: usize,
@@ -109,16 +130,17 @@ fn bound_visible(
     b: Block,
 ) -> Form
     requires { ⌜ NamedRoom (length (now work)) t m g actual f b ⌝ }
-    ensures { λ r. ⌜ VisibleBound (now (text .entry)) t (now (work .entry)) m g actual f b r (now (work .exit)) ⌝ }
+    ensures { λ r. ⌜ VisibleBound (joint (now (library .entry)) (now (text .entry))) t (now (work .entry)) m g actual f b r (now (work .exit)) ⌝ }
 {
     let notes = b.visible_notes;
-    let all = bound_rows(text, work, t, m, g, actual, f, b);
-    note_formals(text, work, t, m, all, notes);
+    let all = bound_rows(library, text, work, t, m, g, actual, f, b);
+    note_formals(library, text, work, t, m, all, notes);
     all
 }
 
 // The names, and the visible items.
 fn bound_front(
+    library: &[u8],
     text: &[u8],
     work: &mut [u32],
     t: usize,
@@ -128,15 +150,16 @@ fn bound_front(
     b: Block,
 ) -> Form
     requires { ⌜ StepRoom (length (now work)) t m g actual b ⌝ }
-    ensures { λ r. ⌜ FrontBound (now (text .entry)) t (now (work .entry)) m g actual b r (now (work .exit)) ⌝ }
+    ensures { λ r. ⌜ FrontBound (joint (now (library .entry)) (now (text .entry))) t (now (work .entry)) m g actual b r (now (work .exit)) ⌝ }
 {
     let p = m.parameter;
-    let named = bound_names(text, work, p, g, actual, b);
-    bound_visible(text, work, t, m, g, actual, named, b)
+    let named = bound_names(library, text, work, p, g, actual, b);
+    bound_visible(library, text, work, t, m, g, actual, named, b)
 }
 
 // The hidden items and the equations: those of g, moved, and then the actual form's.
 fn bound_hidden(
+    library: &[u8],
     text: &[u8],
     work: &mut [u32],
     t: usize,
@@ -147,37 +170,64 @@ fn bound_hidden(
     b: Block,
 ) -> Form
     requires { ⌜ SeenRoom (length (now work)) t m g actual f b ⌝ }
-    ensures { λ r. ⌜ HiddenBound (now (text .entry)) t (now (work .entry)) m g actual f b r (now (work .exit)) ⌝ }
+    ensures { λ r. ⌜ HiddenBound (joint (now (library .entry)) (now (text .entry))) t (now (work .entry)) m g actual f b r (now (work .exit)) ⌝ }
 {
     let notes = b.visible_notes;
-    let own = unite_hidden(text, work, t, m, g, f, b, notes);
-    unite_hidden(text, work, t, as_is(), actual, own, b, notes + 1024)
+    let own = unite_hidden(library, text, work, t, m, g, f, b, notes);
+    unite_hidden(
+        library,
+        text,
+        work,
+        t,
+        as_is(),
+        actual,
+        own,
+        b,
+        notes + 1024,
+    )
 }
 
 // g with its formal items replaced, united with the actual form.
-fn bound(text: &[u8], work: &mut [u32], t: usize, m: Mode, g: Form, actual: Form, b: Block) -> Made
+fn bound(
+    library: &[u8],
+    text: &[u8],
+    work: &mut [u32],
+    t: usize,
+    m: Mode,
+    g: Form,
+    actual: Form,
+    b: Block,
+) -> Made
     requires { ⌜ StepRoom (length (now work)) t m g actual b ⌝ }
-    ensures { λ r. ⌜ BoundForm (now (text .entry)) t (now (work .entry)) m g actual b r (now (work .exit)) ⌝ }
+    ensures { λ r. ⌜ BoundForm (joint (now (library .entry)) (now (text .entry))) t (now (work .entry)) m g actual b r (now (work .exit)) ⌝ }
 {
-    let seen = bound_front(text, work, t, m, g, actual, b);
-    let f = bound_hidden(text, work, t, m, g, actual, seen, b);
-    checked(text, work, t, f, b)
+    let seen = bound_front(library, text, work, t, m, g, actual, b);
+    let f = bound_hidden(library, text, work, t, m, g, actual, seen, b);
+    checked(library, text, work, t, f, b)
 }
 
 // 16: the pairs, and then the formal names without one.
-fn binding_right(text: &[u8], work: &[u32], t: usize, m: Mode, actual: Form) -> Verdict
+fn binding_right(
+    library: &[u8],
+    text: &[u8],
+    work: &[u32],
+    t: usize,
+    m: Mode,
+    actual: Form,
+) -> Verdict
     requires { ⌜ t ≤ length (now work) ⌝ }
     requires { ⌜ m .kind ≡ 2 ⌝ }
-    ensures { λ r. ⌜ told (now (text .entry)) r ≡ pairs-checked (now (text .entry)) (part (now (work .entry)) 0 t) (now (work .entry)) m actual ⌝ }
+    ensures { λ r. ⌜ told (joint (now (library .entry)) (now (text .entry))) r ≡ pairs-checked (joint (now (library .entry)) (now (text .entry))) (part (now (work .entry)) 0 t) (now (work .entry)) m actual ⌝ }
 {
-    match wrong_pair(text, work, t, m, actual) {
+    match wrong_pair(library, text, work, t, m, actual) {
         Verdict::Stop(k, w) => Verdict::Stop(k, w),
-        Verdict::Fine => unpaired(text, work, t, m),
+        Verdict::Fine => unpaired(library, text, work, t, m),
     }
 }
 
 // The parameter p of g bound to the actual form by the pairs on the tape from `pairs` on: 15, 16.
 pub fn bind(
+    library: &[u8],
     text: &[u8],
     work: &mut [u32],
     t: usize,
@@ -188,16 +238,16 @@ pub fn bind(
     b: Block,
 ) -> Made
     requires { ⌜ BindRoom (length (now work)) t g actual b ⌝ }
-    ensures { λ r. ⌜ Bound (now (text .entry)) t (now (work .entry)) p pairs g actual b r (now (work .exit)) ⌝ }
+    ensures { λ r. ⌜ Bound (joint (now (library .entry)) (now (text .entry))) t (now (work .entry)) p pairs g actual b r (now (work .exit)) ⌝ }
 {
-    if has_parameter(text, work, g, p) {
+    if has_parameter(library, text, work, g, p) {
         let m = binding_mode(p, pairs, g);
-        match binding_right(text, work, t, m, actual) {
+        match binding_right(library, text, work, t, m, actual) {
             Verdict::Stop(k, w) => {
                 return Made::Refused(k, w);
             }
             Verdict::Fine => {
-                return bound(text, work, t, m, g, actual, b);
+                return bound(library, text, work, t, m, g, actual, b);
             }
         }
     }

@@ -11,6 +11,7 @@ use tables::rows::read_row;
 ghost use mathlib.Core.Path.{_≡_};
 ghost use Prim.Native.Nat.{_+_, _*_, _<_};
 ghost use lib.ListN.{getD};
+ghost use Rattle.names.specs.Joint.{joint};
 ghost use Rattle.tables.specs.Rows.{row-at};
 ghost use Rattle.forms.specs.Forms.{names-at, items-at};
 ghost use Rattle.order.specs.Order.{InOrder};
@@ -44,9 +45,18 @@ fn first_rival(test: Test, x: Row, i: u32, n: u32) -> u32
 
 // The least name of two of the n items at b that are at odds. Items of one name stand side by side in the order table, so that a row is
 // tested against no more than those of its name.
-pub fn find_clash(text: &[u8], tape: &[u32], w: &[u32], b: u32, n: u32, p: u32, test: Test) -> Found
-    requires { ⌜ InOrder (now text) (now w) (b + 1) 16 p n ⌝ }
-    ensures { λ r. ⌜ named (now (text .entry)) r ≡ clash-name test (items-at (now (text .entry)) (now (tape .entry)) (now (w .entry)) b n) ⌝ }
+pub fn find_clash(
+    library: &[u8],
+    text: &[u8],
+    tape: &[u32],
+    w: &[u32],
+    b: u32,
+    n: u32,
+    p: u32,
+    test: Test,
+) -> Found
+    requires { ⌜ InOrder (joint (now library) (now text)) (now w) (b + 1) 16 p n ⌝ }
+    ensures { λ r. ⌜ named (joint (now (library .entry)) (now (text .entry))) r ≡ clash-name test (items-at (joint (now (library .entry)) (now (text .entry))) (now (tape .entry)) (now (w .entry)) b n) ⌝ }
 {
     let mut i = 0;
     'outer: while i < n {
@@ -54,8 +64,8 @@ pub fn find_clash(text: &[u8], tape: &[u32], w: &[u32], b: u32, n: u32, p: u32, 
         let mut j = first_rival(test, x, i, n);
         while j < n {
             let y = row_by(w, b, p, j);
-            if same_called(text, x, y) {
-                if at_odds(text, tape, test, x, y) {
+            if same_called(library, text, x, y) {
+                if at_odds(library, text, tape, test, x, y) {
                     break 'outer;
                 }
                 j += 1;
@@ -81,15 +91,15 @@ fn name_by(w: &[u32], b: u32, p: u32, i: u32) -> u32
 }
 
 // The least of the n names at b that stands there twice: in the order table the two are neighbours.
-pub fn find_repeated(text: &[u8], w: &[u32], b: u32, n: u32, p: u32) -> Found
-    requires { ⌜ InOrder (now text) (now w) b 1 p n ⌝ }
-    ensures { λ r. ⌜ named (now (text .entry)) r ≡ repeated-name (names-at (now (text .entry)) (now (w .entry)) b n) ⌝ }
+pub fn find_repeated(library: &[u8], text: &[u8], w: &[u32], b: u32, n: u32, p: u32) -> Found
+    requires { ⌜ InOrder (joint (now library) (now text)) (now w) b 1 p n ⌝ }
+    ensures { λ r. ⌜ named (joint (now (library .entry)) (now (text .entry))) r ≡ repeated-name (names-at (joint (now (library .entry)) (now (text .entry))) (now (w .entry)) b n) ⌝ }
 {
     let mut i = 1;
     while i < n {
         let x = name_by(w, b, p, i - 1);
         let y = name_by(w, b, p, i);
-        if same_word(text, x, y) {
+        if same_word(library, text, x, y) {
             return Found::At(x);
         }
         i += 1;

@@ -8,65 +8,107 @@ use order::order_names;
 ghost use mathlib.Core.Path.{_≡_};
 ghost use Prim.Native.Nat.{_+_, _≤_};
 ghost use lib.ListN.{length};
+ghost use Rattle.names.specs.Joint.{joint};
 ghost use Rattle.forms.specs.Memory.{part};
 ghost use Rattle.forms.specs.Forms.{items-at};
 ghost use Rattle.forms.specs.Verdicts.{told};
 ghost use Rattle.order.specs.Order.{InOrder};
 ghost use Rattle.checks.specs.Consistent.{overloading-check, functions-check, items-check, Laid, RowsLaid, ItemsChecked, Checked};
 
-fn check_overloading(text: &[u8], tape: &[u32], w: &[u32], b: u32, n: u32, p: u32) -> Verdict
-    requires { ⌜ InOrder (now text) (now w) (b + 1) 16 p n ⌝ }
-    ensures { λ r. ⌜ told (now (text .entry)) r ≡ overloading-check (items-at (now (text .entry)) (now (tape .entry)) (now (w .entry)) b n) ⌝ }
+fn check_overloading(
+    library: &[u8],
+    text: &[u8],
+    tape: &[u32],
+    w: &[u32],
+    b: u32,
+    n: u32,
+    p: u32,
+) -> Verdict
+    requires { ⌜ InOrder (joint (now library) (now text)) (now w) (b + 1) 16 p n ⌝ }
+    ensures { λ r. ⌜ told (joint (now (library .entry)) (now (text .entry))) r ≡ overloading-check (items-at (joint (now (library .entry)) (now (text .entry))) (now (tape .entry)) (now (w .entry)) b n) ⌝ }
 {
-    let found = find_clash(text, tape, w, b, n, p, Test::Overloading);
+    let found = find_clash(library, text, tape, w, b, n, p, Test::Overloading);
     match found {
         Found::At(x) => Verdict::Stop(11, x),
         Found::Nothing => Verdict::Fine,
     }
 }
 
-fn check_functions(text: &[u8], tape: &[u32], w: &[u32], b: u32, n: u32, p: u32) -> Verdict
-    requires { ⌜ InOrder (now text) (now w) (b + 1) 16 p n ⌝ }
-    ensures { λ r. ⌜ told (now (text .entry)) r ≡ functions-check (items-at (now (text .entry)) (now (tape .entry)) (now (w .entry)) b n) ⌝ }
+fn check_functions(
+    library: &[u8],
+    text: &[u8],
+    tape: &[u32],
+    w: &[u32],
+    b: u32,
+    n: u32,
+    p: u32,
+) -> Verdict
+    requires { ⌜ InOrder (joint (now library) (now text)) (now w) (b + 1) 16 p n ⌝ }
+    ensures { λ r. ⌜ told (joint (now (library .entry)) (now (text .entry))) r ≡ functions-check (items-at (joint (now (library .entry)) (now (text .entry))) (now (tape .entry)) (now (w .entry)) b n) ⌝ }
 {
-    let found = find_clash(text, tape, w, b, n, p, Test::Functions);
+    let found = find_clash(library, text, tape, w, b, n, p, Test::Functions);
     match found {
         Found::At(x) => Verdict::Stop(10, x),
-        Found::Nothing => check_overloading(text, tape, w, b, n, p),
+        Found::Nothing => check_overloading(library, text, tape, w, b, n, p),
     }
 }
 
-fn check_items(text: &[u8], tape: &[u32], w: &[u32], b: u32, n: u32, p: u32) -> Verdict
-    requires { ⌜ InOrder (now text) (now w) (b + 1) 16 p n ⌝ }
-    ensures { λ r. ⌜ told (now (text .entry)) r ≡ items-check (items-at (now (text .entry)) (now (tape .entry)) (now (w .entry)) b n) ⌝ }
+fn check_items(
+    library: &[u8],
+    text: &[u8],
+    tape: &[u32],
+    w: &[u32],
+    b: u32,
+    n: u32,
+    p: u32,
+) -> Verdict
+    requires { ⌜ InOrder (joint (now library) (now text)) (now w) (b + 1) 16 p n ⌝ }
+    ensures { λ r. ⌜ told (joint (now (library .entry)) (now (text .entry))) r ≡ items-check (items-at (joint (now (library .entry)) (now (text .entry))) (now (tape .entry)) (now (w .entry)) b n) ⌝ }
 {
-    let found = find_clash(text, tape, w, b, n, p, Test::Sorts);
+    let found = find_clash(library, text, tape, w, b, n, p, Test::Sorts);
     match found {
         Found::At(x) => Verdict::Stop(10, x),
-        Found::Nothing => check_functions(text, tape, w, b, n, p),
+        Found::Nothing => check_functions(library, text, tape, w, b, n, p),
     }
 }
 
 // The n rows at b, whose order table is made.
-fn check_ordered(text: &[u8], work: &[u32], t: usize, b: u32, n: u32, p: u32) -> Verdict
+fn check_ordered(
+    library: &[u8],
+    text: &[u8],
+    work: &[u32],
+    t: usize,
+    b: u32,
+    n: u32,
+    p: u32,
+) -> Verdict
     requires { ⌜ t ≤ length (now work) ⌝ }
-    requires { ⌜ InOrder (now text) (now work) (b + 1) 16 p n ⌝ }
-    ensures { λ r. ⌜ told (now (text .entry)) r ≡ items-check (items-at (now (text .entry)) (part (now (work .entry)) 0 t) (now (work .entry)) b n) ⌝ }
+    requires { ⌜ InOrder (joint (now library) (now text)) (now work) (b + 1) 16 p n ⌝ }
+    ensures { λ r. ⌜ told (joint (now (library .entry)) (now (text .entry))) r ≡ items-check (items-at (joint (now (library .entry)) (now (text .entry))) (part (now (work .entry)) 0 t) (now (work .entry)) b n) ⌝ }
 {
-    check_items(text, &work[0..t], work, b, n, p)
+    check_items(library, text, &work[0..t], work, b, n, p)
 }
 
 // The n rows at b, through an order table at p.
-fn check_rows(text: &[u8], work: &mut [u32], t: usize, b: u32, n: u32, p: u32) -> Verdict
+fn check_rows(
+    library: &[u8],
+    text: &[u8],
+    work: &mut [u32],
+    t: usize,
+    b: u32,
+    n: u32,
+    p: u32,
+) -> Verdict
     requires { ⌜ RowsLaid (length (now work)) t b n p ⌝ }
-    ensures { λ r. ⌜ ItemsChecked (now (text .entry)) (now (work .entry)) (now (work .exit)) t b n p r ⌝ }
+    ensures { λ r. ⌜ ItemsChecked (joint (now (library .entry)) (now (text .entry))) (now (work .entry)) (now (work .exit)) t b n p r ⌝ }
 {
-    order_names(text, work, b + 1, 16, n, p);
-    check_ordered(text, work, t, b, n, p)
+    order_names(library, text, work, b + 1, 16, n, p);
+    check_ordered(library, text, work, t, b, n, p)
 }
 
 // The parameters' names, np words at q, and the n rows at b, through order tables at p.
 pub fn consistent(
+    library: &[u8],
     text: &[u8],
     work: &mut [u32],
     t: usize,
@@ -77,12 +119,12 @@ pub fn consistent(
     p: u32,
 ) -> Verdict
     requires { ⌜ Laid (length (now work)) t q np b n p ⌝ }
-    ensures { λ r. ⌜ Checked (now (text .entry)) (now (work .entry)) (now (work .exit)) t q np b n p r ⌝ }
+    ensures { λ r. ⌜ Checked (joint (now (library .entry)) (now (text .entry))) (now (work .entry)) (now (work .exit)) t q np b n p r ⌝ }
 {
-    order_names(text, work, q, 1, np, p);
-    let twice = find_repeated(text, work, q, np, p);
+    order_names(library, text, work, q, 1, np, p);
+    let twice = find_repeated(library, text, work, q, np, p);
     match twice {
         Found::At(x) => Verdict::Stop(15, x),
-        Found::Nothing => check_rows(text, work, t, b, n, p),
+        Found::Nothing => check_rows(library, text, work, t, b, n, p),
     }
 }

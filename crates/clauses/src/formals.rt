@@ -2,7 +2,7 @@
 use super::Found;
 use super::pairs::paired_word;
 use forms::Verdict;
-use names::not_after;
+use names::joint::not_after;
 use tables::Row;
 use tables::entries::same_word;
 use tables::rows::read_row;
@@ -18,6 +18,7 @@ ghost use Rattle.meaning.specs.Normal.{nothing-visible};
 ghost use Rattle.meaning.specs.Checks.{unless};
 ghost use Rattle.meaning.specs.Clauses.{unpaired};
 ghost use Rattle.names.specs.Word.{name-of};
+ghost use Rattle.names.specs.Joint.{joint};
 ghost use Rattle.tables.specs.Rows.{item-of, row-at};
 ghost use Rattle.forms.specs.Memory.{part};
 ghost use Rattle.forms.specs.Forms.{items-at};
@@ -27,21 +28,21 @@ ghost use Rattle.clauses.specs.Pairs.{found};
 ghost use Rattle.clauses.specs.Unpaired.{formal-called, is-unpaired, unpaired-from};
 
 // Stands the row in the parameter p, and is it called a?
-pub fn is_formal_called(text: &[u8], tape: &[u32], p: u32, a: u32, row: Row) -> bool
-    ensures { λ r. ⌜ r ≡ formal-called (name-of (now (text .entry)) p) (name-of (now (text .entry)) a) (item-of (now (text .entry)) (now (tape .entry)) row) ⌝ }
+pub fn is_formal_called(library: &[u8], text: &[u8], tape: &[u32], p: u32, a: u32, row: Row) -> bool
+    ensures { λ r. ⌜ r ≡ formal-called (name-of (joint (now (library .entry)) (now (text .entry))) p) (name-of (joint (now (library .entry)) (now (text .entry))) a) (item-of (joint (now (library .entry)) (now (text .entry))) (now (tape .entry)) row) ⌝ }
 {
     let standing = row.standing;
-    if in_parameter(text, p, standing) {
+    if in_parameter(library, text, p, standing) {
         let name = row.name;
-        return same_word(text, a, name);
+        return same_word(library, text, a, name);
     }
     false
 }
 
 // The first formal row that is called a; the number of rows if there is none.
-pub fn find_formal(text: &[u8], work: &[u32], t: usize, m: Mode, a: u32) -> u32
+pub fn find_formal(library: &[u8], text: &[u8], work: &[u32], t: usize, m: Mode, a: u32) -> u32
     requires { ⌜ t ≤ length (now work) ⌝ }
-    ensures { λ r. ⌜ r ≡ before (formal-called (name-of (now (text .entry)) (m .parameter)) (name-of (now (text .entry)) a)) (items-at (now (text .entry)) (part (now (work .entry)) 0 t) (now (work .entry)) (m .visible) (m .count)) ⌝ }
+    ensures { λ r. ⌜ r ≡ before (formal-called (name-of (joint (now (library .entry)) (now (text .entry))) (m .parameter)) (name-of (joint (now (library .entry)) (now (text .entry))) a)) (items-at (joint (now (library .entry)) (now (text .entry))) (part (now (work .entry)) 0 t) (now (work .entry)) (m .visible) (m .count)) ⌝ }
 {
     let b = m.visible;
     let n = m.count;
@@ -49,7 +50,7 @@ pub fn find_formal(text: &[u8], work: &[u32], t: usize, m: Mode, a: u32) -> u32
     let mut i = 0;
     while i < n {
         let row = read_row(work, b, i);
-        if is_formal_called(text, &work[0..t], p, a, row) {
+        if is_formal_called(library, text, &work[0..t], p, a, row) {
             return i;
         }
         i += 1;
@@ -58,15 +59,15 @@ pub fn find_formal(text: &[u8], work: &[u32], t: usize, m: Mode, a: u32) -> u32
 }
 
 // Stands the row in the mode's parameter, with a name that no pair binds?
-fn is_unpaired(text: &[u8], tape: &[u32], m: Mode, row: Row) -> bool
-    ensures { λ r. ⌜ r ≡ is-unpaired (name-of (now (text .entry)) (m .parameter)) (pairs-at (now (text .entry)) (now (tape .entry)) (m .pairs)) (item-of (now (text .entry)) (now (tape .entry)) row) ⌝ }
+fn is_unpaired(library: &[u8], text: &[u8], tape: &[u32], m: Mode, row: Row) -> bool
+    ensures { λ r. ⌜ r ≡ is-unpaired (name-of (joint (now (library .entry)) (now (text .entry))) (m .parameter)) (pairs-at (joint (now (library .entry)) (now (text .entry))) (now (tape .entry)) (m .pairs)) (item-of (joint (now (library .entry)) (now (text .entry))) (now (tape .entry)) row) ⌝ }
 {
     let p = m.parameter;
     let standing = row.standing;
-    if in_parameter(text, p, standing) {
+    if in_parameter(library, text, p, standing) {
         let pairs = m.pairs;
         let name = row.name;
-        let new = paired_word(text, tape, pairs, name);
+        let new = paired_word(library, text, tape, pairs, name);
         match new {
             Found::At(_) => false,
             Found::Nothing => true,
@@ -77,12 +78,12 @@ fn is_unpaired(text: &[u8], tape: &[u32], m: Mode, row: Row) -> bool
 }
 
 // The lesser of a name and one that may be there.
-fn lesser_name(text: &[u8], a: u32, best: Found) -> Found
-    ensures { λ r. ⌜ found (now (text .entry)) r ≡ lesser (name-of (now (text .entry)) a) (found (now (text .entry)) best) ⌝ }
+fn lesser_name(library: &[u8], text: &[u8], a: u32, best: Found) -> Found
+    ensures { λ r. ⌜ found (joint (now (library .entry)) (now (text .entry))) r ≡ lesser (name-of (joint (now (library .entry)) (now (text .entry))) a) (found (joint (now (library .entry)) (now (text .entry))) best) ⌝ }
 {
     match best {
         Found::At(b) => {
-            if not_after(text, a, b) {
+            if not_after(library, text, a, b) {
                 Found::At(a)
             } else {
                 Found::At(b)
@@ -93,39 +94,47 @@ fn lesser_name(text: &[u8], a: u32, best: Found) -> Found
 }
 
 // The least unpaired name from row k on, where `best` is the least behind it.
-fn least_from(text: &[u8], work: &[u32], t: usize, m: Mode, k: u32, best: Found) -> Found
+fn least_from(
+    library: &[u8],
+    text: &[u8],
+    work: &[u32],
+    t: usize,
+    m: Mode,
+    k: u32,
+    best: Found,
+) -> Found
     requires { ⌜ t ≤ length (now work) ⌝ }
-    ensures { λ r. ⌜ found (now (text .entry)) r ≡ unpaired-from (name-of (now (text .entry)) (m .parameter)) (pairs-at (now (text .entry)) (part (now (work .entry)) 0 t) (m .pairs)) (item-of (now (text .entry)) (part (now (work .entry)) 0 t) (row-at (now (work .entry)) (m .visible + k * 16))) (found (now (text .entry)) best) ⌝ }
+    ensures { λ r. ⌜ found (joint (now (library .entry)) (now (text .entry))) r ≡ unpaired-from (name-of (joint (now (library .entry)) (now (text .entry))) (m .parameter)) (pairs-at (joint (now (library .entry)) (now (text .entry))) (part (now (work .entry)) 0 t) (m .pairs)) (item-of (joint (now (library .entry)) (now (text .entry))) (part (now (work .entry)) 0 t) (row-at (now (work .entry)) (m .visible + k * 16))) (found (joint (now (library .entry)) (now (text .entry))) best) ⌝ }
 {
     let b = m.visible;
     let row = read_row(work, b, k);
     let name = row.name;
-    if is_unpaired(text, &work[0..t], m, row) {
-        return lesser_name(text, name, best);
+    if is_unpaired(library, text, &work[0..t], m, row) {
+        return lesser_name(library, text, name, best);
     }
     best
 }
 
 // The least formal name without a pair, from the last row to the first.
-fn least_unpaired(text: &[u8], work: &[u32], t: usize, m: Mode) -> Found
+fn least_unpaired(library: &[u8], text: &[u8], work: &[u32], t: usize, m: Mode) -> Found
     requires { ⌜ t ≤ length (now work) ⌝ }
-    ensures { λ r. ⌜ found (now (text .entry)) r ≡ unpaired (mode-formals (now (text .entry)) (part (now (work .entry)) 0 t) (now (work .entry)) m) (pairs-at (now (text .entry)) (part (now (work .entry)) 0 t) (m .pairs)) nothing-visible nothing-visible ⌝ }
+    ensures { λ r. ⌜ found (joint (now (library .entry)) (now (text .entry))) r ≡ unpaired (mode-formals (joint (now (library .entry)) (now (text .entry))) (part (now (work .entry)) 0 t) (now (work .entry)) m) (pairs-at (joint (now (library .entry)) (now (text .entry))) (part (now (work .entry)) 0 t) (m .pairs)) nothing-visible nothing-visible ⌝ }
 {
     let mut best = Found::Nothing;
     let mut k = m.count;
     while 0 < k {
         k -= 1;
-        best = least_from(text, work, t, m, k, best);
+        best = least_from(library, text, work, t, m, k, best);
     }
     best
 }
 
 // The least formal name without a pair.
-pub fn unpaired(text: &[u8], work: &[u32], t: usize, m: Mode) -> Verdict
+pub fn unpaired(library: &[u8], text: &[u8], work: &[u32], t: usize, m: Mode) -> Verdict
     requires { ⌜ t ≤ length (now work) ⌝ }
-    ensures { λ r. ⌜ told (now (text .entry)) r ≡ unless bad-binding (unpaired (mode-formals (now (text .entry)) (part (now (work .entry)) 0 t) (now (work .entry)) m) (pairs-at (now (text .entry)) (part (now (work .entry)) 0 t) (m .pairs)) nothing-visible nothing-visible) ⌝ }
+    ensures { λ r. ⌜ told (joint (now (library .entry)) (now (text .entry))) r ≡ unless bad-binding (unpaired (mode-formals (joint (now (library .entry)) (now (text .entry))) (part (now (work .entry)) 0 t) (now (work .entry)) m) (pairs-at (joint (now (library .entry)) (now (text .entry))) (part (now (work .entry)) 0 t) (m .pairs)) nothing-visible nothing-visible) ⌝ }
 {
-    let least = least_unpaired(text, work, t, m);
+    let least = least_unpaired(library, text, work, t, m);
     match least {
         Found::At(w) => Verdict::Stop(16, w),
         Found::Nothing => Verdict::Fine,

@@ -8,6 +8,7 @@ ghost use Prim.Native.Nat.{_+_, _*_};
 ghost use Rattle.meaning.specs.Names.{member};
 ghost use Rattle.meaning.specs.Clauses.{paired};
 ghost use Rattle.names.specs.Word.{name-of};
+ghost use Rattle.names.specs.Joint.{joint};
 ghost use Rattle.tables.specs.Entries.{word-at};
 ghost use Rattle.translation.specs.Translation.{pairs-at};
 ghost use Rattle.clauses.specs.Pairs.{found, given, pair-count};
@@ -49,13 +50,13 @@ pub fn pair_count(tape: &[u32], pairs: u32) -> u32
 }
 
 // Is a the old name of one of the first k pairs?
-pub fn is_given(text: &[u8], tape: &[u32], pairs: u32, k: u32, a: u32) -> bool
-    ensures { λ r. ⌜ r ≡ member (name-of (now (text .entry)) a) (given (now (text .entry)) (now (tape .entry)) pairs k) ⌝ }
+pub fn is_given(library: &[u8], text: &[u8], tape: &[u32], pairs: u32, k: u32, a: u32) -> bool
+    ensures { λ r. ⌜ r ≡ member (name-of (joint (now (library .entry)) (now (text .entry))) a) (given (joint (now (library .entry)) (now (text .entry))) (now (tape .entry)) pairs k) ⌝ }
 {
     let mut left = k;
     while 0 < left {
         left -= 1;
-        if same_word(text, a, old_word(tape, pairs, left)) {
+        if same_word(library, text, a, old_word(tape, pairs, left)) {
             return true;
         }
     }
@@ -63,13 +64,13 @@ pub fn is_given(text: &[u8], tape: &[u32], pairs: u32, k: u32, a: u32) -> bool
 }
 
 // The word of the new name that the first pair of the name a gives.
-pub fn paired_word(text: &[u8], tape: &[u32], pairs: u32, a: u32) -> Found
-    ensures { λ r. ⌜ found (now (text .entry)) r ≡ paired (pairs-at (now (text .entry)) (now (tape .entry)) pairs) (name-of (now (text .entry)) a) ⌝ }
+pub fn paired_word(library: &[u8], text: &[u8], tape: &[u32], pairs: u32, a: u32) -> Found
+    ensures { λ r. ⌜ found (joint (now (library .entry)) (now (text .entry))) r ≡ paired (pairs-at (joint (now (library .entry)) (now (text .entry))) (now (tape .entry)) pairs) (name-of (joint (now (library .entry)) (now (text .entry))) a) ⌝ }
 {
     let n = pair_count(tape, pairs);
     let mut k: u32 = 0;
     while k < n {
-        if same_word(text, old_word(tape, pairs, k), a) {
+        if same_word(library, text, old_word(tape, pairs, k), a) {
             return Found::At(new_word(tape, pairs, k));
         }
         k += 1;

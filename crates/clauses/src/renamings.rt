@@ -12,6 +12,7 @@ ghost use Rattle.meaning.specs.Numbers.{bad-renaming};
 ghost use Rattle.meaning.specs.Normal.{names-in};
 ghost use Rattle.meaning.specs.Checks.{unless};
 ghost use Rattle.meaning.specs.Clauses.{wrong-renaming};
+ghost use Rattle.names.specs.Joint.{joint};
 ghost use Rattle.forms.specs.Memory.{part};
 ghost use Rattle.forms.specs.Forms.{items-at};
 ghost use Rattle.forms.specs.Verdicts.{told};
@@ -20,6 +21,7 @@ ghost use Rattle.clauses.specs.Pairs.{is-known, rightly};
 
 // Is the old name of pair k visible among the rows, and given by no pair before?
 fn renames(
+    library: &[u8],
     text: &[u8],
     work: &[u32],
     t: usize,
@@ -29,11 +31,11 @@ fn renames(
     count: u32,
 ) -> bool
     requires { ⌜ t ≤ length (now work) ⌝ }
-    ensures { λ r. ⌜ r ≡ rightly (is-known (names-in (items-at (now (text .entry)) (part (now (work .entry)) 0 t) (now (work .entry)) visible count))) (now (text .entry)) (part (now (work .entry)) 0 t) pairs k ⌝ }
+    ensures { λ r. ⌜ r ≡ rightly (is-known (names-in (items-at (joint (now (library .entry)) (now (text .entry))) (part (now (work .entry)) 0 t) (now (work .entry)) visible count))) (joint (now (library .entry)) (now (text .entry))) (part (now (work .entry)) 0 t) pairs k ⌝ }
 {
     let old = old_word(&work[0..t], pairs, k);
-    if is_visible(text, work, t, visible, count, old) {
-        if is_given(text, &work[0..t], pairs, k, old) {
+    if is_visible(library, text, work, t, visible, count, old) {
+        if is_given(library, text, &work[0..t], pairs, k, old) {
             return false;
         }
         return true;
@@ -43,6 +45,7 @@ fn renames(
 
 // The first pair whose old name is not visible among the rows, or was given before.
 pub fn wrong_renaming(
+    library: &[u8],
     text: &[u8],
     work: &[u32],
     t: usize,
@@ -51,12 +54,12 @@ pub fn wrong_renaming(
     count: u32,
 ) -> Verdict
     requires { ⌜ t ≤ length (now work) ⌝ }
-    ensures { λ r. ⌜ told (now (text .entry)) r ≡ unless bad-renaming (wrong-renaming (names-in (items-at (now (text .entry)) (part (now (work .entry)) 0 t) (now (work .entry)) visible count)) [] (pairs-at (now (text .entry)) (part (now (work .entry)) 0 t) pairs)) ⌝ }
+    ensures { λ r. ⌜ told (joint (now (library .entry)) (now (text .entry))) r ≡ unless bad-renaming (wrong-renaming (names-in (items-at (joint (now (library .entry)) (now (text .entry))) (part (now (work .entry)) 0 t) (now (work .entry)) visible count)) [] (pairs-at (joint (now (library .entry)) (now (text .entry))) (part (now (work .entry)) 0 t) pairs)) ⌝ }
 {
     let n = pair_count(&work[0..t], pairs);
     let mut k: u32 = 0;
     while k < n {
-        if renames(text, work, t, pairs, k, visible, count) {
+        if renames(library, text, work, t, pairs, k, visible, count) {
             k += 1;
         } else {
             return Verdict::Stop(14, old_word(&work[0..t], pairs, k));

@@ -10,28 +10,29 @@ ghost use Rattle.meaning.specs.Lists.{before};
 ghost use Rattle.meaning.specs.Names.{member};
 ghost use Rattle.meaning.specs.Normal.{names-in, sorts-among, is-called};
 ghost use Rattle.names.specs.Word.{name-of};
+ghost use Rattle.names.specs.Joint.{joint};
 ghost use Rattle.tables.specs.Rows.{item-of, shape-of};
 ghost use Rattle.forms.specs.Memory.{part};
 ghost use Rattle.forms.specs.Forms.{items-at};
 ghost use Rattle.clauses.specs.Searches.{sort-called, like};
 
 // Is the row called a?
-fn is_row_called(text: &[u8], tape: &[u32], a: u32, row: Row) -> bool
-    ensures { λ r. ⌜ r ≡ is-called (name-of (now (text .entry)) a) (item-of (now (text .entry)) (now (tape .entry)) row) ⌝ }
+fn is_row_called(library: &[u8], text: &[u8], tape: &[u32], a: u32, row: Row) -> bool
+    ensures { λ r. ⌜ r ≡ is-called (name-of (joint (now (library .entry)) (now (text .entry))) a) (item-of (joint (now (library .entry)) (now (text .entry))) (now (tape .entry)) row) ⌝ }
 {
     let name = row.name;
-    same_word(text, a, name)
+    same_word(library, text, a, name)
 }
 
 // The first of the n rows at b that is called a; n if there is none.
-fn find_called(text: &[u8], work: &[u32], t: usize, b: u32, n: u32, a: u32) -> u32
+fn find_called(library: &[u8], text: &[u8], work: &[u32], t: usize, b: u32, n: u32, a: u32) -> u32
     requires { ⌜ t ≤ length (now work) ⌝ }
-    ensures { λ r. ⌜ r ≡ before (is-called (name-of (now (text .entry)) a)) (items-at (now (text .entry)) (part (now (work .entry)) 0 t) (now (work .entry)) b n) ⌝ }
+    ensures { λ r. ⌜ r ≡ before (is-called (name-of (joint (now (library .entry)) (now (text .entry))) a)) (items-at (joint (now (library .entry)) (now (text .entry))) (part (now (work .entry)) 0 t) (now (work .entry)) b n) ⌝ }
 {
     let mut i = 0;
     while i < n {
         let row = read_row(work, b, i);
-        if is_row_called(text, &work[0..t], a, row) {
+        if is_row_called(library, text, &work[0..t], a, row) {
             return i;
         }
         i += 1;
@@ -40,34 +41,42 @@ fn find_called(text: &[u8], work: &[u32], t: usize, b: u32, n: u32, a: u32) -> u
 }
 
 // Is one of the n rows at b called a?
-pub fn is_visible(text: &[u8], work: &[u32], t: usize, b: u32, n: u32, a: u32) -> bool
+pub fn is_visible(
+    library: &[u8],
+    text: &[u8],
+    work: &[u32],
+    t: usize,
+    b: u32,
+    n: u32,
+    a: u32,
+) -> bool
     requires { ⌜ t ≤ length (now work) ⌝ }
-    ensures { λ r. ⌜ r ≡ member (name-of (now (text .entry)) a) (names-in (items-at (now (text .entry)) (part (now (work .entry)) 0 t) (now (work .entry)) b n)) ⌝ }
+    ensures { λ r. ⌜ r ≡ member (name-of (joint (now (library .entry)) (now (text .entry))) a) (names-in (items-at (joint (now (library .entry)) (now (text .entry))) (part (now (work .entry)) 0 t) (now (work .entry)) b n)) ⌝ }
 {
-    find_called(text, work, t, b, n, a) < n
+    find_called(library, text, work, t, b, n, a) < n
 }
 
 // Is the row a sort called a?
-fn is_sort_called(text: &[u8], tape: &[u32], a: u32, row: Row) -> bool
-    ensures { λ r. ⌜ r ≡ sort-called (name-of (now (text .entry)) a) (item-of (now (text .entry)) (now (tape .entry)) row) ⌝ }
+fn is_sort_called(library: &[u8], text: &[u8], tape: &[u32], a: u32, row: Row) -> bool
+    ensures { λ r. ⌜ r ≡ sort-called (name-of (joint (now (library .entry)) (now (text .entry))) a) (item-of (joint (now (library .entry)) (now (text .entry))) (now (tape .entry)) row) ⌝ }
 {
     let kind = row.kind;
     if kind == 0 {
         let name = row.name;
-        return same_word(text, a, name);
+        return same_word(library, text, a, name);
     }
     false
 }
 
 // The first of the n rows at b that is a sort called a; n if there is none.
-pub fn find_sort(text: &[u8], work: &[u32], t: usize, b: u32, n: u32, a: u32) -> u32
+pub fn find_sort(library: &[u8], text: &[u8], work: &[u32], t: usize, b: u32, n: u32, a: u32) -> u32
     requires { ⌜ t ≤ length (now work) ⌝ }
-    ensures { λ r. ⌜ r ≡ before (sort-called (name-of (now (text .entry)) a)) (items-at (now (text .entry)) (part (now (work .entry)) 0 t) (now (work .entry)) b n) ⌝ }
+    ensures { λ r. ⌜ r ≡ before (sort-called (name-of (joint (now (library .entry)) (now (text .entry))) a)) (items-at (joint (now (library .entry)) (now (text .entry))) (part (now (work .entry)) 0 t) (now (work .entry)) b n) ⌝ }
 {
     let mut i = 0;
     while i < n {
         let row = read_row(work, b, i);
-        if is_sort_called(text, &work[0..t], a, row) {
+        if is_sort_called(library, text, &work[0..t], a, row) {
             return i;
         }
         i += 1;
@@ -76,33 +85,42 @@ pub fn find_sort(text: &[u8], work: &[u32], t: usize, b: u32, n: u32, a: u32) ->
 }
 
 // Is one of the n rows at b a sort called a?
-pub fn has_sort(text: &[u8], work: &[u32], t: usize, b: u32, n: u32, a: u32) -> bool
+pub fn has_sort(library: &[u8], text: &[u8], work: &[u32], t: usize, b: u32, n: u32, a: u32) -> bool
     requires { ⌜ t ≤ length (now work) ⌝ }
-    ensures { λ r. ⌜ r ≡ member (name-of (now (text .entry)) a) (names-in (sorts-among (items-at (now (text .entry)) (part (now (work .entry)) 0 t) (now (work .entry)) b n))) ⌝ }
+    ensures { λ r. ⌜ r ≡ member (name-of (joint (now (library .entry)) (now (text .entry))) a) (names-in (sorts-among (items-at (joint (now (library .entry)) (now (text .entry))) (part (now (work .entry)) 0 t) (now (work .entry)) b n))) ⌝ }
 {
-    find_sort(text, work, t, b, n, a) < n
+    find_sort(library, text, work, t, b, n, a) < n
 }
 
 // Is `other` called a, and has it the row's shape?
-fn is_like(text: &[u8], tape: &[u32], a: u32, row: Row, other: Row) -> bool
-    ensures { λ r. ⌜ r ≡ like (name-of (now (text .entry)) a) (shape-of (now (text .entry)) (now (tape .entry)) (row .kind) (row .sorts)) (item-of (now (text .entry)) (now (tape .entry)) other) ⌝ }
+fn is_like(library: &[u8], text: &[u8], tape: &[u32], a: u32, row: Row, other: Row) -> bool
+    ensures { λ r. ⌜ r ≡ like (name-of (joint (now (library .entry)) (now (text .entry))) a) (shape-of (joint (now (library .entry)) (now (text .entry))) (now (tape .entry)) (row .kind) (row .sorts)) (item-of (joint (now (library .entry)) (now (text .entry))) (now (tape .entry)) other) ⌝ }
 {
     let name = other.name;
-    if same_word(text, a, name) {
-        return same_shape(text, tape, row, other);
+    if same_word(library, text, a, name) {
+        return same_shape(library, text, tape, row, other);
     }
     false
 }
 
 // The first of the n rows at b that is called a and has the row's shape; n if there is none.
-pub fn find_like(text: &[u8], work: &[u32], t: usize, b: u32, n: u32, a: u32, row: Row) -> u32
+pub fn find_like(
+    library: &[u8],
+    text: &[u8],
+    work: &[u32],
+    t: usize,
+    b: u32,
+    n: u32,
+    a: u32,
+    row: Row,
+) -> u32
     requires { ⌜ t ≤ length (now work) ⌝ }
-    ensures { λ r. ⌜ r ≡ before (like (name-of (now (text .entry)) a) (shape-of (now (text .entry)) (part (now (work .entry)) 0 t) (row .kind) (row .sorts))) (items-at (now (text .entry)) (part (now (work .entry)) 0 t) (now (work .entry)) b n) ⌝ }
+    ensures { λ r. ⌜ r ≡ before (like (name-of (joint (now (library .entry)) (now (text .entry))) a) (shape-of (joint (now (library .entry)) (now (text .entry))) (part (now (work .entry)) 0 t) (row .kind) (row .sorts))) (items-at (joint (now (library .entry)) (now (text .entry))) (part (now (work .entry)) 0 t) (now (work .entry)) b n) ⌝ }
 {
     let mut i = 0;
     while i < n {
         let other = read_row(work, b, i);
-        if is_like(text, &work[0..t], a, row, other) {
+        if is_like(library, text, &work[0..t], a, row, other) {
             return i;
         }
         i += 1;

@@ -82,7 +82,8 @@ pub record Rooms (size t : ℕ) (own : Own) (f : Form) (b : Block) (scratch : �
   pub rows : own .rows ≡ f .visible
   pub count : own .count ≡ f .«visible_count»
   pub tape : own .end ≤ t
-  pub few-entries : t ≤ 32768
+  pub short-tape : t ≤ 65536
+  pub few-entries : own .end - own .from ≤ 32768
   pub right : TotalsRight totals
 
 -- the module's own items have joined those of f
@@ -93,7 +94,8 @@ pub record Counted (own : Own) (f : Form) (counts : OwnRows) : Type 0 where
 
 pub record CompleteRoom (size t from end : ℕ) (f : Form) (totals : Totals) : Type 0 where
   pub laid : Laid size t
-  pub few-entries : t ≤ 32768
+  pub short-tape : t ≤ 65536
+  pub few-entries : end - from ≤ 32768
   pub tape : end ≤ t
   pub there : MadeThere joining-block f
   pub right : TotalsRight totals

@@ -76,7 +76,7 @@ module _ (t : ℕ) (own : Own) (f : Form) (counts : OwnRows) (b : Block) (scratc
 
   module _ (size : ℕ) (room : Rooms size t own f b scratch totals) where
     entries-few : own .end - own .from ≤ 32768
-    entries-few = omega (arith, room .tape, room .few-entries)
+    entries-few = room .few-entries
 
     pub said-room : SaidRoom f counts scratch
     said-room =

@@ -39,7 +39,7 @@ module _ (t : ℕ) (own : Own) (f : Form) (b : Block) (scratch : ℕ) (totals : 
 
   module _ (size : ℕ) (room : Rooms size t own f b scratch totals) where
     few-entries : own .end - own .from ≤ 32768
-    few-entries = omega (arith, room .tape, room .few-entries)
+    few-entries = room .few-entries
 
     pub own-room : OwnRoom size t own (f .parameters) (f .«parameter_count»)
     own-room =
@@ -61,7 +61,7 @@ module _ (t : ℕ) (own : Own) (f : Form) (b : Block) (scratch : ℕ) (totals : 
 
   module _ (text : List ℕ) (w : List ℕ) (room : Rooms (length w) t own f b scratch totals) where
     pub own-ready : Ready w t own
-    own-ready = record { tape = omega (arith, room .laid); small = omega (arith, room .tape, room .few-entries) }
+    own-ready = record { tape = omega (arith, room .laid); small = omega (arith, room .tape, room .short-tape) }
 
     -- ---- after the items
 
@@ -248,7 +248,7 @@ module _ (t from end : ℕ) (f : Form) (totals : Totals) (b c : Block) (eb : b �
   pub rooms-laid : (size : ℕ) → CompleteRoom size t from end f totals → Rooms size t own-of f b (c .low) totals
   unfolding joining-block first-block block-at
   rooms-laid size room =
-      let low : c .low ≡ 783888 = ap (λ (z : Block). z .low) ec in
+      let low : c .low ≡ 816656 = ap (λ (z : Block). z .low) ec in
       rw eb (record {
         laid = room .laid .joining;
         enough-equations = omega arith;
@@ -259,6 +259,7 @@ module _ (t from end : ℕ) (f : Form) (totals : Totals) (b c : Block) (eb : b �
         rows = refl;
         count = refl;
         tape = room .tape;
+        short-tape = room .short-tape;
         few-entries = room .few-entries;
         right = room .right;
       })

@@ -15,10 +15,12 @@ use own::checking::own_checks;
 use own::items::own_items;
 use own_equations::type_own;
 ghost use lib.ListN.{length};
+ghost use Rattle.names.specs.Joint.{joint};
 ghost use Rattle.completing.specs.Completed.{Counted, Rooms, EquationsJoined, CompletedIn, CompleteRoom, Completed};
 
 // What is visible and the module's own hidden items stand there: the equations typed, 17, and all joined, 18.
 fn complete_equations(
+    library: &[u8],
     text: &[u8],
     work: &mut [u32],
     t: usize,
@@ -32,18 +34,28 @@ fn complete_equations(
 ) -> Made
     requires { ⌜ Rooms (length (now work)) t own f b scratch totals ⌝ }
     requires { ⌜ Counted own f counts ⌝ }
-    ensures { λ r. ⌜ EquationsJoined (now (text .entry)) t (now (work .entry)) home own f counts b scratch totals r (now (work .exit)) ⌝ }
+    ensures { λ r. ⌜ EquationsJoined (joint (now (library .entry)) (now (text .entry))) t (now (work .entry)) home own f counts b scratch totals r (now (work .exit)) ⌝ }
 {
     let from = own.from;
     let end = own.end;
     let said = said_form(f, counts, scratch);
-    let made = type_own(text, work, t, said, home, from as usize, end as usize);
+    let made = type_own(
+        library,
+        text,
+        work,
+        t,
+        said,
+        home,
+        from as usize,
+        end as usize,
+    );
     let seen = seen_form(f, counts);
-    join_made(text, work, t, made, seen, b, totals)
+    join_made(library, text, work, t, made, seen, b, totals)
 }
 
 // The module's own items joined to those of f, which lies in the block b, and checked; then its equations.
 fn complete_in(
+    library: &[u8],
     text: &[u8],
     work: &mut [u32],
     t: usize,
@@ -55,15 +67,16 @@ fn complete_in(
     totals: Totals,
 ) -> Made
     requires { ⌜ Rooms (length (now work)) t own f b scratch totals ⌝ }
-    ensures { λ r. ⌜ CompletedIn (now (text .entry)) t (now (work .entry)) home own f b scratch totals r (now (work .exit)) ⌝ }
+    ensures { λ r. ⌜ CompletedIn (joint (now (library .entry)) (now (text .entry))) t (now (work .entry)) home own f b scratch totals r (now (work .exit)) ⌝ }
 {
     let parameters = f.parameters;
     let names = f.parameter_count;
     let order = b.order;
-    let counts = own_items(text, work, t, own, parameters, names);
-    match own_checks(text, work, t, own, parameters, counts, order) {
+    let counts = own_items(library, text, work, t, own, parameters, names);
+    match own_checks(library, text, work, t, own, parameters, counts, order) {
         Verdict::Stop(k, w) => Made::Refused(k, w),
         Verdict::Fine => complete_equations(
+            library,
             text,
             work,
             t,
@@ -80,6 +93,7 @@ fn complete_in(
 
 // The normal form of module number `home`, whose entries stand from `from` up to `end`: f is what its imports united make, in the block for it.
 pub fn complete(
+    library: &[u8],
     text: &[u8],
     work: &mut [u32],
     t: usize,
@@ -90,7 +104,7 @@ pub fn complete(
     totals: Totals,
 ) -> Made
     requires { ⌜ CompleteRoom (length (now work)) t from end f totals ⌝ }
-    ensures { λ r. ⌜ Completed (now (text .entry)) t (now (work .entry)) home from end f totals r (now (work .exit)) ⌝ }
+    ensures { λ r. ⌜ Completed (joint (now (library .entry)) (now (text .entry))) t (now (work .entry)) home from end f totals r (now (work .exit)) ⌝ }
 {
     let b = joining_block();
     let c = first_block();
@@ -100,5 +114,5 @@ pub fn complete(
         rows: f.visible,
         count: f.visible_count,
     };
-    complete_in(text, work, t, home, own, f, b, c.low, totals)
+    complete_in(library, text, work, t, home, own, f, b, c.low, totals)
 }

@@ -6,6 +6,7 @@ use translation::Mode;
 use uniting::unite_hidden_within;
 ghost use Prim.Native.Nat.{_+_, _≤_};
 ghost use lib.ListN.{length};
+ghost use Rattle.names.specs.Joint.{joint};
 ghost use Rattle.completing.specs.Hidden.{SameNoted, JoinRoom, HiddenJoined};
 
 // The notes of n rows that stay where they are.
@@ -21,10 +22,18 @@ fn note_same(work: &mut [u32], base: u32, n: u32)
 }
 
 // The hidden items and the equations of g into f, which has its names and its visible rows: no more than 1,024 hidden items.
-pub fn join_hidden(text: &[u8], work: &mut [u32], t: usize, g: Form, f: Form, b: Block) -> Form
+pub fn join_hidden(
+    library: &[u8],
+    text: &[u8],
+    work: &mut [u32],
+    t: usize,
+    g: Form,
+    f: Form,
+    b: Block,
+) -> Form
     requires { ⌜ JoinRoom (length (now work)) t g f b ⌝ }
     requires { ⌜ g .«node_count» ≤ 65536 ⌝ }
-    ensures { λ r. ⌜ HiddenJoined (now (text .entry)) t (now (work .entry)) g f b r (now (work .exit)) ⌝ }
+    ensures { λ r. ⌜ HiddenJoined (joint (now (library .entry)) (now (text .entry))) t (now (work .entry)) g f b r (now (work .exit)) ⌝ }
 {
     let m = Mode {
         kind: 0,
@@ -36,5 +45,5 @@ pub fn join_hidden(text: &[u8], work: &mut [u32], t: usize, g: Form, f: Form, b:
     let notes = b.visible_notes;
     let n = g.visible_count;
     note_same(work, notes, n);
-    unite_hidden_within(text, work, t, m, g, f, b, notes, 1024)
+    unite_hidden_within(library, text, work, t, m, g, f, b, notes, 1024)
 }

@@ -10,6 +10,7 @@ use own::OwnRows;
 ghost use mathlib.Core.Path.{_≡_};
 ghost use lib.Dec.{leb};
 ghost use lib.ListN.{length};
+ghost use Rattle.names.specs.Joint.{joint};
 ghost use Rattle.uniting.specs.United.{with-items};
 ghost use Rattle.completing.specs.Hidden.{JoinRoom};
 ghost use Rattle.completing.specs.Room.{TotalsRight};
@@ -63,6 +64,7 @@ fn few_nodes(g: Form) -> bool
 
 // What the module says, joined to what it imports and sees; and its room.
 fn join_said(
+    library: &[u8],
     text: &[u8],
     work: &mut [u32],
     t: usize,
@@ -73,10 +75,10 @@ fn join_said(
 ) -> Made
     requires { ⌜ JoinRoom (length (now work)) t g f b ⌝ }
     requires { ⌜ TotalsRight totals ⌝ }
-    ensures { λ r. ⌜ SaidJoined (now (text .entry)) t (now (work .entry)) g f b totals r (now (work .exit)) ⌝ }
+    ensures { λ r. ⌜ SaidJoined (joint (now (library .entry)) (now (text .entry))) t (now (work .entry)) g f b totals r (now (work .exit)) ⌝ }
 {
     if few_nodes(g) {
-        let h = join_hidden(text, work, t, g, f, b);
+        let h = join_hidden(library, text, work, t, g, f, b);
         return fitting_all(h, totals);
     }
     Made::Refused(18, 0)
@@ -84,6 +86,7 @@ fn join_said(
 
 // The same, where the equations could be typed.
 pub fn join_made(
+    library: &[u8],
     text: &[u8],
     work: &mut [u32],
     t: usize,
@@ -94,10 +97,10 @@ pub fn join_made(
 ) -> Made
     requires { ⌜ RoomMade (length (now work)) t made f b ⌝ }
     requires { ⌜ TotalsRight totals ⌝ }
-    ensures { λ r. ⌜ MadeJoined (now (text .entry)) t (now (work .entry)) made f b totals r (now (work .exit)) ⌝ }
+    ensures { λ r. ⌜ MadeJoined (joint (now (library .entry)) (now (text .entry))) t (now (work .entry)) made f b totals r (now (work .exit)) ⌝ }
 {
     match made {
         Made::Refused(k, x) => Made::Refused(k, x),
-        Made::Done(g) => join_said(text, work, t, g, f, b, totals),
+        Made::Done(g) => join_said(library, text, work, t, g, f, b, totals),
     }
 }

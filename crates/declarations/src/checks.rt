@@ -13,6 +13,7 @@ use tables::entries::sort_place;
 ghost use mathlib.Core.Path.{_≡_};
 ghost use Prim.Native.Nat.{_+_, _-_};
 ghost use Rattle.names.specs.Word.{name-of};
+ghost use Rattle.names.specs.Joint.{joint};
 ghost use Rattle.forms.specs.Memory.{part};
 ghost use Rattle.forms.specs.Verdicts.{told};
 ghost use Rattle.declarations.specs.Scans.{found, walked};
@@ -20,18 +21,26 @@ ghost use Rattle.declarations.specs.Sorts.{Ready};
 ghost use Rattle.declarations.specs.Checked.{lacks, lacks-function, lacks-variable, lacks-sort, available-at, wrong-at, variable-at};
 
 // Is the sort that stands at i not available: not visible, and in the hidden section not the module's hidden one either?
-fn lacks(text: &[u8], work: &[u32], t: usize, own: Own, hidden: bool, i: usize) -> bool
+fn lacks(
+    library: &[u8],
+    text: &[u8],
+    work: &[u32],
+    t: usize,
+    own: Own,
+    hidden: bool,
+    i: usize,
+) -> bool
     requires { ⌜ Ready (now work) t own ⌝ }
-    ensures { λ r. ⌜ r ≡ lacks (now (text .entry)) (part (now (work .entry)) 0 t) (now (work .entry)) own hidden i ⌝ }
+    ensures { λ r. ⌜ r ≡ lacks (joint (now (library .entry)) (now (text .entry))) (part (now (work .entry)) 0 t) (now (work .entry)) own hidden i ⌝ }
 {
     let w = name_at(&work[0..t], i);
     if hidden {
-        if is_inside(text, work, t, own, w) {
+        if is_inside(library, text, work, t, own, w) {
             return false;
         }
         return true;
     }
-    if is_seen(text, work, t, own, w) {
+    if is_seen(library, text, work, t, own, w) {
         return false;
     }
     true
@@ -39,6 +48,7 @@ fn lacks(text: &[u8], work: &[u32], t: usize, own: Own, hidden: bool, i: usize) 
 
 // Is one of the sorts from i up to `end` not available?
 fn lacks_one(
+    library: &[u8],
     text: &[u8],
     work: &[u32],
     t: usize,
@@ -48,11 +58,11 @@ fn lacks_one(
     end: usize,
 ) -> bool
     requires { ⌜ Ready (now work) t own ⌝ }
-    ensures { λ r. ⌜ r ≡ found (lacks (now (text .entry)) (part (now (work .entry)) 0 t) (now (work .entry)) own hidden) i (end - i) ⌝ }
+    ensures { λ r. ⌜ r ≡ found (lacks (joint (now (library .entry)) (now (text .entry))) (part (now (work .entry)) 0 t) (now (work .entry)) own hidden) i (end - i) ⌝ }
 {
     let mut j = i;
     while j < end {
-        if lacks(text, work, t, own, hidden, j) {
+        if lacks(library, text, work, t, own, hidden, j) {
             return true;
         }
         j += 1;
@@ -61,59 +71,67 @@ fn lacks_one(
 }
 
 // Is a sort of the function declared at d not available?
-fn lacks_function(text: &[u8], work: &[u32], t: usize, own: Own, hidden: bool, d: u32) -> bool
+fn lacks_function(
+    library: &[u8],
+    text: &[u8],
+    work: &[u32],
+    t: usize,
+    own: Own,
+    hidden: bool,
+    d: u32,
+) -> bool
     requires { ⌜ Ready (now work) t own ⌝ }
-    ensures { λ r. ⌜ r ≡ lacks-function (now (text .entry)) (part (now (work .entry)) 0 t) (now (work .entry)) own hidden d ⌝ }
+    ensures { λ r. ⌜ r ≡ lacks-function (joint (now (library .entry)) (now (text .entry))) (part (now (work .entry)) 0 t) (now (work .entry)) own hidden d ⌝ }
 {
     let n = arity_at(&work[0..t], d);
     let i = d as usize + 1;
-    lacks_one(text, work, t, own, hidden, i, i + n as usize + 1)
+    lacks_one(library, text, work, t, own, hidden, i, i + n as usize + 1)
 }
 
 // Is the sort of the variable declared at d not available?
-fn lacks_variable(text: &[u8], work: &[u32], t: usize, own: Own, d: u32) -> bool
+fn lacks_variable(library: &[u8], text: &[u8], work: &[u32], t: usize, own: Own, d: u32) -> bool
     requires { ⌜ Ready (now work) t own ⌝ }
-    ensures { λ r. ⌜ r ≡ lacks-variable (now (text .entry)) (part (now (work .entry)) 0 t) (now (work .entry)) own d ⌝ }
+    ensures { λ r. ⌜ r ≡ lacks-variable (joint (now (library .entry)) (now (text .entry))) (part (now (work .entry)) 0 t) (now (work .entry)) own d ⌝ }
 {
     let i = sort_place(&work[0..t], d);
-    lacks(text, work, t, own, true, i)
+    lacks(library, text, work, t, own, true, i)
 }
 
 // Uses the declaration at d a sort that is not available?
-fn lacks_sort(text: &[u8], work: &[u32], t: usize, own: Own, d: u32) -> bool
+fn lacks_sort(library: &[u8], text: &[u8], work: &[u32], t: usize, own: Own, d: u32) -> bool
     requires { ⌜ Ready (now work) t own ⌝ }
-    ensures { λ r. ⌜ r ≡ lacks-sort (now (text .entry)) (part (now (work .entry)) 0 t) (now (work .entry)) own d ⌝ }
+    ensures { λ r. ⌜ r ≡ lacks-sort (joint (now (library .entry)) (now (text .entry))) (part (now (work .entry)) 0 t) (now (work .entry)) own d ⌝ }
 {
     let role = role_at(&work[0..t], d as usize);
     if is_function_role(role) {
         let hidden = role == 8;
-        return lacks_function(text, work, t, own, hidden, d);
+        return lacks_function(library, text, work, t, own, hidden, d);
     }
     if role == 17 {
-        return lacks_variable(text, work, t, own, d);
+        return lacks_variable(library, text, work, t, own, d);
     }
     false
 }
 
-fn available_at(text: &[u8], work: &[u32], t: usize, own: Own, d: u32) -> Verdict
+fn available_at(library: &[u8], text: &[u8], work: &[u32], t: usize, own: Own, d: u32) -> Verdict
     requires { ⌜ Ready (now work) t own ⌝ }
-    ensures { λ r. ⌜ told (now (text .entry)) r ≡ available-at (now (text .entry)) (part (now (work .entry)) 0 t) (now (work .entry)) own d ⌝ }
+    ensures { λ r. ⌜ told (joint (now (library .entry)) (now (text .entry))) r ≡ available-at (joint (now (library .entry)) (now (text .entry))) (part (now (work .entry)) 0 t) (now (work .entry)) own d ⌝ }
 {
-    if lacks_sort(text, work, t, own, d) {
+    if lacks_sort(library, text, work, t, own, d) {
         return Verdict::Stop(13, name_at(&work[0..t], d as usize));
     }
     Verdict::Fine
 }
 
 // 13, told at the first function or variable in text order.
-pub fn available(text: &[u8], work: &[u32], t: usize, own: Own) -> Verdict
+pub fn available(library: &[u8], text: &[u8], work: &[u32], t: usize, own: Own) -> Verdict
     requires { ⌜ Ready (now work) t own ⌝ }
-    ensures { λ r. ⌜ told (now (text .entry)) r ≡ walked (available-at (now (text .entry)) (part (now (work .entry)) 0 t) (now (work .entry)) own) (own .from) (own .end - own .from) ⌝ }
+    ensures { λ r. ⌜ told (joint (now (library .entry)) (now (text .entry))) r ≡ walked (available-at (joint (now (library .entry)) (now (text .entry))) (part (now (work .entry)) 0 t) (now (work .entry)) own) (own .from) (own .end - own .from) ⌝ }
 {
     let end = own.end;
     let mut i = own.from;
     while i < end {
-        match available_at(text, work, t, own, i) {
+        match available_at(library, text, work, t, own, i) {
             Verdict::Stop(k, w) => return Verdict::Stop(k, w),
             Verdict::Fine => {
                 i += 1;
@@ -124,29 +142,47 @@ pub fn available(text: &[u8], work: &[u32], t: usize, own: Own) -> Verdict
 }
 
 // Is the variable at i called like one before it, or like a constant among the visible rows or the n rows from b on?
-fn wrong_at(text: &[u8], work: &[u32], t: usize, own: Own, b: u32, n: u32, i: u32) -> bool
+fn wrong_at(
+    library: &[u8],
+    text: &[u8],
+    work: &[u32],
+    t: usize,
+    own: Own,
+    b: u32,
+    n: u32,
+    i: u32,
+) -> bool
     requires { ⌜ Ready (now work) t own ⌝ }
-    ensures { λ r. ⌜ r ≡ wrong-at (now (text .entry)) (part (now (work .entry)) 0 t) (now (work .entry)) own b n i ⌝ }
+    ensures { λ r. ⌜ r ≡ wrong-at (joint (now (library .entry)) (now (text .entry))) (part (now (work .entry)) 0 t) (now (work .entry)) own b n i ⌝ }
 {
     let from = own.from;
     let rows = own.rows;
     let count = own.count;
     let w = name_at(&work[0..t], i as usize);
-    if first_named(text, &work[0..t], 17, w, from, i) < i {
+    if first_named(library, text, &work[0..t], 17, w, from, i) < i {
         return true;
     }
-    if has_row(text, work, rows, count, 2, w) {
+    if has_row(library, text, work, rows, count, 2, w) {
         return true;
     }
-    has_row(text, work, b, n, 2, w)
+    has_row(library, text, work, b, n, 2, w)
 }
 
-fn variable_at(text: &[u8], work: &[u32], t: usize, own: Own, b: u32, n: u32, i: u32) -> Verdict
+fn variable_at(
+    library: &[u8],
+    text: &[u8],
+    work: &[u32],
+    t: usize,
+    own: Own,
+    b: u32,
+    n: u32,
+    i: u32,
+) -> Verdict
     requires { ⌜ Ready (now work) t own ⌝ }
-    ensures { λ r. ⌜ told (now (text .entry)) r ≡ variable-at (now (text .entry)) (part (now (work .entry)) 0 t) (now (work .entry)) own b n i ⌝ }
+    ensures { λ r. ⌜ told (joint (now (library .entry)) (now (text .entry))) r ≡ variable-at (joint (now (library .entry)) (now (text .entry))) (part (now (work .entry)) 0 t) (now (work .entry)) own b n i ⌝ }
 {
     if role_at(&work[0..t], i as usize) == 17 {
-        if wrong_at(text, work, t, own, b, n, i) {
+        if wrong_at(library, text, work, t, own, b, n, i) {
             return Verdict::Stop(12, name_at(&work[0..t], i as usize));
         }
         return Verdict::Fine;
@@ -156,14 +192,22 @@ fn variable_at(text: &[u8], work: &[u32], t: usize, own: Own, b: u32, n: u32, i:
 
 // 12, told at the first variable in text order. The rows of `own` are all that is visible, the module's own among them; its own hidden items
 // are the n rows from b on.
-pub fn variables_right(text: &[u8], work: &[u32], t: usize, own: Own, b: u32, n: u32) -> Verdict
+pub fn variables_right(
+    library: &[u8],
+    text: &[u8],
+    work: &[u32],
+    t: usize,
+    own: Own,
+    b: u32,
+    n: u32,
+) -> Verdict
     requires { ⌜ Ready (now work) t own ⌝ }
-    ensures { λ r. ⌜ told (now (text .entry)) r ≡ walked (variable-at (now (text .entry)) (part (now (work .entry)) 0 t) (now (work .entry)) own b n) (own .from) (own .end - own .from) ⌝ }
+    ensures { λ r. ⌜ told (joint (now (library .entry)) (now (text .entry))) r ≡ walked (variable-at (joint (now (library .entry)) (now (text .entry))) (part (now (work .entry)) 0 t) (now (work .entry)) own b n) (own .from) (own .end - own .from) ⌝ }
 {
     let end = own.end;
     let mut i = own.from;
     while i < end {
-        match variable_at(text, work, t, own, b, n, i) {
+        match variable_at(library, text, work, t, own, b, n, i) {
             Verdict::Stop(k, w) => return Verdict::Stop(k, w),
             Verdict::Fine => {
                 i += 1;

@@ -8,6 +8,7 @@ use tables::entries::role_at;
 use tables::entries::same_name_at;
 ghost use mathlib.Core.Path.{_≡_};
 ghost use Prim.Native.Nat.{_-_};
+ghost use Rattle.names.specs.Joint.{joint};
 ghost use Rattle.forms.specs.Verdicts.{told};
 ghost use Rattle.declarations.specs.Scans.{found, walked};
 ghost use Rattle.declarations.specs.Once.{is-declaring, repeats, section-start, once-at};
@@ -23,12 +24,12 @@ fn is_declaring(role: u32) -> bool
 }
 
 // Says the declaration at i what the one at j says, with the same role? Names are compared first: they decide most.
-fn repeats(text: &[u8], tape: &[u32], i: u32, j: u32) -> bool
-    ensures { λ r. ⌜ r ≡ repeats (now (text .entry)) (now (tape .entry)) i j ⌝ }
+fn repeats(library: &[u8], text: &[u8], tape: &[u32], i: u32, j: u32) -> bool
+    ensures { λ r. ⌜ r ≡ repeats (joint (now (library .entry)) (now (text .entry))) (now (tape .entry)) i j ⌝ }
 {
     if role_at(tape, i as usize) == role_at(tape, j as usize) {
-        if same_name_at(text, tape, i as usize, j as usize) {
-            return same_declared(text, tape, i, j);
+        if same_name_at(library, text, tape, i as usize, j as usize) {
+            return same_declared(library, text, tape, i, j);
         }
         return false;
     }
@@ -47,12 +48,12 @@ fn section_start(tape: &[u32], a: u32, i: u32) -> u32
 }
 
 // Does the declaration at i repeat one from `start` on?
-fn is_repeat(text: &[u8], tape: &[u32], start: u32, i: u32) -> bool
-    ensures { λ r. ⌜ r ≡ found (repeats (now (text .entry)) (now (tape .entry)) i) start (i - start) ⌝ }
+fn is_repeat(library: &[u8], text: &[u8], tape: &[u32], start: u32, i: u32) -> bool
+    ensures { λ r. ⌜ r ≡ found (repeats (joint (now (library .entry)) (now (text .entry))) (now (tape .entry)) i) start (i - start) ⌝ }
 {
     let mut j = start;
     while j < i {
-        if repeats(text, tape, i, j) {
+        if repeats(library, text, tape, i, j) {
             return true;
         }
         j += 1;
@@ -60,13 +61,13 @@ fn is_repeat(text: &[u8], tape: &[u32], start: u32, i: u32) -> bool
     false
 }
 
-fn once_at(text: &[u8], tape: &[u32], a: u32, i: u32) -> Verdict
-    ensures { λ r. ⌜ told (now (text .entry)) r ≡ once-at (now (text .entry)) (now (tape .entry)) a i ⌝ }
+fn once_at(library: &[u8], text: &[u8], tape: &[u32], a: u32, i: u32) -> Verdict
+    ensures { λ r. ⌜ told (joint (now (library .entry)) (now (text .entry))) r ≡ once-at (joint (now (library .entry)) (now (text .entry))) (now (tape .entry)) a i ⌝ }
 {
     let role = role_at(tape, i as usize);
     if is_declaring(role) {
         let start = section_start(tape, a, i);
-        if is_repeat(text, tape, start, i) {
+        if is_repeat(library, text, tape, start, i) {
             return Verdict::Stop(9, name_at(tape, i as usize));
         }
         return Verdict::Fine;
@@ -75,12 +76,12 @@ fn once_at(text: &[u8], tape: &[u32], a: u32, i: u32) -> Verdict
 }
 
 // The entries from a up to e: told at the first that repeats another.
-pub fn declared_once(text: &[u8], tape: &[u32], a: u32, e: u32) -> Verdict
-    ensures { λ r. ⌜ told (now (text .entry)) r ≡ walked (once-at (now (text .entry)) (now (tape .entry)) a) a (e - a) ⌝ }
+pub fn declared_once(library: &[u8], text: &[u8], tape: &[u32], a: u32, e: u32) -> Verdict
+    ensures { λ r. ⌜ told (joint (now (library .entry)) (now (text .entry))) r ≡ walked (once-at (joint (now (library .entry)) (now (text .entry))) (now (tape .entry)) a) a (e - a) ⌝ }
 {
     let mut i = a;
     while i < e {
-        match once_at(text, tape, a, i) {
+        match once_at(library, text, tape, a, i) {
             Verdict::Stop(k, w) => return Verdict::Stop(k, w),
             Verdict::Fine => {
                 i += 1;

@@ -10,61 +10,86 @@ use tables::entries::sort_place;
 use tables::rows::write_row;
 ghost use mathlib.Core.Path.{_≡_};
 ghost use Prim.Native.Nat.{_+_, _≤_};
+ghost use Rattle.names.specs.Joint.{joint};
 ghost use Rattle.forms.specs.Memory.{part};
 ghost use Rattle.declarations.specs.Sorts.{Ready};
 ghost use Rattle.declarations.specs.Items.{InputSorts, OwnSorts, OwnRow, is-own, Put, Appended, Roomy};
 
 // The sorts of the n inputs of the function declared at d, in front.
-fn input_sorts(text: &[u8], work: &[u32], t: usize, own: Own, d: u32, n: u32) -> [u32; 9]
+fn input_sorts(
+    library: &[u8],
+    text: &[u8],
+    work: &[u32],
+    t: usize,
+    own: Own,
+    d: u32,
+    n: u32,
+) -> [u32; 9]
     requires { ⌜ Ready (now work) t own ⌝ }
     requires { ⌜ n ≤ 8 ⌝ }
-    ensures { λ r. ⌜ InputSorts (now (text .entry)) (part (now (work .entry)) 0 t) (now (work .entry)) own d n r ⌝ }
+    ensures { λ r. ⌜ InputSorts (joint (now (library .entry)) (now (text .entry))) (part (now (work .entry)) 0 t) (now (work .entry)) own d n r ⌝ }
 {
     let mut sorts = [0; 9];
     let mut i = 0;
     while i < n {
-        sorts[i as usize] = sort_at(text, work, t, own, d as usize + 1 + i as usize);
+        sorts[i as usize] = sort_at(library, text, work, t, own, d as usize + 1 + i as usize);
         i += 1;
     }
     sorts
 }
 
 // The sorts of the function declared at d, which has n inputs.
-fn function_sorts(text: &[u8], work: &[u32], t: usize, own: Own, d: u32, n: u32) -> [u32; 9]
+fn function_sorts(
+    library: &[u8],
+    text: &[u8],
+    work: &[u32],
+    t: usize,
+    own: Own,
+    d: u32,
+    n: u32,
+) -> [u32; 9]
     requires { ⌜ Ready (now work) t own ⌝ }
     requires { ⌜ n ≤ 8 ⌝ }
-    ensures { λ r. ⌜ OwnSorts (now (text .entry)) (part (now (work .entry)) 0 t) (now (work .entry)) own d (n + 2) r ⌝ }
+    ensures { λ r. ⌜ OwnSorts (joint (now (library .entry)) (now (text .entry))) (part (now (work .entry)) 0 t) (now (work .entry)) own d (n + 2) r ⌝ }
 {
-    let mut sorts = input_sorts(text, work, t, own, d, n);
-    sorts[8] = sort_at(text, work, t, own, d as usize + 1 + n as usize);
+    let mut sorts = input_sorts(library, text, work, t, own, d, n);
+    sorts[8] = sort_at(library, text, work, t, own, d as usize + 1 + n as usize);
     sorts
 }
 
 // The sorts of the declaration at d, which is of the kind.
-fn own_sorts(text: &[u8], work: &[u32], t: usize, own: Own, d: u32, kind: u32) -> [u32; 9]
+fn own_sorts(
+    library: &[u8],
+    text: &[u8],
+    work: &[u32],
+    t: usize,
+    own: Own,
+    d: u32,
+    kind: u32,
+) -> [u32; 9]
     requires { ⌜ Ready (now work) t own ⌝ }
     requires { ⌜ kind ≤ 10 ⌝ }
-    ensures { λ r. ⌜ OwnSorts (now (text .entry)) (part (now (work .entry)) 0 t) (now (work .entry)) own d kind r ⌝ }
+    ensures { λ r. ⌜ OwnSorts (joint (now (library .entry)) (now (text .entry))) (part (now (work .entry)) 0 t) (now (work .entry)) own d kind r ⌝ }
 {
     if 1 < kind {
-        return function_sorts(text, work, t, own, d, kind - 2);
+        return function_sorts(library, text, work, t, own, d, kind - 2);
     }
     let mut sorts = [0; 9];
     if kind == 1 {
         let i = sort_place(&work[0..t], d);
-        sorts[8] = sort_at(text, work, t, own, i);
+        sorts[8] = sort_at(library, text, work, t, own, i);
         return sorts;
     }
     sorts
 }
 
 // The row of the declaration at d.
-pub fn own_row(text: &[u8], work: &[u32], t: usize, own: Own, d: u32) -> Row
+pub fn own_row(library: &[u8], text: &[u8], work: &[u32], t: usize, own: Own, d: u32) -> Row
     requires { ⌜ Ready (now work) t own ⌝ }
-    ensures { λ r. ⌜ OwnRow (now (text .entry)) (part (now (work .entry)) 0 t) (now (work .entry)) own d r ⌝ }
+    ensures { λ r. ⌜ OwnRow (joint (now (library .entry)) (now (text .entry))) (part (now (work .entry)) 0 t) (now (work .entry)) own d r ⌝ }
 {
     let kind = kind_at(&work[0..t], d);
-    let sorts = own_sorts(text, work, t, own, d, kind);
+    let sorts = own_sorts(library, text, work, t, own, d, kind);
     let name = name_at(&work[0..t], d as usize);
     let origin = origin_at(&work[0..t], d);
     let standing = origin.section;
@@ -78,11 +103,20 @@ pub fn own_row(text: &[u8], work: &[u32], t: usize, own: Own, d: u32) -> Row
 }
 
 // The row of the declaration at d, stored as row k of the table that starts at `base`.
-fn put_own(text: &[u8], work: &mut [u32], t: usize, own: Own, base: u32, k: u32, d: u32)
+fn put_own(
+    library: &[u8],
+    text: &[u8],
+    work: &mut [u32],
+    t: usize,
+    own: Own,
+    base: u32,
+    k: u32,
+    d: u32,
+)
     requires { ⌜ Ready (now work) t own ⌝ }
-    ensures { λ r. ⌜ Put (now (text .entry)) t own base k d (now (work .entry)) (now (work .exit)) ⌝ }
+    ensures { λ r. ⌜ Put (joint (now (library .entry)) (now (text .entry))) t own base k d (now (work .entry)) (now (work .exit)) ⌝ }
 {
-    let row = own_row(text, work, t, own, d);
+    let row = own_row(library, text, work, t, own, d);
     write_row(work, base, k, row);
 }
 
@@ -108,6 +142,7 @@ pub fn is_own(tape: &[u32], hidden: bool, i: u32) -> bool
 
 // The module's hidden or visible items, in text order, as rows behind the n rows from `base` on. Gives back how many rows there are then.
 pub fn own_rows(
+    library: &[u8],
     text: &[u8],
     work: &mut [u32],
     t: usize,
@@ -118,14 +153,14 @@ pub fn own_rows(
 ) -> u32
     requires { ⌜ Ready (now work) t own ⌝ }
     requires { ⌜ Roomy t own hidden base n (now work) ⌝ }
-    ensures { λ r. ⌜ Appended (now (text .entry)) t own hidden base n (now (work .entry)) (now (work .exit)) r ⌝ }
+    ensures { λ r. ⌜ Appended (joint (now (library .entry)) (now (text .entry))) t own hidden base n (now (work .entry)) (now (work .exit)) r ⌝ }
 {
     let end = own.end;
     let mut k = n;
     let mut i = own.from;
     while i < end {
         if is_own(&work[0..t], hidden, i) {
-            put_own(text, work, t, own, base, k, i);
+            put_own(library, text, work, t, own, base, k, i);
             k += 1;
             i += 1;
         } else {

@@ -7,8 +7,8 @@ use lib.Dec.{eqb, leb, ltb}
 use lib.ListN.{length, set, take, replicate}
 use Rattle.types.specs.declared.Token.{Token}
 use Rattle.meaning.specs.Lists.{pick, any}
-use Rattle.meaning.specs.Names.{byte, same}
-use Rattle.meaning.specs.Numbers.{text-size, name-size, module-limit, import-limit, binding-limit, pair-limit, argument-limit, condition-limit, bracket-limit, node-limit, no-token-there, not-allowed, other-end, over-size, module-twice}
+use Rattle.meaning.specs.Names.{byte, Name, same, member}
+use Rattle.meaning.specs.Numbers.{text-size, name-size, import-limit, binding-limit, pair-limit, argument-limit, condition-limit, bracket-limit, node-limit, no-token-there, not-allowed, other-end, over-size, module-twice}
 use Rattle.meaning.specs.Tokens.{end-of-text, arrow, implies, no-token, begin-key, bound-key, by-key, end-key, equations-key, exports-key, functions-key, imports-key, module-key, parameters-key, renamed-key, sorts-key, to-key, variables-key, when-key, token-at}
 use Rattle.meaning.specs.Grammar.{is, is-name, begins-term}
 use Rattle.names.specs.Word.{name-of}
@@ -345,11 +345,13 @@ module _ (text : List ℕ) where
 
   -- ---- modules
 
-  -- a name that no earlier module has
-  unfoldable pub fresh-name : Writer
-  fresh-name =
+  -- a name that no earlier module has, of this text or of those before it, which are called so
+  unfoldable pub fresh-name : List Name → Writer
+  fresh-name before =
       λ p t. let o = name module-role p t in
-      onward (o .answer) (o .tape) (λ q u. pick (taken text (word (p .token)) (p .entries) t) (refuse module-twice p u) (out (Done q) u))
+      onward (o .answer) (o .tape)
+      (λ q u. pick (taken text (word (p .token)) (p .entries) t) (refuse module-twice p u)
+      (pick (member (name-of text (word (p .token))) before) (refuse module-twice p u) (out (Done q) u)))
 
   -- what a module declares before its hidden section, and from there on
   unfoldable pub front : Writer
@@ -365,31 +367,31 @@ module _ (text : List ℕ) where
     optional equations-key equations
 
   -- from its name on, whose word is w
-  unfoldable pub module-named : ℕ → Writer
-  module-named w = do
-    fresh-name
+  unfoldable pub module-named : List Name → ℕ → Writer
+  module-named before w = do
+    fresh-name before
     expect begin-key
     front
     back
     expect end-key
     this-name w
 
-  unfoldable pub a-module : Writer
-  a-module = do
+  unfoldable pub a-module : List Name → Writer
+  a-module before = do
     expect module-key
-    with-word module-named
+    with-word (module-named before)
 
   -- the modules to the end of the text, at most n more
-  unfoldable pub modules : ℕ → Writer
-  modules zero = too-many (is module-key)
-  modules (suc n) = do
-    a-module
-    if-next (is end-of-text) stay (λ p t. modules n p t)
+  unfoldable pub modules : ℕ → List Name → Writer
+  modules zero before = too-many (is module-key)
+  modules (suc n) before = do
+    a-module before
+    if-next (is end-of-text) stay (λ p t. modules n before p t)
 
   -- a text that is too long is refused before it is read
-  unfoldable pub read : List ℕ → Out
-  read t =
-      let o = modules module-limit (place (token-at text 0) 0 0) t in
+  unfoldable pub read : ℕ → List Name → List ℕ → Out
+  read n before t =
+      let o = modules n before (place (token-at text 0) 0 0) t in
       let r = wiped (o .answer) (o .tape) in
       pick (leb (length text) text-size) r (wiped (Refused over-size text-size) t)
 

@@ -91,7 +91,7 @@ next-within role tape (suc c) i = go (eqb (role-at tape i) role) (next-within ro
     go true h = omega arith
     go false h = omega arith
 
-place-small : (w : List ℕ) (t : ℕ) (h : Heads) (from end i : ℕ) → ImportedRoom w t h from end → i ≡ next-with 11 (part w 0 t) from (end - from) → i < 65536
+place-small : (w : List ℕ) (t : ℕ) (h : Heads) (from end i : ℕ) → ImportedRoom w t h from end → i ≡ next-with 11 (part w 0 t) from (end - from) → i < 131072
 unfolding tape-end
 place-small w t h from end i c e =
     let l = next-within 11 (part w 0 t) (end - from) from in
@@ -115,7 +115,7 @@ pub imports-room : (w : List ℕ) (t : ℕ) (h : Heads) (from end i j : ℕ) (b 
 imports-room w t h from end i j b f c e q z g = record {
   ground = c .ground;
   there = nothing-there joining-block f (g ∙ ap empty-in z);
-  place = subst (λ (n : ℕ). n < 65536) (sym q) (place-small w t h from end i c e);
+  place = subst (λ (n : ℕ). n < 131072) (sym q) (place-small w t h from end i c e);
 }
 
 pub all-made : (text : List ℕ) (t : ℕ) (w w′ : List ℕ) (h : Heads) (from end i j : ℕ) (b : Block) (f : Form) (r : Made)

@@ -1,6 +1,6 @@
 -- Steps 3 and 4 but for the order of the listing: what a module imports, and its own declarations joined to it.
 use mathlib.Core.Path.{_≡_, refl, sym, ap, _∙_, subst}
-use Prim.Native.Nat.{ℕ, zero, suc, _+_, _≤_, _<_}
+use Prim.Native.Nat.{ℕ, zero, suc, _+_, _-_, _≤_, _<_}
 use native.Mathlib.Omega.{arith}
 use native.Mathlib.Nat.{le-trans}
 use mathlib.Core.List.{List, [], _∷_, _++_}
@@ -38,6 +38,7 @@ use Rattle.evaluating.specs.Places.{ModuleAt, module-parts, ahead, rest,
 
 pub record CompletedRoom (w : List ℕ) (t : ℕ) (h : Heads) (from end : ℕ) (totals : Totals) : Type 0 where
   pub imports : ImportedRoom w t h from end
+  pub few-entries : end - from ≤ 32768
   pub right : TotalsRight totals
 
 -- M's imports united, and its own declarations joined to them
@@ -80,7 +81,7 @@ module _ (text : List ℕ) (t : ℕ) (w w₁ : List ℕ) (h : Heads) (k from end
   unfolding tape-end
   at-first m env a v =
       let size = imports-size m in
-      let few : length (each flat-import (m .imports)) ≤ 32768 = omega (arith, size, a .whole, c .imports .within, c .imports .ground .tape) in
+      let few : length (each flat-import (m .imports)) ≤ 32768 = omega (arith, size, a .whole, c .few-entries) in
       x .made (m .imports) env (imports-there text (part w 0 t) from end m a) (le-trans (a .limited .imports) (omega arith)) (few-clauses (m .imports) few) v
 
   pub completed-refused : (j y : ℕ) → r₁ ≡ Refused j y → CompletedAll text t w h k from end totals (Refused j y) w₁
@@ -106,7 +107,8 @@ module _ (text : List ℕ) (t : ℕ) (w w₁ : List ℕ) (h : Heads) (k from end
     unfolding tape-end
     complete-room = record {
       laid = subst (λ (n : ℕ). Laid n t) (sym (x .kept .size)) (c .imports .ground .laid);
-      few-entries = c .imports .ground .tape;
+      short-tape = c .imports .ground .tape;
+      few-entries = c .few-entries;
       tape = c .imports .within;
       there = subst (MadeIn joining-block) e (x .made-in);
       right = c .right;

@@ -109,6 +109,7 @@ last-completed t w h k from end s totals e room = record {
     begins = omega (arith, room .begins, room .ends, room .ready .ordered k (room .number));
     within = omega (arith, room .ends, room .ready .within k (room .number));
   };
+  few-entries = omega (arith, room .begins, room .ends, room .ready .few-entries k (room .number));
   right = subst TotalsRight (sym e) (room .ready .right);
 }
 
@@ -194,6 +195,7 @@ module _ (text : List ℕ) (t : ℕ) (w w₁ : List ℕ) (h : Heads) (k from end
         heads = room .ready .heads;
         ordered = room .ready .ordered;
         within = room .ready .within;
+        few-entries = room .ready .few-entries;
         below = stored-table text t k f (s .cursor) (r .cursor) w₁ w′ store-room (y .stored) below;
         start = omega (arith, y .stored .cursor, room .ready .start);
         space = rw (y .totals, y .stored .cursor) (next-space t w h k s f (room .ready) made-there);

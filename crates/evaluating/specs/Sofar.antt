@@ -1,6 +1,6 @@
 -- What holds between one module and the next: what the tape says, where kept forms lie, and which modules are evaluated.
 use mathlib.Core.Path.{_≡_}
-use Prim.Native.Nat.{ℕ, _+_, _*_, _≤_, _<_}
+use Prim.Native.Nat.{ℕ, _+_, _-_, _*_, _≤_, _<_}
 use mathlib.Core.List.{List, []}
 use lib.ListN.{length, getD}
 use Rattle.meaning.specs.Numbers.{module-limit}
@@ -10,6 +10,7 @@ use Rattle.meaning.specs.Distinct.{Fresh}
 use Rattle.meaning.specs.Evaluate.{Evaluated}
 use Rattle.meaning.specs.Reached.{total-of}
 use Rattle.limits.specs.Limits.{Limited}
+use Rattle.tape.specs.Tape.{flat-module}
 use Rattle.forms.specs.Memory.{part}
 use Rattle.layout.specs.Layout.{tape-end, kept-start, Laid}
 use Rattle.modules.specs.declared.Heads.{Heads}
@@ -28,6 +29,8 @@ pub record Told (text tape : List ℕ) (t : ℕ) (h : Heads) (ms : List Module) 
   pub spells : Spells text tape t ms h
   pub fresh : Fresh [] ms
   pub limited : Every Limited ms
+  -- each stands in one text
+  pub small : Every (λ (m : Module). length (flat-module m) ≤ 32768) ms
 
 -- where things lie when module k is next: the heads on the tape, the kept forms below the cursor
 pub record Ready (t : ℕ) (w : List ℕ) (h : Heads) (k : ℕ) (s : State) : Type 0 where
@@ -37,6 +40,7 @@ pub record Ready (t : ℕ) (w : List ℕ) (h : Heads) (k : ℕ) (s : State) : Ty
   pub heads : h .count ≤ module-limit
   pub ordered : (j : ℕ) → j < h .count → getD (h .places) j 0 ≤ getD (h .places) (j + 1) 0
   pub within : (j : ℕ) → j < h .count → getD (h .places) (j + 1) 0 ≤ t
+  pub few-entries : (j : ℕ) → j < h .count → getD (h .places) (j + 1) 0 - getD (h .places) j 0 ≤ 32768
   pub below : TableBelow w (s .cursor)
   pub start : kept-start ≤ s .cursor
   pub space : s .cursor ≤ kept-start + (k * 8 + s .totals .items * 16 + s .totals .equations * 8 + s .totals .nodes)

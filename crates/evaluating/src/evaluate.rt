@@ -8,6 +8,7 @@ use forms::Verdict;
 use modules::Heads;
 use modules::place_at;
 ghost use Prim.Native.Nat.{_<_};
+ghost use Rattle.names.specs.Joint.{joint};
 ghost use Rattle.evaluating.specs.Sofar.{Ready};
 ghost use Rattle.evaluating.specs.Stepping.{Stepping};
 ghost use Rattle.evaluating.specs.Next.{LastRoom, LastStepping};
@@ -20,6 +21,7 @@ pub enum Stepped {
 
 // Steps 3 and 4 for module k.
 fn made(
+    library: &[u8],
     text: &[u8],
     work: &mut [u32],
     t: usize,
@@ -30,25 +32,33 @@ fn made(
     s: State,
 ) -> Stepped
     requires { ⌜ LastRoom t (now work) h k from end s ⌝ }
-    ensures { λ r. ⌜ LastStepping (now (text .entry)) t (now (work .entry)) h k s r (now (work .exit)) ⌝ }
+    ensures { λ r. ⌜ LastStepping (joint (now (library .entry)) (now (text .entry))) t (now (work .entry)) h k s r (now (work .exit)) ⌝ }
 {
     let totals = s.totals;
-    match completed(text, work, t, h, k, from, end, totals) {
+    match completed(library, text, work, t, h, k, from, end, totals) {
         Made::Refused(n, w) => Stepped::Refused(n, w),
-        Made::Done(f) => Stepped::Kept(kept(text, work, t, k, f, s)),
+        Made::Done(f) => Stepped::Kept(kept(library, text, work, t, k, f, s)),
     }
 }
 
 // The four steps for module k.
-pub fn evaluate(text: &[u8], work: &mut [u32], t: usize, h: Heads, k: u32, s: State) -> Stepped
+pub fn evaluate(
+    library: &[u8],
+    text: &[u8],
+    work: &mut [u32],
+    t: usize,
+    h: Heads,
+    k: u32,
+    s: State,
+) -> Stepped
     requires { ⌜ k < h .count ⌝ }
     requires { ⌜ Ready t (now work) h k s ⌝ }
-    ensures { λ r. ⌜ Stepping (now (text .entry)) t (now (work .entry)) h k s r (now (work .exit)) ⌝ }
+    ensures { λ r. ⌜ Stepping (joint (now (library .entry)) (now (text .entry))) t (now (work .entry)) h k s r (now (work .exit)) ⌝ }
 {
     let from = place_at(h, k as usize);
     let end = place_at(h, k as usize + 1);
-    match first_checks(text, &work[0..t], h, k, from, end) {
+    match first_checks(library, text, &work[0..t], h, k, from, end) {
         Verdict::Stop(n, w) => Stepped::Refused(n, w),
-        Verdict::Fine => made(text, work, t, h, k, from, end, s),
+        Verdict::Fine => made(library, text, work, t, h, k, from, end, s),
     }
 }

@@ -5,6 +5,7 @@ use layout::kept_start;
 use storing::store;
 ghost use mathlib.Core.Path.{_≡_};
 ghost use lib.ListN.{length};
+ghost use Rattle.names.specs.Joint.{joint};
 ghost use Rattle.forms.specs.declared.Made.the-variants.{Done};
 ghost use Rattle.completing.specs.Room.{StillRight};
 ghost use Rattle.evaluating.specs.States.{first-state, with-form, KeptRoom, KeptState};
@@ -28,14 +29,22 @@ fn with_form(totals: Totals, f: Form) -> Totals
 }
 
 // The normal form f of module k, put in order and kept.
-pub fn kept(text: &[u8], work: &mut [u32], t: usize, k: u32, f: Form, s: State) -> State
+pub fn kept(
+    library: &[u8],
+    text: &[u8],
+    work: &mut [u32],
+    t: usize,
+    k: u32,
+    f: Form,
+    s: State,
+) -> State
     requires { ⌜ KeptRoom (length (now work)) t k f s ⌝ }
-    ensures { λ r. ⌜ KeptState (now (text .entry)) t k f s r (now (work .entry)) (now (work .exit)) ⌝ }
+    ensures { λ r. ⌜ KeptState (joint (now (library .entry)) (now (text .entry))) t k f s r (now (work .entry)) (now (work .exit)) ⌝ }
 {
     let totals = s.totals;
     let c = s.cursor;
     let sums = with_form(totals, f);
-    let cursor = store(text, work, t, k, f, c);
+    let cursor = store(library, text, work, t, k, f, c);
     State {
         cursor,
         totals: sums,

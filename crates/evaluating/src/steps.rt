@@ -13,43 +13,78 @@ use tables::entries::next_with;
 use uniting::empty_form;
 ghost use mathlib.Core.Path.{_≡_};
 ghost use lib.ListN.{length};
+ghost use Rattle.names.specs.Joint.{joint};
 ghost use Rattle.forms.specs.Verdicts.{told};
 ghost use Rattle.evaluating.specs.Steps.{later-checks, first-checks, ImportedRoom, Imported};
 ghost use Rattle.evaluating.specs.Completes.{CompletedRoom, CompletedAll};
 
 // 20 and 9 for module k.
-fn later_checks(text: &[u8], tape: &[u32], h: Heads, k: u32, from: u32, end: u32) -> Verdict
-    ensures { λ r. ⌜ told (now (text .entry)) r ≡ later-checks (now (text .entry)) (now (tape .entry)) h k from end ⌝ }
+fn later_checks(
+    library: &[u8],
+    text: &[u8],
+    tape: &[u32],
+    h: Heads,
+    k: u32,
+    from: u32,
+    end: u32,
+) -> Verdict
+    ensures { λ r. ⌜ told (joint (now (library .entry)) (now (text .entry))) r ≡ later-checks (joint (now (library .entry)) (now (text .entry))) (now (tape .entry)) h k from end ⌝ }
 {
-    match acyclic(text, tape, h, k) {
+    match acyclic(library, text, tape, h, k) {
         Verdict::Stop(n, w) => Verdict::Stop(n, w),
-        Verdict::Fine => declared_once(text, tape, from, end),
+        Verdict::Fine => declared_once(library, text, tape, from, end),
     }
 }
 
 // Steps 1 and 2 for module k, whose entries stand from `from` up to `end`: 7, 8, 20, 9.
-pub fn first_checks(text: &[u8], tape: &[u32], h: Heads, k: u32, from: u32, end: u32) -> Verdict
-    ensures { λ r. ⌜ told (now (text .entry)) r ≡ first-checks (now (text .entry)) (now (tape .entry)) h k from end ⌝ }
+pub fn first_checks(
+    library: &[u8],
+    text: &[u8],
+    tape: &[u32],
+    h: Heads,
+    k: u32,
+    from: u32,
+    end: u32,
+) -> Verdict
+    ensures { λ r. ⌜ told (joint (now (library .entry)) (now (text .entry))) r ≡ first-checks (joint (now (library .entry)) (now (text .entry))) (now (tape .entry)) h k from end ⌝ }
 {
-    match names_right(text, tape, h, k) {
+    match names_right(library, text, tape, h, k) {
         Verdict::Stop(n, w) => Verdict::Stop(n, w),
-        Verdict::Fine => later_checks(text, tape, h, k, from, end),
+        Verdict::Fine => later_checks(library, text, tape, h, k, from, end),
     }
 }
 
 // Step 3, and the union of step 4: what the module whose entries stand from `from` up to `end` imports.
-pub fn imported(text: &[u8], work: &mut [u32], t: usize, h: Heads, from: u32, end: u32) -> Made
+pub fn imported(
+    library: &[u8],
+    text: &[u8],
+    work: &mut [u32],
+    t: usize,
+    h: Heads,
+    from: u32,
+    end: u32,
+) -> Made
     requires { ⌜ ImportedRoom (now work) t h from end ⌝ }
-    ensures { λ r. ⌜ Imported (now (text .entry)) t (now (work .entry)) h from end r (now (work .exit)) ⌝ }
+    ensures { λ r. ⌜ Imported (joint (now (library .entry)) (now (text .entry))) t (now (work .entry)) h from end r (now (work .exit)) ⌝ }
 {
     let i = next_with(&work[0..t], 11, from as usize, end as usize);
     let b = joining_block();
     let nothing = empty_form(b);
-    imports_from(text, work, t, h, 32768, i as u32, Made::Done(nothing))
+    imports_from(
+        library,
+        text,
+        work,
+        t,
+        h,
+        32768,
+        i as u32,
+        Made::Done(nothing),
+    )
 }
 
 // Steps 3 and 4 for module k, but for the order of the listing.
 pub fn completed(
+    library: &[u8],
     text: &[u8],
     work: &mut [u32],
     t: usize,
@@ -60,10 +95,10 @@ pub fn completed(
     totals: Totals,
 ) -> Made
     requires { ⌜ CompletedRoom (now work) t h from end totals ⌝ }
-    ensures { λ r. ⌜ CompletedAll (now (text .entry)) t (now (work .entry)) h k from end totals r (now (work .exit)) ⌝ }
+    ensures { λ r. ⌜ CompletedAll (joint (now (library .entry)) (now (text .entry))) t (now (work .entry)) h k from end totals r (now (work .exit)) ⌝ }
 {
-    match imported(text, work, t, h, from, end) {
+    match imported(library, text, work, t, h, from, end) {
         Made::Refused(n, w) => Made::Refused(n, w),
-        Made::Done(f) => complete(text, work, t, k, from, end, f, totals),
+        Made::Done(f) => complete(library, text, work, t, k, from, end, f, totals),
     }
 }

@@ -55,7 +55,7 @@ pub record ClauseRoom (w : List ℕ) (t : ℕ) (h : Heads) (i : ℕ) (g : Form) 
   pub ground : Ground w t h
   pub room : MakeRoom (length w) t g b
   pub below : b .high ≤ kept-start
-  pub place : i < 65536
+  pub place : i < 131072
 
 -- the blocks of clauses in turn
 unfoldable pub turn-block : Bool → Block
@@ -71,7 +71,7 @@ pub record ClausesRoom (w : List ℕ) (t : ℕ) (h : Heads) (i : ℕ) (g : Form)
   pub ground : Ground w t h
   pub source : Source (length w) g
   pub outside : Outside (turn-block first .low) (turn-block first .high) g
-  pub place : i < 65536
+  pub place : i < 131072
 
 unfoldable pub starts-clause : List ℕ → ℕ → Bool
 starts-clause tape i = pick (eqb (role-at tape i) 12) true (eqb (role-at tape i) 13)
@@ -422,7 +422,7 @@ end-positive least tape i c end e =
 
 -- the end of a clause on the tape is small
 pub end-small : (w : List ℕ) (t i end : ℕ) → end ≡ run-end 14 (part w 0 t) (i + 1) (length (part w 0 t) - (i + 1))
-    → i < length (part w 0 t) → t ≤ tape-end → end < 65536
+    → i < length (part w 0 t) → t ≤ tape-end → end < 131072
 unfolding tape-end
 end-small w t i end e h l =
     let far = run-within 14 (part w 0 t) (length (part w 0 t) - (i + 1)) (i + 1) in

@@ -42,7 +42,7 @@ use Rattle.importing.specs.Clausal.{turn-block, turn-laid, named-between
 
 pub record ImportRoom (w : List ℕ) (t : ℕ) (h : Heads) (i : ℕ) : Type 0 where
   pub ground : Ground w t h
-  pub place : i + 1 < 65536
+  pub place : i + 1 < 131072
 
 pub record UnionRoom (size t : ℕ) (g : Form) (so-far : Made) : Type 0 where
   pub laid : Laid size t
@@ -52,7 +52,7 @@ pub record UnionRoom (size t : ℕ) (g : Form) (so-far : Made) : Type 0 where
 pub record ImportsRoom (w : List ℕ) (t : ℕ) (h : Heads) (i : ℕ) (so-far : Made) : Type 0 where
   pub ground : Ground w t h
   pub there : MadeIn joining-block so-far
-  pub place : i < 65536
+  pub place : i < 131072
 
 -- ---- what comes of them
 
@@ -230,7 +230,7 @@ none-imported text tape i s e =
     let z : i + 0 ≡ i = omega arith in
     false≢true (sym (ap (λ (j : ℕ). runs 11 (role-at tape j)) (sym z) ∙ s .after) ∙ ap (runs 11) e ∙ import-run)
 
-short-tape : (w : List ℕ) (t : ℕ) → t ≤ tape-end → length (part w 0 t) ≤ 32768
+short-tape : (w : List ℕ) (t : ℕ) → t ≤ tape-end → length (part w 0 t) ≤ 65536
 unfolding tape-end
 short-tape w t l =
     let short : length (part w 0 t) ≤ t = omega (arith, length-take (t - 0) (drop 0 w)) in
@@ -360,8 +360,8 @@ module _ (text : List ℕ) (t : ℕ) (w : List ℕ) (h : Heads) (i : ℕ) (so-fa
             place = small (run-within 12 (part w 0 t) (length (part w 0 t) - (i + 1)) (i + 1)) (short-tape w t (c .ground .tape)) there-is at;
           }
             where
-              small : run-end 12 (part w 0 t) (i + 1) (length (part w 0 t) - (i + 1)) ≤ i + 1 + (length (part w 0 t) - (i + 1)) → length (part w 0 t) ≤ 32768
-                  → i < length (part w 0 t) → end ≡ run-end 12 (part w 0 t) (i + 1) (length (part w 0 t) - (i + 1)) → end < 65536
+              small : run-end 12 (part w 0 t) (i + 1) (length (part w 0 t) - (i + 1)) ≤ i + 1 + (length (part w 0 t) - (i + 1)) → length (part w 0 t) ≤ 65536
+                  → i < length (part w 0 t) → end ≡ run-end 12 (part w 0 t) (i + 1) (length (part w 0 t) - (i + 1)) → end < 131072
               small far short here q = omega (arith, far, short, here, q)
 
           behind : (z : Import) (is : List Import) → ImportsAt text (part w 0 t) i (z ∷ is) → ImportsAt text (part w₂ 0 t) end is

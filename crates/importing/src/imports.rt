@@ -10,33 +10,42 @@ use renaming::join;
 use tables::entries::role_at;
 ghost use mathlib.Core.Path.{_≡_};
 ghost use lib.ListN.{length};
+ghost use Rattle.names.specs.Joint.{joint};
 ghost use Rattle.importing.specs.Expressions.{ImportRoom, ExpressionMade, UnionRoom, UnionMade, ImportsRoom, ImportsMade};
 
 // The import expression at i.
-fn expression(text: &[u8], work: &mut [u32], t: usize, h: Heads, i: u32) -> Made
+fn expression(library: &[u8], text: &[u8], work: &mut [u32], t: usize, h: Heads, i: u32) -> Made
     requires { ⌜ ImportRoom (now work) t h i ⌝ }
-    ensures { λ r. ⌜ ExpressionMade (now (text .entry)) t (now (work .entry)) h i r (now (work .exit)) ⌝ }
+    ensures { λ r. ⌜ ExpressionMade (joint (now (library .entry)) (now (text .entry))) t (now (work .entry)) h i r (now (work .exit)) ⌝ }
 {
-    let g = named_form(text, work, t, h, i as usize);
-    clauses_from(text, work, t, h, 32768, i + 1, g, true)
+    let g = named_form(library, text, work, t, h, i as usize);
+    clauses_from(library, text, work, t, h, 32768, i + 1, g, true)
 }
 
 // What is united so far, with g: unless a union was refused.
-fn united_with(text: &[u8], work: &mut [u32], t: usize, g: Form, so_far: Made) -> Made
+fn united_with(
+    library: &[u8],
+    text: &[u8],
+    work: &mut [u32],
+    t: usize,
+    g: Form,
+    so_far: Made,
+) -> Made
     requires { ⌜ UnionRoom (length (now work)) t g «so_far» ⌝ }
-    ensures { λ r. ⌜ UnionMade (now (text .entry)) t (now (work .entry)) g «so_far» r (now (work .exit)) ⌝ }
+    ensures { λ r. ⌜ UnionMade (joint (now (library .entry)) (now (text .entry))) t (now (work .entry)) g «so_far» r (now (work .exit)) ⌝ }
 {
     match so_far {
         Made::Refused(k, w) => Made::Refused(k, w),
         Made::Done(f) => {
             let b = joining_block();
-            join(text, work, t, g, f, b)
+            join(library, text, work, t, g, f, b)
         }
     }
 }
 
 // The import expressions from i on, united with what there is so far.
 pub fn imports_from(
+    library: &[u8],
     text: &[u8],
     work: &mut [u32],
     t: usize,
@@ -46,19 +55,19 @@ pub fn imports_from(
     so_far: Made,
 ) -> Made
     requires { ⌜ ImportsRoom (now work) t h i «so_far» ⌝ }
-    ensures { λ r. ⌜ ImportsMade (now (text .entry)) t (now (work .entry)) h left i «so_far» r (now (work .exit)) ⌝ }
+    ensures { λ r. ⌜ ImportsMade (joint (now (library .entry)) (now (text .entry))) t (now (work .entry)) h left i «so_far» r (now (work .exit)) ⌝ }
 {
     if left == 0 {
         return so_far;
     }
     if role_at(&work[0..t], i as usize) == 11 {
         let end = run_end(&work[0..t], 12, i + 1);
-        let r = expression(text, work, t, h, i);
+        let r = expression(library, text, work, t, h, i);
         match r {
             Made::Refused(k, w) => Made::Refused(k, w),
             Made::Done(g) => {
-                let u = united_with(text, work, t, g, so_far);
-                imports_from(text, work, t, h, left - 1, end, u)
+                let u = united_with(library, text, work, t, g, so_far);
+                imports_from(library, text, work, t, h, left - 1, end, u)
             }
         }
     } else {

@@ -9,6 +9,7 @@ use tables::entries::role_at;
 ghost use mathlib.Core.Path.{_≡_};
 ghost use Prim.Native.Nat.{_-_, _≤_};
 ghost use lib.ListN.{length};
+ghost use Rattle.names.specs.Joint.{joint};
 ghost use Rattle.tables.specs.Entries.{name-at};
 ghost use Rattle.forms.specs.Memory.{part};
 ghost use Rattle.modules.specs.Modules.{declared};
@@ -43,12 +44,12 @@ pub fn run_end(tape: &[u32], least: u32, i: u32) -> u32
 }
 
 // The normal form of the module that is named at i.
-pub fn named_form(text: &[u8], work: &[u32], t: usize, h: Heads, i: usize) -> Form
+pub fn named_form(library: &[u8], text: &[u8], work: &[u32], t: usize, h: Heads, i: usize) -> Form
     requires { ⌜ t ≤ length (now work) ⌝ }
-    ensures { λ r. ⌜ r ≡ kept-form (now (work .entry)) (number-of (declared (now (text .entry)) (part (now (work .entry)) 0 t) h) (name-at (now (text .entry)) (part (now (work .entry)) 0 t) i)) ⌝ }
+    ensures { λ r. ⌜ r ≡ kept-form (now (work .entry)) (number-of (declared (joint (now (library .entry)) (now (text .entry))) (part (now (work .entry)) 0 t) h) (name-at (joint (now (library .entry)) (now (text .entry))) (part (now (work .entry)) 0 t) i)) ⌝ }
 {
     let w = name_at(&work[0..t], i);
-    let k = find_number(text, &work[0..t], h, w);
+    let k = find_number(library, text, &work[0..t], h, w);
     let table = table_start();
     read_form(work, table, k)
 }

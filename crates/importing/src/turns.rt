@@ -15,10 +15,12 @@ ghost use mathlib.Core.Path.{_≡_};
 ghost use mathlib.Core.Bool.{not};
 ghost use Prim.Native.Nat.{_+_, _≤_, _<_};
 ghost use lib.ListN.{length};
+ghost use Rattle.names.specs.Joint.{joint};
 ghost use Rattle.importing.specs.Clausal.{ClauseRoom, BoundAt, ClauseMade, turn-block, ClausesRoom, ClausesMade, starts-clause};
 
 // The binding whose parameter stands at i, and its actual module at `last`.
 fn bind_at(
+    library: &[u8],
     text: &[u8],
     work: &mut [u32],
     t: usize,
@@ -29,15 +31,16 @@ fn bind_at(
     b: Block,
 ) -> Made
     requires { ⌜ ClauseRoom (now work) t h i g b ⌝ }
-    ensures { λ r. ⌜ BoundAt (now (text .entry)) t (now (work .entry)) h i last g b r (now (work .exit)) ⌝ }
+    ensures { λ r. ⌜ BoundAt (joint (now (library .entry)) (now (text .entry))) t (now (work .entry)) h i last g b r (now (work .exit)) ⌝ }
 {
     let p = name_at(&work[0..t], i as usize);
-    let actual = named_form(text, work, t, h, last as usize);
-    bind(text, work, t, p, i + 1, g, actual, b)
+    let actual = named_form(library, text, work, t, h, last as usize);
+    bind(library, text, work, t, p, i + 1, g, actual, b)
 }
 
 // The clause at i, whose end is `end`.
 fn clause_at(
+    library: &[u8],
     text: &[u8],
     work: &mut [u32],
     t: usize,
@@ -49,16 +52,17 @@ fn clause_at(
 ) -> Made
     requires { ⌜ ClauseRoom (now work) t h i g b ⌝ }
     requires { ⌜ 1 ≤ end ⌝ }
-    ensures { λ r. ⌜ ClauseMade (now (text .entry)) t (now (work .entry)) h i end g b r (now (work .exit)) ⌝ }
+    ensures { λ r. ⌜ ClauseMade (joint (now (library .entry)) (now (text .entry))) t (now (work .entry)) h i end g b r (now (work .exit)) ⌝ }
 {
     if role_at(&work[0..t], i as usize) == 12 {
-        return rename(text, work, t, i + 1, g, b);
+        return rename(library, text, work, t, i + 1, g, b);
     }
-    bind_at(text, work, t, h, i, end - 1, g, b)
+    bind_at(library, text, work, t, h, i, end - 1, g, b)
 }
 
 // The clause at i, whose end is `end`, in the block whose turn it is.
 fn clause_turn(
+    library: &[u8],
     text: &[u8],
     work: &mut [u32],
     t: usize,
@@ -70,14 +74,14 @@ fn clause_turn(
 ) -> Made
     requires { ⌜ ClausesRoom (now work) t h i g first ⌝ }
     requires { ⌜ 1 ≤ end ⌝ }
-    ensures { λ r. ⌜ ClauseMade (now (text .entry)) t (now (work .entry)) h i end g (turn-block first) r (now (work .exit)) ⌝ }
+    ensures { λ r. ⌜ ClauseMade (joint (now (library .entry)) (now (text .entry))) t (now (work .entry)) h i end g (turn-block first) r (now (work .exit)) ⌝ }
 {
     if first {
         let b = first_block();
-        return clause_at(text, work, t, h, i, end, g, b);
+        return clause_at(library, text, work, t, h, i, end, g, b);
     }
     let b = second_block();
-    clause_at(text, work, t, h, i, end, g, b)
+    clause_at(library, text, work, t, h, i, end, g, b)
 }
 
 // Does a clause begin at i?
@@ -102,6 +106,7 @@ fn other(first: bool) -> bool
 
 // The clauses from i on, of g, which is not in the block whose turn it is.
 pub fn clauses_from(
+    library: &[u8],
     text: &[u8],
     work: &mut [u32],
     t: usize,
@@ -112,19 +117,19 @@ pub fn clauses_from(
     first: bool,
 ) -> Made
     requires { ⌜ ClausesRoom (now work) t h i g first ⌝ }
-    ensures { λ r. ⌜ ClausesMade (now (text .entry)) t (now (work .entry)) h left i g r (now (work .exit)) ⌝ }
+    ensures { λ r. ⌜ ClausesMade (joint (now (library .entry)) (now (text .entry))) t (now (work .entry)) h left i g r (now (work .exit)) ⌝ }
 {
     if left == 0 {
         return Made::Done(g);
     }
     if starts_clause(&work[0..t], i) {
         let end = run_end(&work[0..t], 14, i + 1);
-        let r = clause_turn(text, work, t, h, i, end, g, first);
+        let r = clause_turn(library, text, work, t, h, i, end, g, first);
         match r {
             Made::Refused(k, w) => Made::Refused(k, w),
             Made::Done(f) => {
                 let next = other(first);
-                clauses_from(text, work, t, h, left - 1, end, f, next)
+                clauses_from(library, text, work, t, h, left - 1, end, f, next)
             }
         }
     } else {

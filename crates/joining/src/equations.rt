@@ -11,6 +11,7 @@ ghost use mathlib.Core.List.{[], _∷_};
 ghost use Prim.Native.Nat.{_+_, _*_, _≤_, _<_, _^_};
 ghost use lib.ListN.{length};
 ghost use lib.Seq.{sets};
+ghost use Rattle.names.specs.Joint.{joint};
 ghost use Rattle.forms.specs.Forms.{equation-row-at};
 ghost use Rattle.joining.specs.Joined.{same-equation, has-equation, equation-words, with-counts, out, settled, joined-row, joined};
 
@@ -63,6 +64,7 @@ pub fn write_equation(w: &mut [u32], base: u32, i: u32, q: EquationRow, start: u
 
 // Is q, whose nodes stand behind those of f, the equation r of f?
 fn same_equation(
+    library: &[u8],
     text: &[u8],
     work: &[u32],
     t: usize,
@@ -71,7 +73,7 @@ fn same_equation(
     r: EquationRow,
 ) -> bool
     requires { ⌜ t ≤ length (now work) ⌝ }
-    ensures { λ x. ⌜ x ≡ same-equation (now (text .entry)) t (now (work .entry)) f q r ⌝ }
+    ensures { λ x. ⌜ x ≡ same-equation (joint (now (library .entry)) (now (text .entry))) t (now (work .entry)) f q r ⌝ }
 {
     if q.home == r.home {
         if q.position == r.position {
@@ -82,7 +84,18 @@ fn same_equation(
                 let start = r.start;
                 let used = f.node_count;
                 let c = q.count;
-                return same_nodes(text, work, t, visible, hidden, base, used, start, c);
+                return same_nodes(
+                    library,
+                    text,
+                    work,
+                    t,
+                    visible,
+                    hidden,
+                    base,
+                    used,
+                    start,
+                    c,
+                );
             }
             return false;
         }
@@ -92,23 +105,39 @@ fn same_equation(
 }
 
 // Is it row i of f?
-fn is_equation(text: &[u8], work: &[u32], t: usize, f: Form, q: EquationRow, i: u32) -> bool
+fn is_equation(
+    library: &[u8],
+    text: &[u8],
+    work: &[u32],
+    t: usize,
+    f: Form,
+    q: EquationRow,
+    i: u32,
+) -> bool
     requires { ⌜ t ≤ length (now work) ⌝ }
-    ensures { λ x. ⌜ x ≡ same-equation (now (text .entry)) t (now (work .entry)) f q (equation-row-at (now (work .entry)) (f .equations + i * 8)) ⌝ }
+    ensures { λ x. ⌜ x ≡ same-equation (joint (now (library .entry)) (now (text .entry))) t (now (work .entry)) f q (equation-row-at (now (work .entry)) (f .equations + i * 8)) ⌝ }
 {
     let base = f.equations;
     let r = read_equation(work, base, i);
-    same_equation(text, work, t, f, q, r)
+    same_equation(library, text, work, t, f, q, r)
 }
 
 // Is it one of the first n rows of f?
-fn has_equation(text: &[u8], work: &[u32], t: usize, f: Form, q: EquationRow, n: u32) -> bool
+fn has_equation(
+    library: &[u8],
+    text: &[u8],
+    work: &[u32],
+    t: usize,
+    f: Form,
+    q: EquationRow,
+    n: u32,
+) -> bool
     requires { ⌜ t ≤ length (now work) ⌝ }
-    ensures { λ x. ⌜ x ≡ has-equation (now (text .entry)) t (now (work .entry)) f q 0 n ⌝ }
+    ensures { λ x. ⌜ x ≡ has-equation (joint (now (library .entry)) (now (text .entry))) t (now (work .entry)) f q 0 n ⌝ }
 {
     let mut i = 0;
     while i < n {
-        if is_equation(text, work, t, f, q, i) {
+        if is_equation(library, text, work, t, f, q, i) {
             return true;
         }
         i += 1;
@@ -136,6 +165,7 @@ fn with_counts(f: Form, equations: u32, nodes: u32) -> Form
 
 // q, whose nodes stand behind those of f: dropped where it is there, else a row more.
 fn settle(
+    library: &[u8],
     text: &[u8],
     work: &mut [u32],
     t: usize,
@@ -147,12 +177,12 @@ fn settle(
     requires { ⌜ t ≤ length (now work) ⌝ }
     requires { ⌜ f .«equation_count» < rows ⌝ }
     requires { ⌜ f .«node_count» + q .count ≤ nodes ⌝ }
-    ensures { λ r. ⌜ out r (now (work .exit)) ≡ settled (now (text .entry)) t (now (work .entry)) f q ⌝ }
+    ensures { λ r. ⌜ out r (now (work .exit)) ≡ settled (joint (now (library .entry)) (now (text .entry))) t (now (work .entry)) f q ⌝ }
 {
     let n = f.equation_count;
     let used = f.node_count;
     let count = q.count;
-    if has_equation(text, work, t, f, q, n) {
+    if has_equation(library, text, work, t, f, q, n) {
         return f;
     }
     let base = f.equations;
@@ -162,6 +192,7 @@ fn settle(
 
 // The equation q of g absorbed into f.
 fn absorb_row(
+    library: &[u8],
     text: &[u8],
     work: &mut [u32],
     t: usize,
@@ -171,7 +202,7 @@ fn absorb_row(
     f: Form,
 ) -> Form
     requires { ⌜ t ≤ length (now work) ⌝ }
-    ensures { λ r. ⌜ out r (now (work .exit)) ≡ joined-row (now (text .entry)) t (now (work .entry)) g q o f ⌝ }
+    ensures { λ r. ⌜ out r (now (work .exit)) ≡ joined-row (joint (now (library .entry)) (now (text .entry))) t (now (work .entry)) g q o f ⌝ }
 {
     let rows = o.equation_room;
     let nodes = o.node_room;
@@ -187,13 +218,14 @@ fn absorb_row(
         let base = f.nodes;
         let c = q.count;
         copy_nodes(work, visible, hidden, source, start, base, used, c);
-        return settle(text, work, t, f, q, rows, nodes);
+        return settle(library, text, work, t, f, q, rows, nodes);
     }
     f
 }
 
 // Row k of g absorbed into f.
 fn absorb_equation(
+    library: &[u8],
     text: &[u8],
     work: &mut [u32],
     t: usize,
@@ -203,32 +235,49 @@ fn absorb_equation(
     f: Form,
 ) -> Form
     requires { ⌜ t ≤ length (now work) ⌝ }
-    ensures { λ r. ⌜ out r (now (work .exit)) ≡ joined-row (now (text .entry)) t (now (work .entry)) g (equation-row-at (now (work .entry)) (g .equations + k * 8)) o f ⌝ }
+    ensures { λ r. ⌜ out r (now (work .exit)) ≡ joined-row (joint (now (library .entry)) (now (text .entry))) t (now (work .entry)) g (equation-row-at (now (work .entry)) (g .equations + k * 8)) o f ⌝ }
 {
     let base = g.equations;
     let q = read_equation(work, base, k);
-    absorb_row(text, work, t, g, q, o, f)
+    absorb_row(library, text, work, t, g, q, o, f)
 }
 
 // The first n equations of g absorbed into f.
-fn absorb_first(text: &[u8], work: &mut [u32], t: usize, g: Form, n: u32, o: Notes, f: Form) -> Form
+fn absorb_first(
+    library: &[u8],
+    text: &[u8],
+    work: &mut [u32],
+    t: usize,
+    g: Form,
+    n: u32,
+    o: Notes,
+    f: Form,
+) -> Form
     requires { ⌜ t ≤ length (now work) ⌝ }
-    ensures { λ r. ⌜ out r (now (work .exit)) ≡ joined (now (text .entry)) t (now (work .entry)) g 0 n o f ⌝ }
+    ensures { λ r. ⌜ out r (now (work .exit)) ≡ joined (joint (now (library .entry)) (now (text .entry))) t (now (work .entry)) g 0 n o f ⌝ }
 {
     let mut h = f;
     let mut k = 0;
     while k < n {
-        h = absorb_equation(text, work, t, g, k, o, h);
+        h = absorb_equation(library, text, work, t, g, k, o, h);
         k += 1;
     }
     h
 }
 
 // Every equation of g absorbed into f; the answer is f with its new counts.
-pub fn absorb_equations(text: &[u8], work: &mut [u32], t: usize, g: Form, o: Notes, f: Form) -> Form
+pub fn absorb_equations(
+    library: &[u8],
+    text: &[u8],
+    work: &mut [u32],
+    t: usize,
+    g: Form,
+    o: Notes,
+    f: Form,
+) -> Form
     requires { ⌜ t ≤ length (now work) ⌝ }
-    ensures { λ r. ⌜ out r (now (work .exit)) ≡ joined (now (text .entry)) t (now (work .entry)) g 0 (g .«equation_count») o f ⌝ }
+    ensures { λ r. ⌜ out r (now (work .exit)) ≡ joined (joint (now (library .entry)) (now (text .entry))) t (now (work .entry)) g 0 (g .«equation_count») o f ⌝ }
 {
     let n = g.equation_count;
-    absorb_first(text, work, t, g, n, o, f)
+    absorb_first(library, text, work, t, g, n, o, f)
 }

@@ -18,6 +18,7 @@ ghost use Prim.Native.Nat.{_+_, _/_, _%_, _≤_};
 ghost use lib.ListN.{length, set, getD};
 ghost use lib.Dec.{eqb};
 ghost use Rattle.meaning.specs.Origins.{hidden-sort, same-sort};
+ghost use Rattle.names.specs.Joint.{joint};
 ghost use Rattle.tables.specs.Rows.{origin-of, sort-of, item-of};
 ghost use Rattle.forms.specs.Memory.{part};
 ghost use Rattle.forms.specs.Forms.{node-row, node-of, node-in};
@@ -25,22 +26,22 @@ ghost use Rattle.forms.specs.Flat.{same-node};
 ghost use Rattle.joining.specs.Joined.{node-sort, functions-agree, renoded, renode, copied, same-at, same-run};
 
 // Is the sort that stands at an origin, taken as a hidden one, the sort w?
-fn is_sort(text: &[u8], tape: &[u32], o: Origin, w: u32) -> bool
-    ensures { λ r. ⌜ r ≡ same-sort (hidden-sort (origin-of (now (text .entry)) (now (tape .entry)) o)) (sort-of (now (text .entry)) (now (tape .entry)) w) ⌝ }
+fn is_sort(library: &[u8], text: &[u8], tape: &[u32], o: Origin, w: u32) -> bool
+    ensures { λ r. ⌜ r ≡ same-sort (hidden-sort (origin-of (joint (now (library .entry)) (now (text .entry))) (now (tape .entry)) o)) (sort-of (joint (now (library .entry)) (now (text .entry))) (now (tape .entry)) w) ⌝ }
 {
     if w % 2 == 0 {
         return false;
     }
     let d = w / 2;
     let p = o.place;
-    if same_name_at(text, tape, p as usize, d as usize) {
+    if same_name_at(library, text, tape, p as usize, d as usize) {
         let k = kind_at(tape, p);
         if k == 0 {
             let h = o.home;
             let g = home_at(tape, d);
-            if same_word(text, h, g) {
+            if same_word(library, text, h, g) {
                 let s = o.section;
-                return same_section(text, s, Section::Hidden);
+                return same_section(library, text, s, Section::Hidden);
             }
             return false;
         }
@@ -50,8 +51,8 @@ fn is_sort(text: &[u8], tape: &[u32], o: Origin, w: u32) -> bool
 }
 
 // Have a and b, no functions, one sort at a node?
-fn same_node_sorts(text: &[u8], tape: &[u32], a: Row, b: Row) -> bool
-    ensures { λ r. ⌜ r ≡ same-sort (node-sort (now (text .entry)) (now (tape .entry)) a) (node-sort (now (text .entry)) (now (tape .entry)) b) ⌝ }
+fn same_node_sorts(library: &[u8], text: &[u8], tape: &[u32], a: Row, b: Row) -> bool
+    ensures { λ r. ⌜ r ≡ same-sort (node-sort (joint (now (library .entry)) (now (text .entry))) (now (tape .entry)) a) (node-sort (joint (now (library .entry)) (now (text .entry))) (now (tape .entry)) b) ⌝ }
 {
     let k = a.kind;
     let l = b.kind;
@@ -61,30 +62,30 @@ fn same_node_sorts(text: &[u8], tape: &[u32], a: Row, b: Row) -> bool
     let t = b.sorts;
     if k == 0 {
         if l == 0 {
-            return same_origin(text, tape, o, p);
+            return same_origin(library, text, tape, o, p);
         }
-        return is_sort(text, tape, o, t[8]);
+        return is_sort(library, text, tape, o, t[8]);
     }
     if l == 0 {
-        return is_sort(text, tape, p, s[8]);
+        return is_sort(library, text, tape, p, s[8]);
     }
-    same_sort(text, tape, s[8], t[8])
+    same_sort(library, text, tape, s[8], t[8])
 }
 
 // Are the functions a and b the same at nodes u and v?
-fn same_functions(text: &[u8], tape: &[u32], u: u32, a: Row, v: u32, b: Row) -> bool
-    ensures { λ r. ⌜ r ≡ functions-agree (now (text .entry)) (now (tape .entry)) u a v b ⌝ }
+fn same_functions(library: &[u8], text: &[u8], tape: &[u32], u: u32, a: Row, v: u32, b: Row) -> bool
+    ensures { λ r. ⌜ r ≡ functions-agree (joint (now (library .entry)) (now (text .entry))) (now (tape .entry)) u a v b ⌝ }
 {
     if u % 32 == v % 32 {
-        if same_shape(text, tape, a, b) {
+        if same_shape(library, text, tape, a, b) {
             if u % 32 < 16 {
                 let x = a.name;
                 let y = b.name;
-                return same_word(text, x, y);
+                return same_word(library, text, x, y);
             }
             let o = a.origin;
             let p = b.origin;
-            return same_origin(text, tape, o, p);
+            return same_origin(library, text, tape, o, p);
         }
         return false;
     }
@@ -92,8 +93,8 @@ fn same_functions(text: &[u8], tape: &[u32], u: u32, a: Row, v: u32, b: Row) -> 
 }
 
 // Are a and b, which stand at nodes u and v, the same there?
-fn same_at_nodes(text: &[u8], tape: &[u32], u: u32, a: Row, v: u32, b: Row) -> bool
-    ensures { λ r. ⌜ r ≡ same-node (node-of (eqb (u / 16 % 2) 0) (u % 16) (item-of (now (text .entry)) (now (tape .entry)) a)) (node-of (eqb (v / 16 % 2) 0) (v % 16) (item-of (now (text .entry)) (now (tape .entry)) b)) ⌝ }
+fn same_at_nodes(library: &[u8], text: &[u8], tape: &[u32], u: u32, a: Row, v: u32, b: Row) -> bool
+    ensures { λ r. ⌜ r ≡ same-node (node-of (eqb (u / 16 % 2) 0) (u % 16) (item-of (joint (now (library .entry)) (now (text .entry))) (now (tape .entry)) a)) (node-of (eqb (v / 16 % 2) 0) (v % 16) (item-of (joint (now (library .entry)) (now (text .entry))) (now (tape .entry)) b)) ⌝ }
 {
     let k = a.kind;
     let l = b.kind;
@@ -101,8 +102,8 @@ fn same_at_nodes(text: &[u8], tape: &[u32], u: u32, a: Row, v: u32, b: Row) -> b
         if l < 2 {
             let o = a.origin;
             let p = b.origin;
-            if same_origin(text, tape, o, p) {
-                return same_node_sorts(text, tape, a, b);
+            if same_origin(library, text, tape, o, p) {
+                return same_node_sorts(library, text, tape, a, b);
             }
             return false;
         }
@@ -111,7 +112,7 @@ fn same_at_nodes(text: &[u8], tape: &[u32], u: u32, a: Row, v: u32, b: Row) -> b
     if l < 2 {
         return false;
     }
-    same_functions(text, tape, u, a, v, b)
+    same_functions(library, text, tape, u, a, v, b)
 }
 
 // The row that node v points at.
@@ -126,6 +127,7 @@ fn node_row(work: &[u32], visible: u32, hidden: u32, v: u32) -> Row
 
 // Are u and v the same nodes over the tables of visible and of hidden items?
 pub fn same_node(
+    library: &[u8],
     text: &[u8],
     work: &[u32],
     t: usize,
@@ -135,18 +137,19 @@ pub fn same_node(
     v: u32,
 ) -> bool
     requires { ⌜ t ≤ length (now work) ⌝ }
-    ensures { λ r. ⌜ r ≡ same-node (node-in (now (text .entry)) (part (now (work .entry)) 0 t) (now (work .entry)) visible hidden u) (node-in (now (text .entry)) (part (now (work .entry)) 0 t) (now (work .entry)) visible hidden v) ⌝ }
+    ensures { λ r. ⌜ r ≡ same-node (node-in (joint (now (library .entry)) (now (text .entry))) (part (now (work .entry)) 0 t) (now (work .entry)) visible hidden u) (node-in (joint (now (library .entry)) (now (text .entry))) (part (now (work .entry)) 0 t) (now (work .entry)) visible hidden v) ⌝ }
 {
     if u == v {
         return true;
     }
     let a = node_row(work, visible, hidden, u);
     let b = node_row(work, visible, hidden, v);
-    same_at_nodes(text, &work[0..t], u, a, v, b)
+    same_at_nodes(library, text, &work[0..t], u, a, v, b)
 }
 
 // Are the nodes at places a and b the same?
 fn same_node_at(
+    library: &[u8],
     text: &[u8],
     work: &[u32],
     t: usize,
@@ -156,15 +159,16 @@ fn same_node_at(
     b: usize,
 ) -> bool
     requires { ⌜ t ≤ length (now work) ⌝ }
-    ensures { λ r. ⌜ r ≡ same-at (now (text .entry)) t (now (work .entry)) visible hidden a b ⌝ }
+    ensures { λ r. ⌜ r ≡ same-at (joint (now (library .entry)) (now (text .entry))) t (now (work .entry)) visible hidden a b ⌝ }
 {
     let u = word_at(work, a);
     let v = word_at(work, b);
-    same_node(text, work, t, visible, hidden, u, v)
+    same_node(library, text, work, t, visible, hidden, u, v)
 }
 
 // Are c nodes from a on those from b on, both counted from place `base`?
 pub fn same_nodes(
+    library: &[u8],
     text: &[u8],
     work: &[u32],
     t: usize,
@@ -176,13 +180,13 @@ pub fn same_nodes(
     c: u32,
 ) -> bool
     requires { ⌜ t ≤ length (now work) ⌝ }
-    ensures { λ r. ⌜ r ≡ same-run (now (text .entry)) t (now (work .entry)) visible hidden (base + a) (base + b) c ⌝ }
+    ensures { λ r. ⌜ r ≡ same-run (joint (now (library .entry)) (now (text .entry))) t (now (work .entry)) visible hidden (base + a) (base + b) c ⌝ }
 {
     let mut i = base as usize + a as usize;
     let mut j = base as usize + b as usize;
     let mut left = c;
     while 0 < left {
-        if same_node_at(text, work, t, visible, hidden, i, j) {
+        if same_node_at(library, text, work, t, visible, hidden, i, j) {
             i += 1;
             j += 1;
             left -= 1;

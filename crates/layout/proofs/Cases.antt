@@ -6,15 +6,15 @@ use borrow.Author.Needs.{needs}
 use Rattle.forms.specs.declared.Block.{Block}
 use Rattle.layout.specs.Layout.{block-span, block-at, tape-end, joining-block, first-block, second-block, kept-start, table-start}
 
-pub tape-number : 32768 ≡ tape-end
+pub tape-number : 65536 ≡ tape-end
 unfolding tape-end
 tape-number = refl
 
-pub kept-number : 933456 ≡ kept-start
+pub kept-number : 966224 ≡ kept-start
 unfolding kept-start
 kept-number = refl
 
-pub table-number : 958544 ≡ table-start
+pub table-number : 991312 ≡ table-start
 unfolding table-start
 table-number = refl
 
@@ -36,24 +36,24 @@ pub is-block : (low names rows hidden-rows equations sources : ℕ) → record {
 unfolding block-at
 is-block low names rows hidden-rows equations sources = refl
 
-pub joining-fits : 32768 + block-span 32776 33280 1024 512 33280 ≤ 1073741824
+pub joining-fits : 65536 + block-span 32776 33280 1024 512 33280 ≤ 1073741824
 joining-fits = omega arith
 
-pub first-fits : 783888 + block-span 16 1024 1024 512 2048 ≤ 1073741824
+pub first-fits : 816656 + block-span 16 1024 1024 512 2048 ≤ 1073741824
 first-fits = omega arith
 
-pub second-fits : 858672 + block-span 16 1024 1024 512 2048 ≤ 1073741824
+pub second-fits : 891440 + block-span 16 1024 1024 512 2048 ≤ 1073741824
 second-fits = omega arith
 
-pub is-joining : (r : Block) → r ≡ block-at 32768 32776 33280 1024 512 33280 → r ≡ joining-block
+pub is-joining : (r : Block) → r ≡ block-at 65536 32776 33280 1024 512 33280 → r ≡ joining-block
 unfolding joining-block
 is-joining r h = h
 
-pub is-first : (r : Block) → r ≡ block-at 783888 16 1024 1024 512 2048 → r ≡ first-block
+pub is-first : (r : Block) → r ≡ block-at 816656 16 1024 1024 512 2048 → r ≡ first-block
 unfolding first-block
 is-first r h = h
 
-pub is-second : (r : Block) → r ≡ block-at 858672 16 1024 1024 512 2048 → r ≡ second-block
+pub is-second : (r : Block) → r ≡ block-at 891440 16 1024 1024 512 2048 → r ≡ second-block
 unfolding second-block
 is-second r h = h
 

@@ -51,27 +51,27 @@ block-laid size t low names rows hidden-rows equations sources h within small = 
 
 -- ---- the blocks
 
--- a text has at most so many entries, and a module no more own items, parameters or equations
+-- two texts have at most so many entries; a module stands in one of them, so half as many are its own items, parameters or equations
 unfoldable pub tape-end : ℕ
-tape-end = 32768
+tape-end = 65536
 
 -- what a module may import and its own: parameters and items; of hidden ones, equations and nodes twice what fits
 unfoldable pub joining-block : Block
-joining-block = block-at 32768 32776 33280 1024 512 33280
+joining-block = block-at 65536 32776 33280 1024 512 33280
 
 -- two normal forms that fit, united before the check
 unfoldable pub first-block : Block
-first-block = block-at 783888 16 1024 1024 512 2048
+first-block = block-at 816656 16 1024 1024 512 2048
 
 unfoldable pub second-block : Block
-second-block = block-at 858672 16 1024 1024 512 2048
+second-block = block-at 891440 16 1024 1024 512 2048
 
 unfoldable pub kept-start : ℕ
-kept-start = 933456
+kept-start = 966224
 
 -- eight parameters of each module, and all items, equations and nodes that fit together
 unfoldable pub table-start : ℕ
-table-start = 958544
+table-start = 991312
 
 pub record Laid (size t : ℕ) : Type 0 where
   pub joining : BlockLaid size t joining-block 32776 33280 1024 33280
@@ -86,9 +86,9 @@ pub record Laid (size t : ℕ) : Type 0 where
 pub memory-laid : (size t : ℕ) → t ≤ tape-end → memory-size ≤ size → Laid size t
 unfolding tape-end joining-block first-block second-block kept-start table-start memory-size block-at
 memory-laid size t h l = record {
-  joining = block-laid size t 32768 32776 33280 1024 512 33280 (omega arith) (omega arith) (omega arith);
-  first = block-laid size t 783888 16 1024 1024 512 2048 (omega arith) (omega arith) (omega arith);
-  second = block-laid size t 858672 16 1024 1024 512 2048 (omega arith) (omega arith) (omega arith);
+  joining = block-laid size t 65536 32776 33280 1024 512 33280 (omega arith) (omega arith) (omega arith);
+  first = block-laid size t 816656 16 1024 1024 512 2048 (omega arith) (omega arith) (omega arith);
+  second = block-laid size t 891440 16 1024 1024 512 2048 (omega arith) (omega arith) (omega arith);
   joining-first = omega arith;
   first-second = omega arith;
   second-kept = omega arith;

@@ -44,38 +44,38 @@ fn block_at(
 pub fn tape_end() -> u32
     ensures { λ r. ⌜ r ≡ tape-end ⌝ }
 {
-    32768
+    65536
 }
 
 // Where imports are united, and a module's own items join them.
 pub fn joining_block() -> Block
     ensures { λ r. ⌜ r ≡ joining-block ⌝ }
 {
-    block_at(32768, 32776, 33280, 1024, 512, 33280)
+    block_at(65536, 32776, 33280, 1024, 512, 33280)
 }
 
 // Where the clauses of an import expression work in turn.
 pub fn first_block() -> Block
     ensures { λ r. ⌜ r ≡ first-block ⌝ }
 {
-    block_at(783888, 16, 1024, 1024, 512, 2048)
+    block_at(816656, 16, 1024, 1024, 512, 2048)
 }
 
 pub fn second_block() -> Block
     ensures { λ r. ⌜ r ≡ second-block ⌝ }
 {
-    block_at(858672, 16, 1024, 1024, 512, 2048)
+    block_at(891440, 16, 1024, 1024, 512, 2048)
 }
 
 // Where the normal forms of evaluated modules begin, and the table of them.
 pub fn kept_start() -> u32
     ensures { λ r. ⌜ r ≡ kept-start ⌝ }
 {
-    933456
+    966224
 }
 
 pub fn table_start() -> u32
     ensures { λ r. ⌜ r ≡ table-start ⌝ }
 {
-    958544
+    991312
 }

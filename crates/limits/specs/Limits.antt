@@ -1,11 +1,11 @@
 -- What is read is within its limits (document 01, "The text"), rule by rule of the grammar: modules, inputs of a function, pairs of a clause,
 -- nodes of an equation.
-use mathlib.Core.Path.{_≡_, refl, subst}
-use Prim.Native.Nat.{ℕ, zero, suc, _+_, _≤_}
+use mathlib.Core.Path.{_≡_, refl, ap, subst, _∙_}
+use Prim.Native.Nat.{ℕ, zero, suc, _+_, _-_, _≤_}
 use native.Mathlib.Omega.{arith}
 use mathlib.Core.Bool.{Bool}
 use mathlib.Core.List.{List, [], _∷_, _++_, append-nil}
-use lib.ListN.{length}
+use lib.ListN.{length, length-append}
 use borrow.Author.Tests.{leb-false}
 use Rattle.meaning.specs.Laws.{by-cases}
 use Rattle.meaning.specs.Lists.{sum}
@@ -14,6 +14,8 @@ use Rattle.meaning.specs.Numbers.{text-size, module-limit, import-limit, bindin
 use Rattle.meaning.specs.Syntax.{Function, Signature, Parameter, Clause, renamed-by, bound-by, Import, Term, node, terms, Sides, Equation, conditions-of, Module}
 use Rattle.meaning.specs.OrderLaws.{Every}
 use Rattle.meaning.specs.Grammar.{State, Result, done, refused, Parser, after, _>>=_ as bind-read, _>>_ as next-read, return, refuse, unexpected, if-next, too-many, step, expect, short-name, name, that-name, this-name, separated, many, some-of, optional, sort-list, input-type, function, signature, parameter, exports, pair, pairs, renamed, bound, perhaps-renamed, modifier, modifier-end, import-expression, imports, variable-group, variables, counted-name, term-name, term-by, in-brackets, term, sides, sides-list, implied, conditional, equation-after, no-nodes, equation, fresh-name, a-module, modules, empty-signature, begins-term, is, is-name, read}
+use Rattle.meaning.specs.Texts.{Texts, all-read, read-texts}
+use Rattle.meaning.specs.TextsLaws.{Parts, read-parts, by-library, of-both}
 use Rattle.limits.specs.EveryLaws.{every-append}
 use Rattle.limits.specs.Nodes.{source-nodes, all-source-nodes, source-sides, source-equation}
 
@@ -396,13 +398,32 @@ module _ (text : List ℕ) where
       (record { reads = λ s i. reads-modules n (m .name ∷ taken) .reads s i }))
       (λ ms. given (λ l. reads-return (m ∷ ms) (λ k i. record { each-one = (h, l .each-one); few = omega (arith, l .few) })))))
 
-  whole-read : Gives (λ ms k. Listed Limited module-limit ms) (read text)
+  text-within : (n : ℕ) (taken : List Name) (ms : List Module) (s : State) → read text n taken ≡ done ms s → Listed Limited n ms
   unfolding read
-  whole-read =
-      by-cases (Gives (λ ms k. Listed Limited module-limit ms)) _ _ _ (λ e. reads-modules module-limit [] .reads _ tt) (λ e. tt)
+  text-within n taken ms s e =
+      subst (λ (r : Result (List Module)). Gives (λ ms k. Listed Limited n ms) r) e
+      (by-cases (Gives (λ ms k. Listed Limited n ms)) _ _ _ (λ e. reads-modules n taken .reads _ tt) (λ e. tt))
 
-  pub limits-read : (ms : List Module) (s : State) → read text ≡ done ms s → Every Limited ms
-  limits-read ms s e = subst (λ (r : Result (List Module)). Gives (λ ms k. Listed Limited module-limit ms) r) e whole-read .each-one
+-- ---- both texts
 
-  pub modules-few : (ms : List Module) (s : State) → read text ≡ done ms s → length ms ≤ module-limit
-  modules-few ms s e = subst (λ (r : Result (List Module)). Gives (λ ms k. Listed Limited module-limit ms) r) e whole-read .few
+-- of one
+pub text-few : (text : List ℕ) (n : ℕ) (taken : List Name) (ms : List Module) (s : State) → read text n taken ≡ done ms s → length ms ≤ n
+text-few text n taken ms s e = text-within text n taken ms s e .few
+
+pub limits-read : (t : Texts) (ms : List Module) → read-texts t ≡ all-read ms → Every Limited ms
+limits-read =
+    of-both (Every Limited) tt (λ ls ms h g. every-append Limited ls ms h g) (λ text n taken ms s e. text-within text n taken ms s e .each-one)
+
+-- the modules of both are at most 64
+pub modules-few : (t : Texts) (ms : List Module) → read-texts t ≡ all-read ms → length ms ≤ module-limit
+modules-few t ms e = go (read-parts t ms e)
+  where
+    go : Parts t ms → length ms ≤ module-limit
+    go p =
+        let ls = p .library-modules in
+        let cs = p .customer-modules in
+        let l : length ls ≤ module-limit =
+        by-library (λ (ms : List Module). length ms ≤ module-limit) (omega arith) p (λ s q. text-within (t .library) module-limit [] ls s q .few) in
+        let c : length cs ≤ module-limit - length ls = text-within (t .customer) _ _ cs (p .state) (p .customer-read) .few in
+        let e : length ms ≡ length ls + length cs = ap (λ (xs : List Module). length xs) (p .sequence) ∙ length-append ls cs in
+        omega (arith, l, c, e)

@@ -10,6 +10,7 @@ use parts::put_visible;
 ghost use mathlib.Core.Path.{_≡_};
 ghost use Prim.Native.Nat.{_^_, _<_, _≤_};
 ghost use lib.ListN.{length};
+ghost use Rattle.names.specs.Joint.{joint};
 ghost use Rattle.forms.specs.Memory.{part};
 ghost use Rattle.pen.specs.Pen.{pen, written};
 ghost use Rattle.listing.specs.Lines.{listing-text};
@@ -26,6 +27,7 @@ pub fn put_listing(
     out: &mut [u8],
     at: usize,
     limit: usize,
+    library: &[u8],
     text: &[u8],
     tape: &[u32],
     work: &[u32],
@@ -33,16 +35,17 @@ pub fn put_listing(
     f: Form,
 ) -> usize
     requires { ⌜ f .«hidden_count» < 2 ^ 31 ⌝ }
-    ensures { λ r. ⌜ pen r (now (out .exit)) ≡ written limit (listing-text (now (text .entry)) (now (tape .entry)) (now (work .entry)) name f) (pen at (now (out .entry))) ⌝ }
+    ensures { λ r. ⌜ pen r (now (out .exit)) ≡ written limit (listing-text (joint (now (library .entry)) (now (text .entry))) (now (tape .entry)) (now (work .entry)) name f) (pen at (now (out .entry))) ⌝ }
 {
-    let a = put_line(out, at, limit, text, b"module", name);
-    let b = put_visible(out, a, limit, text, tape, work, f);
-    let c = put_hidden(out, b, limit, text, tape, work, f);
-    put_line(out, c, limit, text, b"end", name)
+    let a = put_line(out, at, limit, library, text, b"module", name);
+    let b = put_visible(out, a, limit, library, text, tape, work, f);
+    let c = put_hidden(out, b, limit, library, text, tape, work, f);
+    put_line(out, c, limit, library, text, b"end", name)
 }
 
 // The same listing at the front of `out`, if all of it has room there; else `out` stays as it was.
 pub fn write_listing(
+    library: &[u8],
     text: &[u8],
     work: &[u32],
     t: usize,
@@ -52,13 +55,14 @@ pub fn write_listing(
 ) -> Written
     requires { ⌜ t ≤ length (now work) ⌝ }
     requires { ⌜ f .«hidden_count» < 2 ^ 31 ⌝ }
-    ensures { λ r. ⌜ result r (now (out .exit)) ≡ fitted (listing-text (now (text .entry)) (part (now (work .entry)) 0 t) (now (work .entry)) name f) (now (out .entry)) ⌝ }
+    ensures { λ r. ⌜ result r (now (out .exit)) ≡ fitted (listing-text (joint (now (library .entry)) (now (text .entry))) (part (now (work .entry)) 0 t) (now (work .entry)) name f) (now (out .entry)) ⌝ }
 {
     let room = out.len();
     let size = put_listing(
         &mut out[0..0],
         0,
         room + 1,
+        library,
         text,
         &work[0..t],
         work,
@@ -68,6 +72,6 @@ pub fn write_listing(
     if room < size {
         return Written::TooLong;
     }
-    let end = put_listing(out, 0, room + 1, text, &work[0..t], work, name, f);
+    let end = put_listing(out, 0, room + 1, library, text, &work[0..t], work, name, f);
     Written::Fits(end)
 }

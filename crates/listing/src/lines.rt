@@ -9,18 +9,27 @@ ghost use Prim.Native.Nat.{_^_, _<_};
 ghost use Rattle.meaning.specs.Names.{bytes};
 ghost use Rattle.meaning.specs.Written.{numbered};
 ghost use Rattle.names.specs.Word.{name-of};
+ghost use Rattle.names.specs.Joint.{joint};
 ghost use Rattle.tables.specs.Rows.{origin-of, item-of};
 ghost use Rattle.forms.specs.Forms.{items-at};
 ghost use Rattle.pen.specs.Pen.{pen, written};
 ghost use Rattle.listing.specs.Lines.{line-of, origin-line-of, key-of, rest-of, item-text};
 
 // A line whose value is a name.
-pub fn put_line(out: &mut [u8], at: usize, limit: usize, text: &[u8], key: &[u8], w: u32) -> usize
-    ensures { λ r. ⌜ pen r (now (out .exit)) ≡ written limit (line-of (now (key .entry)) (name-of (now (text .entry)) w)) (pen at (now (out .entry))) ⌝ }
+pub fn put_line(
+    out: &mut [u8],
+    at: usize,
+    limit: usize,
+    library: &[u8],
+    text: &[u8],
+    key: &[u8],
+    w: u32,
+) -> usize
+    ensures { λ r. ⌜ pen r (now (out .exit)) ≡ written limit (line-of (now (key .entry)) (name-of (joint (now (library .entry)) (now (text .entry))) w)) (pen at (now (out .entry))) ⌝ }
 {
     let a = pen::put_text(out, at, limit, key);
     let b = pen::put_text(out, a, limit, b"=");
-    let c = pen::put_name(out, b, limit, text, w);
+    let c = pen::put_name(out, b, limit, library, text, w);
     pen::put_text(out, c, limit, b"\n")
 }
 
@@ -29,15 +38,16 @@ pub fn put_origin_line(
     out: &mut [u8],
     at: usize,
     limit: usize,
+    library: &[u8],
     text: &[u8],
     tape: &[u32],
     o: Origin,
 ) -> usize
-    ensures { λ r. ⌜ pen r (now (out .exit)) ≡ written limit (origin-line-of (origin-of (now (text .entry)) (now (tape .entry)) o)) (pen at (now (out .entry))) ⌝ }
+    ensures { λ r. ⌜ pen r (now (out .exit)) ≡ written limit (origin-line-of (origin-of (joint (now (library .entry)) (now (text .entry))) (now (tape .entry)) o)) (pen at (now (out .entry))) ⌝ }
 {
     let a = pen::put_text(out, at, limit, b"origin");
     let b = pen::put_text(out, a, limit, b"=");
-    let c = put_origin(out, b, limit, text, tape, o);
+    let c = put_origin(out, b, limit, library, text, tape, o);
     pen::put_text(out, c, limit, b"\n")
 }
 
@@ -66,6 +76,7 @@ fn put_rest(
     out: &mut [u8],
     at: usize,
     limit: usize,
+    library: &[u8],
     text: &[u8],
     tape: &[u32],
     work: &[u32],
@@ -74,12 +85,12 @@ fn put_rest(
     row: Row,
 ) -> usize
     requires { ⌜ count < 2 ^ 31 ⌝ }
-    ensures { λ r. ⌜ pen r (now (out .exit)) ≡ written limit (rest-of (items-at (now (text .entry)) (now (tape .entry)) (now (work .entry)) base count) (item-of (now (text .entry)) (now (tape .entry)) row)) (pen at (now (out .entry))) ⌝ }
+    ensures { λ r. ⌜ pen r (now (out .exit)) ≡ written limit (rest-of (items-at (joint (now (library .entry)) (now (text .entry))) (now (tape .entry)) (now (work .entry)) base count) (item-of (joint (now (library .entry)) (now (text .entry))) (now (tape .entry)) row)) (pen at (now (out .entry))) ⌝ }
 {
     let origin = row.origin;
-    let a = put_shape(out, at, limit, text, tape, work, base, count, row);
+    let a = put_shape(out, at, limit, library, text, tape, work, base, count, row);
     let b = pen::put_text(out, a, limit, b"\n");
-    put_origin_line(out, b, limit, text, tape, origin)
+    put_origin_line(out, b, limit, library, text, tape, origin)
 }
 
 // The lines of a visible item, in whose type there is no hidden sort to be numbered.
@@ -87,20 +98,21 @@ pub fn put_visible_item(
     out: &mut [u8],
     at: usize,
     limit: usize,
+    library: &[u8],
     text: &[u8],
     tape: &[u32],
     row: Row,
     sort: &[u8],
     function: &[u8],
 ) -> usize
-    ensures { λ r. ⌜ pen r (now (out .exit)) ≡ written limit (item-text (now (sort .entry)) (now (function .entry)) (name-of (now (text .entry)) (row .name)) [] (item-of (now (text .entry)) (now (tape .entry)) row)) (pen at (now (out .entry))) ⌝ }
+    ensures { λ r. ⌜ pen r (now (out .exit)) ≡ written limit (item-text (now (sort .entry)) (now (function .entry)) (name-of (joint (now (library .entry)) (now (text .entry))) (row .name)) [] (item-of (joint (now (library .entry)) (now (text .entry))) (now (tape .entry)) row)) (pen at (now (out .entry))) ⌝ }
 {
     let kind = row.kind;
     let name = row.name;
     let a = put_key(out, at, limit, kind, sort, function);
     let b = pen::put_text(out, a, limit, b"=");
-    let c = pen::put_name(out, b, limit, text, name);
-    put_rest(out, c, limit, text, tape, tape, 0, 0, row)
+    let c = pen::put_name(out, b, limit, library, text, name);
+    put_rest(out, c, limit, library, text, tape, tape, 0, 0, row)
 }
 
 // The lines of a hidden item, which is written by its number.
@@ -108,6 +120,7 @@ pub fn put_hidden_item(
     out: &mut [u8],
     at: usize,
     limit: usize,
+    library: &[u8],
     text: &[u8],
     tape: &[u32],
     work: &[u32],
@@ -117,11 +130,11 @@ pub fn put_hidden_item(
     number: u32,
 ) -> usize
     requires { ⌜ count < 2 ^ 31 ⌝ }
-    ensures { λ r. ⌜ pen r (now (out .exit)) ≡ written limit (item-text (bytes "hidden-sort") (bytes "hidden-function") (numbered number) (items-at (now (text .entry)) (now (tape .entry)) (now (work .entry)) base count) (item-of (now (text .entry)) (now (tape .entry)) row)) (pen at (now (out .entry))) ⌝ }
+    ensures { λ r. ⌜ pen r (now (out .exit)) ≡ written limit (item-text (bytes "hidden-sort") (bytes "hidden-function") (numbered number) (items-at (joint (now (library .entry)) (now (text .entry))) (now (tape .entry)) (now (work .entry)) base count) (item-of (joint (now (library .entry)) (now (text .entry))) (now (tape .entry)) row)) (pen at (now (out .entry))) ⌝ }
 {
     let kind = row.kind;
     let a = put_key(out, at, limit, kind, b"hidden-sort", b"hidden-function");
     let b = pen::put_text(out, a, limit, b"=");
     let c = pen::put_numbered(out, b, limit, number);
-    put_rest(out, c, limit, text, tape, work, base, count, row)
+    put_rest(out, c, limit, library, text, tape, work, base, count, row)
 }

@@ -12,6 +12,7 @@ use tables::sections::same_section;
 ghost use mathlib.Core.Path.{_≡_};
 ghost use Prim.Native.Nat.{_+_, _*_, _^_, _<_};
 ghost use Rattle.names.specs.Word.{name-of};
+ghost use Rattle.names.specs.Joint.{joint};
 ghost use Rattle.tables.specs.Rows.{section-of};
 ghost use Rattle.forms.specs.Forms.{equation-row-at};
 ghost use Rattle.pen.specs.Pen.{pen, written, rows-text};
@@ -22,6 +23,7 @@ fn put_standing_row(
     out: &mut [u8],
     at: usize,
     limit: usize,
+    library: &[u8],
     text: &[u8],
     tape: &[u32],
     work: &[u32],
@@ -31,12 +33,12 @@ fn put_standing_row(
     function: &[u8],
     i: u32,
 ) -> usize
-    ensures { λ r. ⌜ pen r (now (out .exit)) ≡ written limit (standing-row (now (text .entry)) (now (tape .entry)) (now (work .entry)) base (section-of (now (text .entry)) section) (now (sort .entry)) (now (function .entry)) i) (pen at (now (out .entry))) ⌝ }
+    ensures { λ r. ⌜ pen r (now (out .exit)) ≡ written limit (standing-row (joint (now (library .entry)) (now (text .entry))) (now (tape .entry)) (now (work .entry)) base (section-of (joint (now (library .entry)) (now (text .entry))) section) (now (sort .entry)) (now (function .entry)) i) (pen at (now (out .entry))) ⌝ }
 {
     let row = read_row(work, base, i);
     let standing = row.standing;
-    if same_section(text, section, standing) {
-        return put_visible_item(out, at, limit, text, tape, row, sort, function);
+    if same_section(library, text, section, standing) {
+        return put_visible_item(out, at, limit, library, text, tape, row, sort, function);
     }
     at
 }
@@ -46,6 +48,7 @@ fn put_standing(
     out: &mut [u8],
     at: usize,
     limit: usize,
+    library: &[u8],
     text: &[u8],
     tape: &[u32],
     work: &[u32],
@@ -55,7 +58,7 @@ fn put_standing(
     sort: &[u8],
     function: &[u8],
 ) -> usize
-    ensures { λ r. ⌜ pen r (now (out .exit)) ≡ written limit (standing-text (now (text .entry)) (now (tape .entry)) (now (work .entry)) base count (section-of (now (text .entry)) section) (now (sort .entry)) (now (function .entry))) (pen at (now (out .entry))) ⌝ }
+    ensures { λ r. ⌜ pen r (now (out .exit)) ≡ written limit (standing-text (joint (now (library .entry)) (now (text .entry))) (now (tape .entry)) (now (work .entry)) base count (section-of (joint (now (library .entry)) (now (text .entry))) section) (now (sort .entry)) (now (function .entry))) (pen at (now (out .entry))) ⌝ }
 {
     let mut to = at;
     let mut i: u32 = 0;
@@ -64,6 +67,7 @@ fn put_standing(
             out,
             to,
             limit,
+            library,
             text,
             tape,
             work,
@@ -83,21 +87,23 @@ fn put_parameter(
     out: &mut [u8],
     at: usize,
     limit: usize,
+    library: &[u8],
     text: &[u8],
     tape: &[u32],
     work: &[u32],
     f: Form,
     p: u32,
 ) -> usize
-    ensures { λ r. ⌜ pen r (now (out .exit)) ≡ written limit (formals-text (now (text .entry)) (now (tape .entry)) (now (work .entry)) f (name-of (now (text .entry)) p)) (pen at (now (out .entry))) ⌝ }
+    ensures { λ r. ⌜ pen r (now (out .exit)) ≡ written limit (formals-text (joint (now (library .entry)) (now (text .entry))) (now (tape .entry)) (now (work .entry)) f (name-of (joint (now (library .entry)) (now (text .entry))) p)) (pen at (now (out .entry))) ⌝ }
 {
     let base = f.visible;
     let count = f.visible_count;
-    let a = put_line(out, at, limit, text, b"parameter", p);
+    let a = put_line(out, at, limit, library, text, b"parameter", p);
     put_standing(
         out,
         a,
         limit,
+        library,
         text,
         tape,
         work,
@@ -114,16 +120,17 @@ fn put_parameter_row(
     out: &mut [u8],
     at: usize,
     limit: usize,
+    library: &[u8],
     text: &[u8],
     tape: &[u32],
     work: &[u32],
     f: Form,
     i: u32,
 ) -> usize
-    ensures { λ r. ⌜ pen r (now (out .exit)) ≡ written limit (parameter-row (now (text .entry)) (now (tape .entry)) (now (work .entry)) f i) (pen at (now (out .entry))) ⌝ }
+    ensures { λ r. ⌜ pen r (now (out .exit)) ≡ written limit (parameter-row (joint (now (library .entry)) (now (text .entry))) (now (tape .entry)) (now (work .entry)) f i) (pen at (now (out .entry))) ⌝ }
 {
     let p = word_at(work, f.parameters as usize + i as usize);
-    put_parameter(out, at, limit, text, tape, work, f, p)
+    put_parameter(out, at, limit, library, text, tape, work, f, p)
 }
 
 // All parameters of the form.
@@ -131,18 +138,19 @@ fn put_parameters(
     out: &mut [u8],
     at: usize,
     limit: usize,
+    library: &[u8],
     text: &[u8],
     tape: &[u32],
     work: &[u32],
     f: Form,
 ) -> usize
-    ensures { λ r. ⌜ pen r (now (out .exit)) ≡ written limit (rows-text (parameter-row (now (text .entry)) (now (tape .entry)) (now (work .entry)) f) 0 (f .«parameter_count»)) (pen at (now (out .entry))) ⌝ }
+    ensures { λ r. ⌜ pen r (now (out .exit)) ≡ written limit (rows-text (parameter-row (joint (now (library .entry)) (now (text .entry))) (now (tape .entry)) (now (work .entry)) f) 0 (f .«parameter_count»)) (pen at (now (out .entry))) ⌝ }
 {
     let count = f.parameter_count;
     let mut to = at;
     let mut i: u32 = 0;
     while i < count {
-        to = put_parameter_row(out, to, limit, text, tape, work, f, i);
+        to = put_parameter_row(out, to, limit, library, text, tape, work, f, i);
         i += 1;
     }
     to
@@ -153,12 +161,13 @@ pub fn put_visible(
     out: &mut [u8],
     at: usize,
     limit: usize,
+    library: &[u8],
     text: &[u8],
     tape: &[u32],
     work: &[u32],
     f: Form,
 ) -> usize
-    ensures { λ r. ⌜ pen r (now (out .exit)) ≡ written limit (visible-text (now (text .entry)) (now (tape .entry)) (now (work .entry)) f) (pen at (now (out .entry))) ⌝ }
+    ensures { λ r. ⌜ pen r (now (out .exit)) ≡ written limit (visible-text (joint (now (library .entry)) (now (text .entry))) (now (tape .entry)) (now (work .entry)) f) (pen at (now (out .entry))) ⌝ }
 {
     let base = f.visible;
     let count = f.visible_count;
@@ -166,6 +175,7 @@ pub fn put_visible(
         out,
         at,
         limit,
+        library,
         text,
         tape,
         work,
@@ -175,7 +185,7 @@ pub fn put_visible(
         b"sort",
         b"function",
     );
-    put_parameters(out, a, limit, text, tape, work, f)
+    put_parameters(out, a, limit, library, text, tape, work, f)
 }
 
 // Row i of the hidden items, which has the number i + 1.
@@ -183,6 +193,7 @@ fn put_hidden_row(
     out: &mut [u8],
     at: usize,
     limit: usize,
+    library: &[u8],
     text: &[u8],
     tape: &[u32],
     work: &[u32],
@@ -192,10 +203,22 @@ fn put_hidden_row(
 ) -> usize
     requires { ⌜ count < 2 ^ 31 ⌝ }
     requires { ⌜ i < count ⌝ }
-    ensures { λ r. ⌜ pen r (now (out .exit)) ≡ written limit (hidden-row (now (text .entry)) (now (tape .entry)) (now (work .entry)) base count i) (pen at (now (out .entry))) ⌝ }
+    ensures { λ r. ⌜ pen r (now (out .exit)) ≡ written limit (hidden-row (joint (now (library .entry)) (now (text .entry))) (now (tape .entry)) (now (work .entry)) base count i) (pen at (now (out .entry))) ⌝ }
 {
     let row = read_row(work, base, i);
-    put_hidden_item(out, at, limit, text, tape, work, base, count, row, i + 1)
+    put_hidden_item(
+        out,
+        at,
+        limit,
+        library,
+        text,
+        tape,
+        work,
+        base,
+        count,
+        row,
+        i + 1,
+    )
 }
 
 // The hidden items: `count` rows from `base` on.
@@ -203,6 +226,7 @@ fn put_hidden_items(
     out: &mut [u8],
     at: usize,
     limit: usize,
+    library: &[u8],
     text: &[u8],
     tape: &[u32],
     work: &[u32],
@@ -210,12 +234,12 @@ fn put_hidden_items(
     count: u32,
 ) -> usize
     requires { ⌜ count < 2 ^ 31 ⌝ }
-    ensures { λ r. ⌜ pen r (now (out .exit)) ≡ written limit (rows-text (hidden-row (now (text .entry)) (now (tape .entry)) (now (work .entry)) base count) 0 count) (pen at (now (out .entry))) ⌝ }
+    ensures { λ r. ⌜ pen r (now (out .exit)) ≡ written limit (rows-text (hidden-row (joint (now (library .entry)) (now (text .entry))) (now (tape .entry)) (now (work .entry)) base count) 0 count) (pen at (now (out .entry))) ⌝ }
 {
     let mut to = at;
     let mut i: u32 = 0;
     while i < count {
-        to = put_hidden_row(out, to, limit, text, tape, work, base, count, i);
+        to = put_hidden_row(out, to, limit, library, text, tape, work, base, count, i);
         i += 1;
     }
     to
@@ -247,18 +271,19 @@ fn put_equation_row(
     out: &mut [u8],
     at: usize,
     limit: usize,
+    library: &[u8],
     text: &[u8],
     work: &[u32],
     f: Form,
     i: u32,
 ) -> usize
-    ensures { λ r. ⌜ pen r (now (out .exit)) ≡ written limit (equation-row (now (text .entry)) (now (work .entry)) f i) (pen at (now (out .entry))) ⌝ }
+    ensures { λ r. ⌜ pen r (now (out .exit)) ≡ written limit (equation-row (joint (now (library .entry)) (now (text .entry))) (now (work .entry)) f i) (pen at (now (out .entry))) ⌝ }
 {
     let visible = f.visible;
     let nodes = f.nodes;
     let row = read_equation(work, f.equations, i);
     let a = pen::put_text(out, at, limit, b"equation=");
-    let b = put_equation(out, a, limit, text, work, visible, nodes, row);
+    let b = put_equation(out, a, limit, library, text, work, visible, nodes, row);
     pen::put_text(out, b, limit, b"\n")
 }
 
@@ -267,17 +292,18 @@ fn put_equations(
     out: &mut [u8],
     at: usize,
     limit: usize,
+    library: &[u8],
     text: &[u8],
     work: &[u32],
     f: Form,
 ) -> usize
-    ensures { λ r. ⌜ pen r (now (out .exit)) ≡ written limit (rows-text (equation-row (now (text .entry)) (now (work .entry)) f) 0 (f .«equation_count»)) (pen at (now (out .entry))) ⌝ }
+    ensures { λ r. ⌜ pen r (now (out .exit)) ≡ written limit (rows-text (equation-row (joint (now (library .entry)) (now (text .entry))) (now (work .entry)) f) 0 (f .«equation_count»)) (pen at (now (out .entry))) ⌝ }
 {
     let count = f.equation_count;
     let mut to = at;
     let mut i: u32 = 0;
     while i < count {
-        to = put_equation_row(out, to, limit, text, work, f, i);
+        to = put_equation_row(out, to, limit, library, text, work, f, i);
         i += 1;
     }
     to
@@ -288,16 +314,17 @@ pub fn put_hidden(
     out: &mut [u8],
     at: usize,
     limit: usize,
+    library: &[u8],
     text: &[u8],
     tape: &[u32],
     work: &[u32],
     f: Form,
 ) -> usize
     requires { ⌜ f .«hidden_count» < 2 ^ 31 ⌝ }
-    ensures { λ r. ⌜ pen r (now (out .exit)) ≡ written limit (hidden-text (now (text .entry)) (now (tape .entry)) (now (work .entry)) f) (pen at (now (out .entry))) ⌝ }
+    ensures { λ r. ⌜ pen r (now (out .exit)) ≡ written limit (hidden-text (joint (now (library .entry)) (now (text .entry))) (now (tape .entry)) (now (work .entry)) f) (pen at (now (out .entry))) ⌝ }
 {
     let base = f.hidden;
     let count = f.hidden_count;
-    let a = put_hidden_items(out, at, limit, text, tape, work, base, count);
-    put_equations(out, a, limit, text, work, f)
+    let a = put_hidden_items(out, at, limit, library, text, tape, work, base, count);
+    put_equations(out, a, limit, library, text, work, f)
 }

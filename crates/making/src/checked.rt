@@ -8,6 +8,7 @@ use forms::Verdict;
 ghost use mathlib.Core.Path.{_≡_};
 ghost use Prim.Native.Nat.{_+_, _≤_};
 ghost use lib.ListN.{length};
+ghost use Rattle.names.specs.Joint.{joint};
 ghost use Rattle.making.specs.Checked.{CheckRoom, fitting, CheckedForm};
 
 // The form, if it fits.
@@ -25,16 +26,26 @@ fn fitting(f: Form) -> Made
 }
 
 // The form of the block, if it is consistent and fits.
-pub fn checked(text: &[u8], work: &mut [u32], t: usize, f: Form, b: Block) -> Made
+pub fn checked(library: &[u8], text: &[u8], work: &mut [u32], t: usize, f: Form, b: Block) -> Made
     requires { ⌜ CheckRoom (length (now work)) t f b ⌝ }
-    ensures { λ r. ⌜ CheckedForm (now (text .entry)) t (now (work .entry)) f b r (now (work .exit)) ⌝ }
+    ensures { λ r. ⌜ CheckedForm (joint (now (library .entry)) (now (text .entry))) t (now (work .entry)) f b r (now (work .exit)) ⌝ }
 {
     let parameters = f.parameters;
     let names = f.parameter_count;
     let visible = f.visible;
     let rows = f.visible_count;
     let order = b.order;
-    match consistent(text, work, t, parameters, names, visible, rows, order) {
+    match consistent(
+        library,
+        text,
+        work,
+        t,
+        parameters,
+        names,
+        visible,
+        rows,
+        order,
+    ) {
         Verdict::Stop(k, w) => Made::Refused(k, w),
         Verdict::Fine => fitting(f),
     }

@@ -1,4 +1,4 @@
--- The modules of a text that is read have distinct names. With it a later proof can show that 20 never comes: see `no-cycle`.
+-- The modules of texts that are read have distinct names. With it a later proof can show that 20 never comes: see `no-cycle`.
 use mathlib.Core.Path.{_≡_, refl, sym, ap, subst, _∙_}
 use Prim.Native.Nat.{ℕ, zero, suc}
 use native.Mathlib.Omega.{arith}
@@ -11,6 +11,9 @@ use Rattle.meaning.specs.Names.{Name, same, member}
 use Rattle.meaning.specs.Syntax.{Module}
 use Rattle.meaning.specs.Grammar.{State, Result, done, refused, after, _>>=_, _>>_, return, refuse, unexpected, if-next, too-many, name, fresh-name, a-module, modules, read}
 use Rattle.meaning.specs.Checks.{fine}
+use Rattle.meaning.specs.Reached.{module-names}
+use Rattle.meaning.specs.Texts.{Texts, read-texts, all-read, refused-in}
+use Rattle.meaning.specs.TextsLaws.{Parts, read-parts, by-library}
 use Rattle.meaning.specs.Evaluate.{Evaluated, named-by, reached-from, acyclic}
 
 -- no module is called like one before it, or like one of the names taken
@@ -91,9 +94,49 @@ module _ (text : List ℕ) where
   short-enough true r k p a t e = e
   short-enough false r k p a t e = not-done k p a t e
 
-  pub read-fresh : (ms : List Module) (s : State) → read text ≡ done ms s → Fresh [] ms
+  pub text-fresh : (n : ℕ) (taken : List Name) (ms : List Module) (s : State) → read text n taken ≡ done ms s → Fresh taken ms
   unfolding read
-  read-fresh ms s e = modules-fresh 64 [] _ s ms (short-enough _ _ _ _ ms s e)
+  text-fresh n taken ms s e = modules-fresh n taken _ s ms (short-enough _ _ _ _ ms s e)
+
+-- ---- both texts: the library's modules have distinct names, and the customer's have none of them
+
+fresh-as : (taken taken′ : List Name) (ms : List Module) → ((w : Name) → member w taken ≡ member w taken′) → Fresh taken ms → Fresh taken′ ms
+unfolding member
+fresh-as taken taken′ [] h f = tt
+fresh-as taken taken′ (m ∷ ms) h f =
+    (sym (h (m .name)) ∙ f .0, fresh-as (m .name ∷ taken) (m .name ∷ taken′) ms (λ w. ap (λ (b : Bool). pick (same w (m .name)) true b) (h w)) (f .1))
+
+member-moved : (w v : Name) (vs ws : List Name) → member w (vs ++ (v ∷ ws)) ≡ member w (v ∷ (vs ++ ws))
+unfolding member pick
+member-moved w v [] ws = refl
+member-moved w v (u ∷ vs) ws = ap (λ (b : Bool). pick (same w u) true b) (member-moved w v vs ws) ∙ swapped (same w u) (same w v) (member w (vs ++ ws))
+  where
+    swapped : (a b c : Bool) → pick a true (pick b true c) ≡ pick b true (pick a true c)
+    swapped true true c = refl
+    swapped true false c = refl
+    swapped false true c = refl
+    swapped false false c = refl
+
+fresh-both : (taken : List Name) (ls ms : List Module) → Fresh taken ls → Fresh (module-names ls ++ taken) ms → Fresh taken (ls ++ ms)
+unfolding module-names
+fresh-both taken [] ms f g = g
+fresh-both taken (l ∷ ls) ms f g =
+    (f .0, fresh-both (l .name ∷ taken) ls ms (f .1) (fresh-as _ _ ms (λ w. sym (member-moved w (l .name) (module-names ls) taken)) g))
+
+nothing-more : (xs : List Name) → xs ++ [] ≡ xs
+nothing-more [] = refl
+nothing-more (x ∷ xs) = ap (x ∷_) (nothing-more xs)
+
+pub read-fresh : (t : Texts) (ms : List Module) → read-texts t ≡ all-read ms → Fresh [] ms
+read-fresh t ms e = go (read-parts t ms e)
+  where
+    go : Parts t ms → Fresh [] ms
+    go p =
+        subst (Fresh []) (sym (p .sequence))
+        (fresh-both [] (p .library-modules) (p .customer-modules)
+        (by-library (Fresh []) tt p (λ s q. text-fresh (t .library) 64 [] (p .library-modules) s q))
+        (subst (λ (ws : List Name). Fresh ws (p .customer-modules)) (sym (nothing-more (module-names (p .library-modules))))
+        (text-fresh (t .customer) _ _ (p .customer-modules) (p .state) (p .customer-read))))
 
 -- ---- 20
 

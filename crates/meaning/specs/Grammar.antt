@@ -8,7 +8,7 @@ use lib.ListN.{length}
 use Rattle.types.specs.declared.Token.{Token}
 use Rattle.meaning.specs.Lists.{pick, before}
 use Rattle.meaning.specs.Names.{byte, slice, Name, same, member}
-use Rattle.meaning.specs.Numbers.{text-size, name-size, module-limit, import-limit, binding-limit, pair-limit, argument-limit, condition-limit, bracket-limit, node-limit, no-token-there, not-allowed, other-end, over-size, module-twice}
+use Rattle.meaning.specs.Numbers.{text-size, name-size, import-limit, binding-limit, pair-limit, argument-limit, condition-limit, bracket-limit, node-limit, no-token-there, not-allowed, other-end, over-size, module-twice}
 use Rattle.meaning.specs.Tokens.{token, end-of-text, ident, arrow, implies, no-token, begin-key, bound-key, by-key, end-key, equations-key, exports-key, functions-key, imports-key, module-key, parameters-key, renamed-key, sorts-key, to-key, variables-key, when-key, token-at}
 use Rattle.meaning.specs.Syntax.{Function, Signature, Parameter, Pair, Clause, renamed-by, bound-by, Import, VariableGroup, Term, node, terms, Sides, Equation, Module}
 
@@ -339,10 +339,10 @@ module _ (text : List ℕ) where
     ms ← if-next (is end-of-text) (return []) (λ s. modules n (m .name ∷ taken) s)
     return (m ∷ ms)
 
-  -- a text that is too long is refused before it is read
-  unfoldable pub read : Result (List Module)
-  read =
-      let r = modules module-limit [] (record { token = token-at text 0; nodes = 0 }) in
+  -- the whole text: at most n modules, none called by a name taken. A text that is too long is refused before it is read
+  unfoldable pub read : ℕ → List Name → Result (List Module)
+  read n taken =
+      let r = modules n taken (record { token = token-at text 0; nodes = 0 }) in
       pick (leb (length text) text-size) r (refused over-size text-size)
 
 -- opens every definition of this file

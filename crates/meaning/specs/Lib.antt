@@ -14,12 +14,15 @@ pub mod Typing
 pub mod Evaluate
 pub mod Reached
 pub mod Listing
+pub mod Texts
 pub mod Answer
 pub mod Reader
 pub mod Trials
 pub mod Laws
 pub mod GrammarLaws
 pub mod Contract
+pub mod TextsLaws
+pub mod Base
 pub mod Distinct
 pub mod OrderLaws
 pub mod ListingOrder

@@ -13,6 +13,7 @@ use Rattle.meaning.specs.Grammar.{name, exports, imports}
 use Rattle.meaning.specs.Normal.{empty}
 use Rattle.meaning.specs.Checks.{fine, stop}
 use Rattle.meaning.specs.Evaluate.{acyclic, clauses}
+use Rattle.meaning.specs.Texts.{Texts, two-texts}
 use Rattle.meaning.specs.Answer.{listing, refusal, answer}
 use Rattle.meaning.specs.Reader.{a-line, at-end, refused-line, line-at}
 use Rattle.meaning.specs.Trials.{all-opened}
@@ -53,29 +54,29 @@ first-equals = refl
 
 -- ---- what is lent, whatever the memory's size
 
-short-memory : (memory output : ℕ) (asked : Name) (text : List ℕ) → ltb memory memory-size ≡ true → answer memory output asked text ≡ refusal lent-short 0 asked [] 0
+short-memory : (memory output : ℕ) (asked : Name) (t : Texts) → ltb memory memory-size ≡ true → answer memory output asked t ≡ refusal lent-short 0 asked [] 0
 unfolding answer pick
-short-memory memory output asked text e = rw e
+short-memory memory output asked t e = rw e
 
-exact-output : listing (answer memory-size 15 (bytes "M") (bytes "module M begin end M")) ≡ bytes "module=M\nend=M\n"
+exact-output : listing (answer memory-size 15 (bytes "M") (two-texts [] (bytes "module M begin end M"))) ≡ bytes "module=M\nend=M\n"
 unfolding all-opened
 exact-output = refl
 
-short-output : answer memory-size 14 (bytes "M") (bytes "module M begin end M") ≡ refusal lent-short 1 (bytes "M") [] 0
+short-output : answer memory-size 14 (bytes "M") (two-texts [] (bytes "module M begin end M")) ≡ refusal lent-short 1 (bytes "M") [] 0
 unfolding all-opened
 short-output = refl
 
 -- ---- readings that look right
 
 -- a section is no string: a parameter called `hidden` is not the hidden section
-hidden-parameter : answer memory-size 0 (bytes "M") (bytes "module M begin parameters hidden begin sorts A end hidden sorts A end M") ≡ refusal clashing 1 (bytes "M") (bytes "A") 0
+hidden-parameter : answer memory-size 0 (bytes "M") (two-texts [] (bytes "module M begin parameters hidden begin sorts A end hidden sorts A end M")) ≡ refusal clashing 1 (bytes "M") (bytes "A") 0
 unfolding all-opened
 hidden-parameter = refl
 
 -- an actual name keeps its own origin
 actual-origin :
     listing
-    (answer memory-size 99 (bytes "N") (bytes "module L begin parameters P begin sorts X end P end L module B begin exports begin sorts Y end end B module N begin imports L { P bound by [ X -> Y ] to B } end N"))
+    (answer memory-size 99 (bytes "N") (two-texts [] (bytes "module L begin parameters P begin sorts X end P end L module B begin exports begin sorts Y end end B module N begin imports L { P bound by [ X -> Y ] to B } end N")))
     ≡ bytes "module=N\nsort=Y\norigin=[B,export,sort,Y]\nend=N\n"
 unfolding all-opened
 actual-origin = refl
@@ -83,7 +84,7 @@ actual-origin = refl
 -- a hidden function of a module that is imported under two renamings is two functions
 two-instances :
     listing
-    (answer memory-size 999 (bytes "N") (bytes "module B begin exports begin sorts A end functions g : A -> A end B module N begin imports B { renamed by [ A -> C ] }, B { renamed by [ A -> D ] } end N"))
+    (answer memory-size 999 (bytes "N") (two-texts [] (bytes "module B begin exports begin sorts A end functions g : A -> A end B module N begin imports B { renamed by [ A -> C ] }, B { renamed by [ A -> D ] } end N")))
     ≡ bytes "module=N\nsort=C\norigin=[B,export,sort,A]\nsort=D\norigin=[B,export,sort,A]\nhidden-function={1}:C->C\norigin=[B,hidden,function,g:A->A]\nhidden-function={2}:D->D\norigin=[B,hidden,function,g:A->A]\nend=N\n"
 unfolding all-opened
 two-instances = refl
@@ -91,7 +92,7 @@ two-instances = refl
 -- imported hidden items never clash: B and C hide a sort each that the other exports
 hidden-names :
     listing
-    (answer memory-size 999 (bytes "N") (bytes "module B begin exports begin sorts A end sorts S end B module C begin exports begin sorts S end sorts A end C module N begin imports B, C end N"))
+    (answer memory-size 999 (bytes "N") (two-texts [] (bytes "module B begin exports begin sorts A end sorts S end B module C begin exports begin sorts S end sorts A end C module N begin imports B, C end N")))
     ≡ bytes "module=N\nsort=A\norigin=[B,export,sort,A]\nsort=S\norigin=[C,export,sort,S]\nhidden-sort={1}\norigin=[B,hidden,sort,S]\nhidden-sort={2}\norigin=[C,hidden,sort,A]\nend=N\n"
 unfolding all-opened
 hidden-names = refl

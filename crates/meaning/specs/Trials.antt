@@ -20,12 +20,13 @@ use Rattle.meaning.specs.Typing.{typing-opened}
 use Rattle.meaning.specs.Evaluate.{evaluate-opened}
 use Rattle.meaning.specs.Reached.{reached-opened}
 use Rattle.meaning.specs.Listing.{listing-opened}
+use Rattle.meaning.specs.Texts.{texts-opened}
 use Rattle.meaning.specs.Answer.{asfnorm, answer-opened}
 use Rattle.meaning.specs.Reader.{reader-opened}
 
 -- opens the whole definition, so that it computes
 unfoldable pub all-opened : Unit {0}
-unfolding lists-opened names-opened numbers-opened tokens-opened syntax-opened grammar-opened origins-opened normal-opened written-opened checks-opened clauses-opened own-opened typing-opened evaluate-opened reached-opened listing-opened answer-opened reader-opened
+unfolding lists-opened names-opened numbers-opened tokens-opened syntax-opened grammar-opened origins-opened normal-opened written-opened checks-opened clauses-opened own-opened typing-opened evaluate-opened reached-opened listing-opened texts-opened answer-opened reader-opened
 all-opened = tt
 
 -- what the program reads and what it prints

@@ -57,7 +57,7 @@ module _ {text : List ℕ} {A : Type 0} where
       → Matches text i j Φ (place (p .token) k (p .entries)) t o r → Matches text i′ j′ Φ p t o r
   recast k i′ j′ o r h (both-done a q u es φ s) =
       both-done a q u es φ
-      (record { stands = s .stands; paid = omega (arith, s .paid); size = s .size; count = s .count; said = s .said; left = s .left })
+      (record { stands = s .stands; paid = omega (arith, s .paid); size = s .size; count = s .count; said = s .said; left = s .left; inside = s .inside })
   recast k i′ j′ o r h (both-refused m n u l) = both-refused m n u l
 
   -- room is kept for later
@@ -125,6 +125,7 @@ module _ {text : List ℕ} {A : Type 0} where
         count = omega arith;
         said = sym (append-nil (entries text (p .entries) t));
         left = refl;
+        inside = λ h. h;
       })
 
   pub stay-meant : {i : ℕ} {Ψ : Meaning A} (a : A) → ((s : State) → Ψ a s []) → Reads text i i Model.stay (return a) Ψ

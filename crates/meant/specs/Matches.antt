@@ -1,14 +1,15 @@
 -- When a rule of the model, which writes the tape, reads as a rule of the grammar does, which gives the syntax: both refuse with one number
 -- at one place, or both go on from one state, and the entries that were written are those of the syntax.
 use mathlib.Core.Path.{_≡_, ap, _∙_}
-use Prim.Native.Nat.{ℕ, _+_, _≤_}
+use Prim.Native.Nat.{ℕ, _+_, _/_, _%_, _≤_, min}
 use mathlib.Core.List.{List, _++_, append-assoc}
 use native.Mathlib.Omega.{arith}
-use lib.ListN.{length, drop, length-append}
+use lib.ListN.{length, take, drop, length-append}
 use lib.Seq.{drop-drop}
 use Rattle.types.specs.declared.Token.{Token}
-use Rattle.meaning.specs.Numbers.{text-size}
+use Rattle.meaning.specs.Numbers.{text-size, name-size}
 use Rattle.meaning.specs.Tokens.{token-at}
+use Rattle.meaning.specs.OrderLaws.{Every}
 use Rattle.meaning.specs.Grammar.{State, Result, done, refused, Parser, after}
 use Rattle.entries.specs.declared.Place.{Place}
 use Rattle.entries.specs.declared.Reading.the-variants.{Done, Refused}
@@ -29,6 +30,14 @@ pub record Ready (text : List ℕ) (i : ℕ) (p : Place) (t : List ℕ) : Type 0
   pub stands : Stands text (p .token)
   pub room : p .entries + i ≤ p .token .start
 
+-- an entry whose name lies within the text
+abbrev pub Lies : List ℕ → ℕ → Type 0
+Lies text e = e / 32 / 64 + min (e / 32 % 64) name-size ≤ length text
+
+-- the first n entries of a tape do
+abbrev pub Inside : List ℕ → ℕ → List ℕ → Type 0
+Inside text n t = Every (Lies text) (take n t)
+
 -- From the place p and the tape t to the place q and the tape u, which has the entries es more. The room that was i is j
 pub record Step (text : List ℕ) (i j : ℕ) (p : Place) (t : List ℕ) (q : Place) (u : List ℕ) (es : List Entry) : Type 0 where
   pub stands : Stands text (q .token)
@@ -37,6 +46,7 @@ pub record Step (text : List ℕ) (i j : ℕ) (p : Place) (t : List ℕ) (q : Pl
   pub count : q .entries ≡ p .entries + length es
   pub said : entries text (q .entries) u ≡ entries text (p .entries) t ++ es
   pub left : drop (q .entries) u ≡ drop (q .entries) t
+  pub inside : Inside text (p .entries) t → Inside text (q .entries) u
 
 abbrev pub state : Place → State
 state p = record { token = p .token; nodes = p .nodes }
@@ -76,6 +86,7 @@ module _ {text : List ℕ} where
     count = omega (arith, a .count, b .count, length-append es fs);
     said = b .said ∙ ap (λ (x : List Entry). x ++ fs) (a .said) ∙ append-assoc (entries text (p .entries) t) es fs;
     left = b .left ∙ beyond;
+    inside = λ h. b .inside (a .inside h);
   }
     where
       beyond : drop (v .entries) u ≡ drop (v .entries) t

@@ -8,7 +8,8 @@ use lib.Dec.{leb}
 use lib.ListN.{length, drop, replicate}
 use borrow.Author.Tests.{leb-true}
 use Rattle.meaning.specs.Lists.{pick}
-use Rattle.meaning.specs.Numbers.{text-size, module-limit, over-size}
+use Rattle.meaning.specs.Names.{Name}
+use Rattle.meaning.specs.Numbers.{text-size, over-size}
 use Rattle.meaning.specs.Tokens.{token-at}
 use Rattle.meaning.specs.Syntax.{Module}
 use Rattle.meaning.specs.Grammar.{State, Result, done, refused}
@@ -18,7 +19,7 @@ use Rattle.entries.specs.declared.Reading.the-variants.{Done, Refused}
 use Rattle.tape.specs.Tape.{entries, flat-modules}
 use Rattle.entries.specs.Model.{Out, out, place, wiped}
 use Rattle.entries.specs.Model
-use Rattle.meant.specs.Matches.{Ready, Step, state, Matches, both-done, both-refused, means, next-ready}
+use Rattle.meant.specs.Matches.{Inside, Ready, Step, state, Matches, both-done, both-refused, means, next-ready}
 use Rattle.meant.specs.Lines.{whether}
 use Rattle.meant.specs.Steps.{forward, ends-within}
 use Rattle.meant.specs.Modules.{modules-at}
@@ -30,6 +31,8 @@ pub record Says (text : List ℕ) (ms : List Module) (t : List ℕ) (p : Place) 
   pub within : p .entries ≤ length text
   pub size : length u ≡ length t
   pub left : drop (p .entries) u ≡ drop (p .entries) t
+  pub inside : Inside text (p .entries) u
+  pub short : length text ≤ text-size
 
 -- of one text, what the model leaves of the lent tape t and what the grammar reads: the modules that the tape says, or one refusal and a
 -- tape of zeros
@@ -38,37 +41,40 @@ pub data Agree (text t : List ℕ) : Out → Result (List Module) → Type 0 whe
   both-refuse : (k q : ℕ) → Agree text t (out (Refused k q) (replicate (length t) 0)) (refused k q)
 
 module _ {text : List ℕ} where
-  says : {ms : List Module} {p q : Place} {t u : List ℕ} → entries text (p .entries) t ≡ [] → Ready text 0 p t
+  says : {ms : List Module} {p q : Place} {t u : List ℕ} → entries text (p .entries) t ≡ [] → Inside text (p .entries) t → Ready text 0 p t
       → Step text 0 0 p t q u (flat-modules ms) → Says text ms t q u
-  says {ms = ms} e r s =
+  says {ms = ms} e i r s =
       let ready = next-ready r s in
       record {
         said = s .said ∙ ap (λ es. es ++ flat-modules ms) e;
         within = omega (arith, ready .room, forward ready, ends-within ready);
         size = s .size;
         left = s .left;
+        inside = s .inside i;
+        short = r .short;
       }
 
   -- a refusal wipes the tape
-  agreed : {p : Place} {t : List ℕ} (o : Out) (r : Result (List Module)) → entries text (p .entries) t ≡ [] → Ready text 0 p t
+  agreed : {p : Place} {t : List ℕ} (o : Out) (r : Result (List Module)) → entries text (p .entries) t ≡ [] → Inside text (p .entries) t
+      → Ready text 0 p t
       → Matches text 0 0 (means flat-modules) p t o r
       → Agree text t (wiped (o .answer) (o .tape)) r
   unfolding wiped
-  agreed o r e d (both-done ms q u es φ s) = both-read ms q u (says e d (rw φ at s))
-  agreed {t = t} o r e d (both-refused k n u l) = rw l (both-refuse k n)
+  agreed o r e i d (both-done ms q u es φ s) = both-read ms q u (says e i d (rw φ at s))
+  agreed {t = t} o r e i d (both-refused k n u l) = rw l (both-refuse k n)
 
-module _ (text t : List ℕ) (h : min (length text) text-size ≤ length t) where
+module _ (text : List ℕ) (n : ℕ) (before : List Name) (t : List ℕ) (h : min (length text) text-size ≤ length t) where
   at-first : leb (length text) text-size ≡ true → Ready text 0 (place (token-at text 0) 0 0) t
   at-first e =
       let short = leb-true (length text) text-size e in
       record { short = short; long = omega arith; stands = record { from = 0; within = omega arith; found = refl }; room = omega arith }
 
   -- a tape with room for the text, or for the longest text that is read
-  pub read-meant : Agree text t (Model.read text t) (Grammar.read text)
+  pub read-meant : Agree text t (Model.read text n before t) (Grammar.read text n before)
   unfolding Model.read Grammar.read wiped entries pick
   read-meant =
       whether (leb (length text) text-size)
-      (λ e. rw e (agreed _ _ refl (at-first e) (modules-at module-limit [] _ t (at-first e) (none-yet text t))))
+      (λ e. rw e (agreed _ _ refl tt (at-first e) (modules-at n before [] _ t (at-first e) (none-yet text t))))
       (λ e. rw e (both-refuse over-size text-size))
 
 -- ---- from the one reading to the other
@@ -112,15 +118,15 @@ module _ {text t : List ℕ} where
   means-refused k q o r (both-read ns p u w) e = cc
   means-refused k q o r (both-refuse m n) e = cc
 
-module _ (text t : List ℕ) (h : min (length text) text-size ≤ length t) where
-  pub read-done : (ms : List Module) (s : State) → Grammar.read text ≡ done ms s → Read text ms s t (Model.read text t)
-  read-done ms s e = told-read ms s _ _ (read-meant text t h) e
+module _ (text : List ℕ) (n : ℕ) (before : List Name) (t : List ℕ) (h : min (length text) text-size ≤ length t) where
+  pub read-done : (ms : List Module) (s : State) → Grammar.read text n before ≡ done ms s → Read text ms s t (Model.read text n before t)
+  read-done ms s e = told-read ms s _ _ (read-meant text n before t h) e
 
-  pub read-refused : (k q : ℕ) → Grammar.read text ≡ refused k q → Model.read text t ≡ out (Refused k q) (replicate (length t) 0)
-  read-refused k q e = told-refused k q _ _ (read-meant text t h) e
+  pub read-refused : (k q : ℕ) → Grammar.read text n before ≡ refused k q → Model.read text n before t ≡ out (Refused k q) (replicate (length t) 0)
+  read-refused k q e = told-refused k q _ _ (read-meant text n before t h) e
 
-  pub done-meant : (p : Place) → Model.read text t .answer ≡ Done p → Meant text t p (Model.read text t .tape) (Grammar.read text)
-  done-meant p e = means-read p _ _ (read-meant text t h) e
+  pub done-meant : (p : Place) → Model.read text n before t .answer ≡ Done p → Meant text t p (Model.read text n before t .tape) (Grammar.read text n before)
+  done-meant p e = means-read p _ _ (read-meant text n before t h) e
 
-  pub refused-meant : (k q : ℕ) → Model.read text t .answer ≡ Refused k q → Grammar.read text ≡ refused k q
-  refused-meant k q e = means-refused k q _ _ (read-meant text t h) e
+  pub refused-meant : (k q : ℕ) → Model.read text n before t .answer ≡ Refused k q → Grammar.read text n before ≡ refused k q
+  refused-meant k q e = means-refused k q _ _ (read-meant text n before t h) e

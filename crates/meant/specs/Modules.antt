@@ -1,9 +1,10 @@
 -- Modules: a name that none before has, what the module declares, and its name again; and all modules of a text.
 use mathlib.Core.Path.{_≡_, refl}
 use Prim.Native.Nat.{ℕ, zero, suc}
-use mathlib.Core.List.{List, [], _∷_, append-nil}
-use Rattle.meaning.specs.Lists.{each}
-use Rattle.meaning.specs.Names.{Name, member}
+use mathlib.Core.Bool.{Bool, true, false}
+use mathlib.Core.List.{List, [], _∷_, _++_, append-nil}
+use Rattle.meaning.specs.Lists.{pick, each}
+use Rattle.meaning.specs.Names.{Name, same, member}
 use Rattle.meaning.specs.Tokens.{end-of-text, begin-key, end-key, equations-key, exports-key, imports-key, module-key, parameters-key, variables-key}
 use Rattle.meaning.specs.Numbers.{over-size, module-twice}
 use Rattle.meaning.specs.Grammar.{Parser, _>>=_, return, is}
@@ -21,22 +22,37 @@ use Rattle.meant.specs.Rules.{signature-meant, parameters-meant, exports
 use Rattle.meant.specs.Equations.{equations-meant}
 use Rattle.meant.specs.Declared.{Declared, taken-told, one-more}
 
+-- a name among some or among others
+in-either : {A : Type 0} (n : Name) (xs ys : List Name) (x y : A)
+    → pick (member n (xs ++ ys)) x y ≡ pick (member n xs) x (pick (member n ys) x y)
+unfolding member pick
+in-either n [] ys x y = refl
+in-either n (v ∷ xs) ys x y = go (same n v) (in-either n xs ys x y)
+  where
+    go : (b : Bool) → pick (member n (xs ++ ys)) x y ≡ pick (member n xs) x (pick (member n ys) x y)
+        → pick (pick b true (member n (xs ++ ys))) x y ≡ pick (pick b true (member n xs)) x (pick (member n ys) x y)
+    go true h = refl
+    go false h = h
+
 module _ {text : List ℕ} where
   -- ---- a name that no module before has
 
-  module _ (names : List Name) (p : Place) (t : List ℕ) (r : Ready text 0 p t) (d : Declared names (entries text (p .entries) t)) where
-    fresh-at : Matches text 0 0 (λ n s es. Named text (p .token) module-role n s es) p t (Model.fresh-name text p t)
-        (Grammar.fresh-name text names (state p))
+  -- `before` are the names of modules that stand before the text
+  module _ (before names : List Name) (p : Place) (t : List ℕ) (r : Ready text 0 p t) (d : Declared names (entries text (p .entries) t)) where
+    fresh-at : Matches text 0 0 (λ n s es. Named text (p .token) module-role n s es) p t (Model.fresh-name text before p t)
+        (Grammar.fresh-name text (names ++ before) (state p))
     unfolding Model.fresh-name Grammar.fresh-name Model.refuse Grammar.refuse Model.stay return
     fresh-at =
         and-then (λ n s es. Named text (p .token) module-role n s es) _ _ _ _ (name-at module-role refl p t r) (λ n q u es k s.
-        rw (taken-told text names (word (p .token)) (p .entries) n t d (k .called))
-        (choice (member n names) _ _ _ _ (λ h. both-refused module-twice (p .token .start) u refl) (λ h. stay-at n (next-ready r s) (rw append-nil k))))
+        rw (taken-told text names (word (p .token)) (p .entries) n t d (k .called), k .called, in-either n names before)
+        (choice (member n names) _ _ _ _ (λ h. both-refused module-twice (p .token .start) u refl)
+        (λ h. choice (member n before) _ _ _ _ (λ g. both-refused module-twice (p .token .start) u refl)
+        (λ g. stay-at n (next-ready r s) (rw append-nil k)))))
 
     -- what follows the name asks for it again, by its word
     with-fresh : {B : Type 0} {Ψ : Meaning B} {X : ℕ → Writer} {Q : Name → Parser B}
         → ((w : ℕ) (n : Name) → name-of text w ≡ n → Reads text 0 0 (X w) (Q n) (λ b s es. Ψ b s (entry module-role n ∷ es)))
-        → Matches text 0 0 Ψ p t (Model.with-word (λ w. Model.fresh-name text >> X w) p t) ((Grammar.fresh-name text names >>= Q) (state p))
+        → Matches text 0 0 Ψ p t (Model.with-word (λ w. Model.fresh-name text before >> X w) p t) ((Grammar.fresh-name text (names ++ before) >>= Q) (state p))
     unfolding Model.with-word _>>_ _>>=_
     with-fresh {Ψ = Ψ} {X} {Q} e =
         and-then Ψ (X (word (p .token))) Q _ _ fresh-at
@@ -49,13 +65,13 @@ module _ {text : List ℕ} where
       → Declared names (entries text (q .entries) u)
   silent {p} {t = t} names s e d = rw (s .said, e, append-nil (entries text (p .entries) t)) d
 
-  a-module-at : (names : List Name) (p : Place) (t : List ℕ) → Ready text 0 p t → Declared names (entries text (p .entries) t)
-      → Matches text 0 0 (means flat-module) p t (Model.a-module text p t) (Grammar.a-module text names (state p))
+  a-module-at : (before names : List Name) (p : Place) (t : List ℕ) → Ready text 0 p t → Declared names (entries text (p .entries) t)
+      → Matches text 0 0 (means flat-module) p t (Model.a-module text before p t) (Grammar.a-module text (names ++ before) (state p))
   unfolding Model.a-module Grammar.a-module _>>_ Grammar._>>_ Model.module-named Model.front Model.back flat-module flat-signature each Grammar.empty-signature
-  a-module-at names p t r d =
+  a-module-at before names p t r d =
       and-then (means flat-module) _ _ _ _ (expect-meant module-key .from p t r) (λ a q u es ψ s.
       rw ψ
-      (with-fresh names q u (next-ready r s) (silent names s ψ d) (λ w n e.
+      (with-fresh before names q u (next-ready r s) (silent names s ψ d) (λ w n e.
       pass (expect-meant begin-key)
       (grouped _ _ _
       (line (optional-meant parameters-key [] refl parameters-meant) (λ ps.
@@ -72,15 +88,15 @@ module _ {text : List ℕ} where
 
   -- ---- all modules
 
-  pub modules-at : (n : ℕ) (names : List Name) (p : Place) (t : List ℕ) → Ready text 0 p t → Declared names (entries text (p .entries) t)
-      → Matches text 0 0 (means flat-modules) p t (Model.modules text n p t) (Grammar.modules text n names (state p))
+  pub modules-at : (n : ℕ) (before names : List Name) (p : Place) (t : List ℕ) → Ready text 0 p t → Declared names (entries text (p .entries) t)
+      → Matches text 0 0 (means flat-modules) p t (Model.modules text n before p t) (Grammar.modules text n (names ++ before) (state p))
   unfolding Model.modules Grammar.modules Model.too-many Grammar.too-many _>>_ _>>=_ flat-modules each
-  modules-at zero names p t r d = either (is module-key) (refuse-meant over-size) unexpected-meant .from p t r
-  modules-at (suc n) names p t r d =
-      and-then (means flat-modules) _ _ _ _ (a-module-at names p t r d) (λ m q u es φ s.
+  modules-at zero before names p t r d = either (is module-key) (refuse-meant over-size) unexpected-meant .from p t r
+  modules-at (suc n) before names p t r d =
+      and-then (means flat-modules) _ _ _ _ (a-module-at before names p t r d) (λ m q u es φ s.
       let ready = next-ready r s in
       handed (λ ms. m ∷ ms) _ _ (λ ms v fs ψ. ψ)
       (by-next (is end-of-text) _ _ _ _
       (λ h. stay-at [] ready (rw φ))
       (λ h. weaker {Φ = means flat-modules} _ _ (λ ms v fs ψ. rw (φ, ψ))
-      (modules-at n (m .name ∷ names) q u ready (rw (s .said, φ) (one-more names (entries text (p .entries) t) m d))))))
+      (modules-at n before (m .name ∷ names) q u ready (rw (s .said, φ) (one-more names (entries text (p .entries) t) m d))))))

@@ -25,8 +25,16 @@ use Rattle.entries.specs.declared.Place.{Place}
 use Rattle.tape.specs.Tape.{Entry, entry, entries, spelled}
 use Rattle.entries.specs.Model.{Writer, onward, _>>_, word, place}
 use Rattle.entries.specs.Model
-use Rattle.meant.specs.Matches.{Stands, Ready, Step, state, Meaning, Matches, both-done, both-refused, Reads, means, next-ready, and-then}
+use Rattle.meaning.specs.OrderLaws.{Every}
+use Rattle.meant.specs.Matches.{Lies, Inside, Stands, Ready, Step, state, Meaning, Matches, both-done, both-refused, Reads, means, next-ready, and-then}
 use Rattle.meant.specs.Lines.{whether, weaker, choice, by-next, either, unexpected-meant, refuse-meant, line}
+
+-- a name of n bytes that starts at s ends at s + n
+lies-within : (l s n : ℕ) → n ≤ 40 → s + n ≤ l → (s * 64 + n) / 64 + min ((s * 64 + n) % 64) 40 ≤ l
+lies-within l s n h k =
+    let a : (s * 64 + n) / 64 ≡ s = omega arith in
+    let b : (s * 64 + n) % 64 ≡ n = omega arith in
+    rw (a, b) (omega arith)
 
 module _ {text : List ℕ} {i : ℕ} {p : Place} {t : List ℕ} (r : Ready text i p t) where
   -- ---- where the next token lies
@@ -60,6 +68,7 @@ module _ {text : List ℕ} {i : ℕ} {p : Place} {t : List ℕ} (r : Ready text 
     count = omega arith;
     said = sym (append-nil (entries text (p .entries) t));
     left = refl;
+    inside = λ h. h;
   }
 
   -- ---- an entry
@@ -73,16 +82,26 @@ module _ {text : List ℕ} {i : ℕ} {p : Place} {t : List ℕ} (r : Ready text 
       map-end [] = refl
       map-end (v ∷ ws) = ap (λ es. spelled text v ∷ es) (map-end ws)
 
+  one-more-inside : (w : ℕ) → Lies text w → p .entries < length t → Inside text (p .entries) t
+      → Inside text (p .entries + 1) (set t (p .entries) w)
+  one-more-inside w y l h =
+      rw (add-one, take-suc-set t (p .entries) w l) (every-end (take (p .entries) t) h)
+    where
+      every-end : (ws : List ℕ) → Every (Lies text) ws → Every (Lies text) (ws ++ (w ∷ []))
+      every-end [] h = (y, tt)
+      every-end (v ∷ ws) h = (h .0, every-end ws (h .1))
+
   -- the word w written at p, where reading goes on with the token u
-  noted : (w j : ℕ) (u : Token) → Stands text u → p .entries < length t → p .token .start + 1 + j ≤ u .start + i
+  noted : (w j : ℕ) (u : Token) → Stands text u → Lies text w → p .entries < length t → p .token .start + 1 + j ≤ u .start + i
       → Step text i j p t (place u (p .nodes) (p .entries + 1)) (set t (p .entries) w) (spelled text w ∷ [])
-  noted w j u s l h = record {
+  noted w j u s y l h = record {
     stands = s;
     paid = omega arith;
     size = length-set t (p .entries) w;
     count = refl;
     said = one-more w l;
     left = drop-set-lt (p .entries + 1) t (p .entries) w (omega arith);
+    inside = one-more-inside w y l;
   }
 
   -- ---- words
@@ -96,6 +115,18 @@ module _ {text : List ℕ} {i : ℕ} {p : Place} {t : List ℕ} (r : Ready text 
       let size = leb-true (end - start) name-size h in
       let w : word (p .token) ≡ start * 64 + (end - start) = omega (arith, forward, ends-within, r .short) in
       rw w (name-slice text start end size)
+
+  word-lies : (role : ℕ) → ltb role 32 ≡ true → leb (p .token .end - p .token .start) name-size ≡ true
+      → Lies text (word (p .token) * 32 + role)
+  unfolding word text-size
+  word-lies role k h =
+      let start = p .token .start in
+      let end = p .token .end in
+      let size = leb-true (end - start) name-size h in
+      let l = ltb-true role 32 k in
+      let w : word (p .token) ≡ start * 64 + (end - start) = omega (arith, forward, ends-within, r .short) in
+      let a : (word (p .token) * 32 + role) / 32 ≡ word (p .token) = omega arith in
+      rw (a, w) (lies-within (length text) start (end - start) size (omega (arith, forward, ends-within)))
 
 -- what is known of a name that was the token t: its entry, its word, and the token after it
 pub record Named (text : List ℕ) (t : Token) (role : ℕ) (n : Name) (s : State) (es : List Entry) : Type 0 where
@@ -111,6 +142,12 @@ module _ (text : List ℕ) where
       let a : (w * 32 + role) % 32 ≡ role = omega arith in
       let b : (w * 32 + role) / 32 ≡ w = omega arith in
       rw (a, b)
+
+  mark-lies : (role : ℕ) → ltb role 32 ≡ true → Lies text role
+  mark-lies role h =
+      let l = ltb-true role 32 h in
+      let b : role / 32 ≡ 0 = omega arith in
+      rw b (omega arith)
 
   spelled-mark : (role : ℕ) → ltb role 32 ≡ true → spelled text role ≡ entry role []
   unfolding spelled name-of
@@ -158,7 +195,7 @@ module _ {text : List ℕ} where
       let l : p .entries < length t = omega (arith, r .room, r .long, forward r, ends-within r) in
       rw (lt-ltb (p .entries) (length t) l)
       (both-done a (place (p .token) (p .nodes) (p .entries + 1)) _ (spelled text role ∷ []) (rw (spelled-mark text role h) ψ)
-      (noted r role 0 (p .token) (r .stands) l (omega arith)))
+      (noted r role 0 (p .token) (r .stands) (mark-lies text role h) l (omega arith)))
 
   pub mark-meant : {A : Type 0} {Ψ : Meaning A} (role : ℕ) (a : A) → ltb role 32 ≡ true → ((s : State) → Ψ a s (entry role [] ∷ []))
       → Reads text 1 0 (Model.mark role) (return a) Ψ
@@ -177,7 +214,7 @@ module _ {text : List ℕ} where
         (both-done (slice text (p .token .start) (p .token .end)) (place (token-at text (p .token .end)) (p .nodes) (p .entries + 1)) _
         (spelled text (word (p .token) * 32 + role) ∷ [])
         (record { written = rw (spelled-name text (word (p .token)) role h, word-slice r l); called = word-slice r l; next = refl })
-        (noted r (word (p .token) * 32 + role) 0 (token-at text (p .token .end)) (after-it r) m (omega (arith, follows r))))
+        (noted r (word (p .token) * 32 + role) 0 (token-at text (p .token .end)) (after-it r) (word-lies r role h l) m (omega (arith, follows r))))
 
     short-name-at : eqb (p .token .kind) ident ≡ true
         → Matches text 0 0 (λ n s es. Named text (p .token) role n s es) p t (Model.short-name text role p t) (Grammar.short-name text (state p))

@@ -10,6 +10,7 @@ ghost use Rattle.meaning.specs.Lists.{before};
 ghost use Rattle.meaning.specs.Names.{Name, same};
 ghost use Rattle.meaning.specs.Evaluate.{names-right};
 ghost use Rattle.names.specs.Word.{name-of};
+ghost use Rattle.names.specs.Joint.{joint};
 ghost use Rattle.tables.specs.Entries.{word-at};
 ghost use Rattle.forms.specs.Verdicts.{told};
 ghost use Rattle.module_set.specs.ModuleSet.{holds};
@@ -81,13 +82,13 @@ pub fn name_of_module(tape: &[u32], h: Heads, k: u32) -> u32
 }
 
 // The number of the module called w; the number of modules if there is none.
-pub fn find_number(text: &[u8], tape: &[u32], h: Heads, w: u32) -> u32
-    ensures { λ r. ⌜ r ≡ before (same (name-of (now (text .entry)) w)) (declared (now (text .entry)) (now (tape .entry)) h) ⌝ }
+pub fn find_number(library: &[u8], text: &[u8], tape: &[u32], h: Heads, w: u32) -> u32
+    ensures { λ r. ⌜ r ≡ before (same (name-of (joint (now (library .entry)) (now (text .entry))) w)) (declared (joint (now (library .entry)) (now (text .entry))) (now (tape .entry)) h) ⌝ }
 {
     let count = h.count;
     let mut k = 0;
     while k < count {
-        if names::same_name(text, w, name_of_module(tape, h, k)) {
+        if names::joint::same_name(library, text, w, name_of_module(tape, h, k)) {
             return k;
         }
         k += 1;
@@ -96,13 +97,13 @@ pub fn find_number(text: &[u8], tape: &[u32], h: Heads, w: u32) -> u32
 }
 
 // The number of the module with the asked name; the number of modules if there is none.
-pub fn find_asked(text: &[u8], tape: &[u32], h: Heads, asked: &[u8]) -> u32
-    ensures { λ r. ⌜ r ≡ before (λ (w : Name). same w (now (asked .entry))) (declared (now (text .entry)) (now (tape .entry)) h) ⌝ }
+pub fn find_asked(library: &[u8], text: &[u8], tape: &[u32], h: Heads, asked: &[u8]) -> u32
+    ensures { λ r. ⌜ r ≡ before (λ (w : Name). same w (now (asked .entry))) (declared (joint (now (library .entry)) (now (text .entry))) (now (tape .entry)) h) ⌝ }
 {
     let count = h.count;
     let mut k = 0;
     while k < count {
-        if names::is_called(text, name_of_module(tape, h, k), asked) {
+        if names::joint::is_called(library, text, name_of_module(tape, h, k), asked) {
             return k;
         }
         k += 1;
@@ -111,11 +112,11 @@ pub fn find_asked(text: &[u8], tape: &[u32], h: Heads, asked: &[u8]) -> u32
 }
 
 // Step 1 for the name w of module k: 7 where no module is called so, 8 where none before module k is.
-fn name_right(text: &[u8], tape: &[u32], h: Heads, k: u32, w: u32) -> Verdict
-    ensures { λ r. ⌜ told (now (text .entry)) r ≡ name-right (declared (now (text .entry)) (now (tape .entry)) h) k (name-of (now (text .entry)) w) ⌝ }
+fn name_right(library: &[u8], text: &[u8], tape: &[u32], h: Heads, k: u32, w: u32) -> Verdict
+    ensures { λ r. ⌜ told (joint (now (library .entry)) (now (text .entry))) r ≡ name-right (declared (joint (now (library .entry)) (now (text .entry))) (now (tape .entry)) h) k (name-of (joint (now (library .entry)) (now (text .entry))) w) ⌝ }
 {
     let count = h.count;
-    let p = find_number(text, tape, h, w);
+    let p = find_number(library, text, tape, h, w);
     if count <= p {
         return Verdict::Stop(7, w);
     }
@@ -126,14 +127,14 @@ fn name_right(text: &[u8], tape: &[u32], h: Heads, k: u32, w: u32) -> Verdict
 }
 
 // Step 1 for module k: the names of modules among its entries, in text order.
-pub fn names_right(text: &[u8], tape: &[u32], h: Heads, k: u32) -> Verdict
-    ensures { λ r. ⌜ told (now (text .entry)) r ≡ names-right (declared (now (text .entry)) (now (tape .entry)) h) (take k (declared (now (text .entry)) (now (tape .entry)) h)) (named-in (now (text .entry)) (now (tape .entry)) h k) ⌝ }
+pub fn names_right(library: &[u8], text: &[u8], tape: &[u32], h: Heads, k: u32) -> Verdict
+    ensures { λ r. ⌜ told (joint (now (library .entry)) (now (text .entry))) r ≡ names-right (declared (joint (now (library .entry)) (now (text .entry))) (now (tape .entry)) h) (take k (declared (joint (now (library .entry)) (now (text .entry))) (now (tape .entry)) h)) (named-in (joint (now (library .entry)) (now (text .entry))) (now (tape .entry)) h k) ⌝ }
 {
     let mut j = place_at(h, k as usize);
     let end = place_at(h, k as usize + 1);
     while j < end {
         if names_module(role_at(tape, j as usize)) {
-            match name_right(text, tape, h, k, name_at(tape, j as usize)) {
+            match name_right(library, text, tape, h, k, name_at(tape, j as usize)) {
                 Verdict::Stop(k, w) => return Verdict::Stop(k, w),
                 Verdict::Fine => {
                     j += 1;
@@ -147,10 +148,10 @@ pub fn names_right(text: &[u8], tape: &[u32], h: Heads, k: u32) -> Verdict
 }
 
 // The set with the module called w, if it stands before module k.
-fn with_name(text: &[u8], tape: &[u32], h: Heads, k: u32, set: u64, w: u32) -> u64
-    ensures { λ r. ⌜ holds r ≡ with-named (declared (now (text .entry)) (now (tape .entry)) h) k (holds set) (name-of (now (text .entry)) w ∷ []) ⌝ }
+fn with_name(library: &[u8], text: &[u8], tape: &[u32], h: Heads, k: u32, set: u64, w: u32) -> u64
+    ensures { λ r. ⌜ holds r ≡ with-named (declared (joint (now (library .entry)) (now (text .entry))) (now (tape .entry)) h) k (holds set) (name-of (joint (now (library .entry)) (now (text .entry))) w ∷ []) ⌝ }
 {
-    let p = find_number(text, tape, h, w);
+    let p = find_number(library, text, tape, h, w);
     if p < k {
         return module_set::with(set, p);
     }
@@ -158,15 +159,15 @@ fn with_name(text: &[u8], tape: &[u32], h: Heads, k: u32, set: u64, w: u32) -> u
 }
 
 // The modules before module k that it names.
-pub fn named_set(text: &[u8], tape: &[u32], h: Heads, k: u32) -> u64
-    ensures { λ r. ⌜ holds r ≡ named-set (now (text .entry)) (now (tape .entry)) h k ⌝ }
+pub fn named_set(library: &[u8], text: &[u8], tape: &[u32], h: Heads, k: u32) -> u64
+    ensures { λ r. ⌜ holds r ≡ named-set (joint (now (library .entry)) (now (text .entry))) (now (tape .entry)) h k ⌝ }
 {
     let mut j = place_at(h, k as usize);
     let end = place_at(h, k as usize + 1);
     let mut set = module_set::empty();
     while j < end {
         if names_module(role_at(tape, j as usize)) {
-            set = with_name(text, tape, h, k, set, name_at(tape, j as usize));
+            set = with_name(library, text, tape, h, k, set, name_at(tape, j as usize));
             j += 1;
         } else {
             j += 1;
@@ -176,34 +177,35 @@ pub fn named_set(text: &[u8], tape: &[u32], h: Heads, k: u32) -> u64
 }
 
 // The set, with the modules that module k names where module k is in it.
-fn turned(text: &[u8], tape: &[u32], h: Heads, k: u32, set: u64) -> u64
-    ensures { λ r. ⌜ holds r ≡ turned (named-set (now (text .entry)) (now (tape .entry)) h) (holds set) k ⌝ }
+fn turned(library: &[u8], text: &[u8], tape: &[u32], h: Heads, k: u32, set: u64) -> u64
+    ensures { λ r. ⌜ holds r ≡ turned (named-set (joint (now (library .entry)) (now (text .entry))) (now (tape .entry)) h) (holds set) k ⌝ }
 {
     if module_set::has(set, k) {
-        return module_set::joined(set, named_set(text, tape, h, k));
+        return module_set::joined(set, named_set(library, text, tape, h, k));
     }
     set
 }
 
 // The set, and the modules that those of its modules reach which are below n: the latest first.
-fn gathered(text: &[u8], tape: &[u32], h: Heads, n: u32, set: u64) -> u64
-    ensures { λ r. ⌜ holds r ≡ gathered (named-set (now (text .entry)) (now (tape .entry)) h) (holds set) 0 n ⌝ }
+fn gathered(library: &[u8], text: &[u8], tape: &[u32], h: Heads, n: u32, set: u64) -> u64
+    ensures { λ r. ⌜ holds r ≡ gathered (named-set (joint (now (library .entry)) (now (text .entry))) (now (tape .entry)) h) (holds set) 0 n ⌝ }
 {
     let mut all = set;
     let mut k = n;
     while 0 < k {
-        all = turned(text, tape, h, k - 1, all);
+        all = turned(library, text, tape, h, k - 1, all);
         k -= 1;
     }
     all
 }
 
 // Module k, and the modules that it reaches.
-pub fn reached(text: &[u8], tape: &[u32], h: Heads, k: u32) -> u64
-    ensures { λ r. ⌜ holds r ≡ reached-set (now (text .entry)) (now (tape .entry)) h k ⌝ }
+pub fn reached(library: &[u8], text: &[u8], tape: &[u32], h: Heads, k: u32) -> u64
+    ensures { λ r. ⌜ holds r ≡ reached-set (joint (now (library .entry)) (now (text .entry))) (now (tape .entry)) h k ⌝ }
 {
     let count = h.count;
     gathered(
+        library,
         text,
         tape,
         h,
@@ -213,10 +215,17 @@ pub fn reached(text: &[u8], tape: &[u32], h: Heads, k: u32) -> u64
 }
 
 // 20 where module k is among the modules reached from those that it names.
-pub fn acyclic(text: &[u8], tape: &[u32], h: Heads, k: u32) -> Verdict
-    ensures { λ r. ⌜ told (now (text .entry)) r ≡ cycle-found (now (text .entry)) (now (tape .entry)) h k ⌝ }
+pub fn acyclic(library: &[u8], text: &[u8], tape: &[u32], h: Heads, k: u32) -> Verdict
+    ensures { λ r. ⌜ told (joint (now (library .entry)) (now (text .entry))) r ≡ cycle-found (joint (now (library .entry)) (now (text .entry))) (now (tape .entry)) h k ⌝ }
 {
-    let set = gathered(text, tape, h, k, named_set(text, tape, h, k));
+    let set = gathered(
+        library,
+        text,
+        tape,
+        h,
+        k,
+        named_set(library, text, tape, h, k),
+    );
     if module_set::has(set, k) {
         return Verdict::Stop(20, name_of_module(tape, h, k));
     }

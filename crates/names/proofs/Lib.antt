@@ -2,3 +2,4 @@ pub mod Auto
 pub mod Runs
 pub mod Compared
 pub mod Places
+pub mod Joined

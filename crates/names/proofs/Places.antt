@@ -39,7 +39,7 @@ drop-most k xs = go (leb k (length xs)) refl
         let h = leb-false k (length xs) e in
         rw (drop-of-length-le xs {i = min k (length xs)} (omega arith), drop-of-length-le xs {i = k} (omega arith))
 
-size-of : (text : List ℕ) (w : ℕ) → length (name-of text w) ≡ min (min (w % 64) 40) (length text - w / 64)
+pub size-of : (text : List ℕ) (w : ℕ) → length (name-of text w) ≡ min (min (w % 64) 40) (length text - w / 64)
 unfolding name-of
 size-of text w = rw (length-take, length-drop)
 
@@ -61,7 +61,7 @@ module _ (text : List ℕ) (w start : ℕ) (s : start ≡ min (w / 64) (length t
     unfolding name-of
     name-part = rw (e, s, drop-most) (take-most (min (w % 64) 40) (drop (w / 64) text))
 
-    name-between : take (start + n - start) (drop start text) ≡ name-of text w
+    pub name-between : take (start + n - start) (drop start text) ≡ name-of text w
     name-between =
         let m : start + n - start ≡ n = omega arith in
         rw (m, name-part)

@@ -1,5 +1,7 @@
 // Names of a text: its bytes by place, where an identifier ends, and which of two names comes first.
 // A name is one word: the place where it starts times 64, and its length.
+pub mod joint;
+
 ghost use mathlib.Core.Path.{_≡_};
 ghost use Prim.Native.Nat.{_/_, min};
 ghost use lib.ListN.{length, getD};

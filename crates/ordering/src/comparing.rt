@@ -5,7 +5,7 @@ use super::texts::line_not_after;
 use super::texts::type_not_after;
 use forms::EquationRow;
 use joining::equations::read_equation;
-use names::compare;
+use names::joint::compare;
 use tables::Row;
 use tables::Section;
 use tables::rows::read_row;
@@ -14,6 +14,7 @@ ghost use Prim.Native.Nat.{_+_, _*_, _^_, _<_};
 ghost use Rattle.meaning.specs.Names.{not-after};
 ghost use Rattle.meaning.specs.Written.{origin-text, visible-order, hidden-order};
 ghost use Rattle.meaning.specs.ListingOrder.{place-order};
+ghost use Rattle.names.specs.Joint.{joint};
 ghost use Rattle.tables.specs.Rows.{origin-of, item-of};
 ghost use Rattle.forms.specs.Forms.{items-at, equation-row-at};
 ghost use Rattle.order.specs.Ordered.{row-item};
@@ -44,47 +45,55 @@ fn rank_of(kind: u32) -> u32
 }
 
 // By name, then by type.
-fn named_not_after(text: &[u8], tape: &[u32], work: &[u32], a: Row, b: Row) -> bool
-    ensures { λ r. ⌜ r ≡ by-name-then-type (item-of (now (text .entry)) (now (tape .entry)) a) (item-of (now (text .entry)) (now (tape .entry)) b) ⌝ }
+fn named_not_after(library: &[u8], text: &[u8], tape: &[u32], work: &[u32], a: Row, b: Row) -> bool
+    ensures { λ r. ⌜ r ≡ by-name-then-type (item-of (joint (now (library .entry)) (now (text .entry))) (now (tape .entry)) a) (item-of (joint (now (library .entry)) (now (text .entry))) (now (tape .entry)) b) ⌝ }
 {
     let x = a.name;
     let y = b.name;
-    let c = compare(text, x, y);
+    let c = compare(library, text, x, y);
     if c == 1 {
-        return type_not_after(text, tape, work, 0, 0, a, b);
+        return type_not_after(library, text, tape, work, 0, 0, a, b);
     }
     c == 0
 }
 
 // By kind, then by name and type.
-fn kind_not_after(text: &[u8], tape: &[u32], work: &[u32], a: Row, b: Row) -> bool
-    ensures { λ r. ⌜ r ≡ by-kind-then-name (item-of (now (text .entry)) (now (tape .entry)) a) (item-of (now (text .entry)) (now (tape .entry)) b) ⌝ }
+fn kind_not_after(library: &[u8], text: &[u8], tape: &[u32], work: &[u32], a: Row, b: Row) -> bool
+    ensures { λ r. ⌜ r ≡ by-kind-then-name (item-of (joint (now (library .entry)) (now (text .entry))) (now (tape .entry)) a) (item-of (joint (now (library .entry)) (now (text .entry))) (now (tape .entry)) b) ⌝ }
 {
     let k = rank_of(a.kind);
     let l = rank_of(b.kind);
     if k == l {
-        return named_not_after(text, tape, work, a, b);
+        return named_not_after(library, text, tape, work, a, b);
     }
     k < l
 }
 
 // Does the visible item a come not after b?
-pub fn visible_not_after(text: &[u8], tape: &[u32], work: &[u32], a: Row, b: Row) -> bool
-    ensures { λ r. ⌜ r ≡ visible-order (item-of (now (text .entry)) (now (tape .entry)) a) (item-of (now (text .entry)) (now (tape .entry)) b) ⌝ }
+pub fn visible_not_after(
+    library: &[u8],
+    text: &[u8],
+    tape: &[u32],
+    work: &[u32],
+    a: Row,
+    b: Row,
+) -> bool
+    ensures { λ r. ⌜ r ≡ visible-order (item-of (joint (now (library .entry)) (now (text .entry))) (now (tape .entry)) a) (item-of (joint (now (library .entry)) (now (text .entry))) (now (tape .entry)) b) ⌝ }
 {
     let s = a.standing;
     let u = b.standing;
     let x = standing_word(s);
     let y = standing_word(u);
-    let c = compare(text, x, y);
+    let c = compare(library, text, x, y);
     if c == 1 {
-        return kind_not_after(text, tape, work, a, b);
+        return kind_not_after(library, text, tape, work, a, b);
     }
     c == 0
 }
 
 // By origin, then by type, in which the hidden sorts in order are `count` rows from `sorts` on.
 fn origin_not_after(
+    library: &[u8],
     text: &[u8],
     tape: &[u32],
     work: &[u32],
@@ -94,19 +103,20 @@ fn origin_not_after(
     b: Row,
 ) -> bool
     requires { ⌜ count < 2 ^ 31 ⌝ }
-    ensures { λ r. ⌜ r ≡ by-origin-then-type (items-at (now (text .entry)) (now (tape .entry)) (now (work .entry)) sorts count) (item-of (now (text .entry)) (now (tape .entry)) a) (item-of (now (text .entry)) (now (tape .entry)) b) ⌝ }
+    ensures { λ r. ⌜ r ≡ by-origin-then-type (items-at (joint (now (library .entry)) (now (text .entry))) (now (tape .entry)) (now (work .entry)) sorts count) (item-of (joint (now (library .entry)) (now (text .entry))) (now (tape .entry)) a) (item-of (joint (now (library .entry)) (now (text .entry))) (now (tape .entry)) b) ⌝ }
 {
     let o = a.origin;
     let p = b.origin;
-    let c = compare_origins(text, tape, o, p);
+    let c = compare_origins(library, text, tape, o, p);
     if c == 1 {
-        return type_not_after(text, tape, work, sorts, count, a, b);
+        return type_not_after(library, text, tape, work, sorts, count, a, b);
     }
     c == 0
 }
 
 // Does the hidden item a come not after b?
 pub fn hidden_not_after(
+    library: &[u8],
     text: &[u8],
     tape: &[u32],
     work: &[u32],
@@ -116,18 +126,19 @@ pub fn hidden_not_after(
     b: Row,
 ) -> bool
     requires { ⌜ count < 2 ^ 31 ⌝ }
-    ensures { λ r. ⌜ r ≡ hidden-order (items-at (now (text .entry)) (now (tape .entry)) (now (work .entry)) sorts count) (item-of (now (text .entry)) (now (tape .entry)) a) (item-of (now (text .entry)) (now (tape .entry)) b) ⌝ }
+    ensures { λ r. ⌜ r ≡ hidden-order (items-at (joint (now (library .entry)) (now (text .entry))) (now (tape .entry)) (now (work .entry)) sorts count) (item-of (joint (now (library .entry)) (now (text .entry))) (now (tape .entry)) a) (item-of (joint (now (library .entry)) (now (text .entry))) (now (tape .entry)) b) ⌝ }
 {
     let k = rank_of(a.kind);
     let l = rank_of(b.kind);
     if k == l {
-        return origin_not_after(text, tape, work, sorts, count, a, b);
+        return origin_not_after(library, text, tape, work, sorts, count, a, b);
     }
     k < l
 }
 
 // Equations of one module: by position, then by what they are written as.
 fn position_not_after(
+    library: &[u8],
     text: &[u8],
     work: &[u32],
     visible: u32,
@@ -135,18 +146,19 @@ fn position_not_after(
     a: EquationRow,
     b: EquationRow,
 ) -> bool
-    ensures { λ r. ⌜ r ≡ by-position-then-line (row-place (now (text .entry)) (now (work .entry)) visible nodes a) (row-place (now (text .entry)) (now (work .entry)) visible nodes b) ⌝ }
+    ensures { λ r. ⌜ r ≡ by-position-then-line (row-place (joint (now (library .entry)) (now (text .entry))) (now (work .entry)) visible nodes a) (row-place (joint (now (library .entry)) (now (text .entry))) (now (work .entry)) visible nodes b) ⌝ }
 {
     let x = a.position;
     let y = b.position;
     if x == y {
-        return line_not_after(text, work, visible, nodes, a, b);
+        return line_not_after(library, text, work, visible, nodes, a, b);
     }
     x < y
 }
 
 // Does the equation a come not after b?
 pub fn equation_not_after(
+    library: &[u8],
     text: &[u8],
     work: &[u32],
     visible: u32,
@@ -154,38 +166,55 @@ pub fn equation_not_after(
     a: EquationRow,
     b: EquationRow,
 ) -> bool
-    ensures { λ r. ⌜ r ≡ place-order (row-place (now (text .entry)) (now (work .entry)) visible nodes a) (row-place (now (text .entry)) (now (work .entry)) visible nodes b) ⌝ }
+    ensures { λ r. ⌜ r ≡ place-order (row-place (joint (now (library .entry)) (now (text .entry))) (now (work .entry)) visible nodes a) (row-place (joint (now (library .entry)) (now (text .entry))) (now (work .entry)) visible nodes b) ⌝ }
 {
     let x = a.home;
     let y = b.home;
     if x == y {
-        return position_not_after(text, work, visible, nodes, a, b);
+        return position_not_after(library, text, work, visible, nodes, a, b);
     }
     x < y
 }
 
 // Does row i of the visible items at `base` come not after row j?
-fn visible_rows(text: &[u8], tape: &[u32], work: &[u32], base: u32, i: u32, j: u32) -> bool
-    ensures { λ r. ⌜ r ≡ visible-order (row-item (now (text .entry)) (now (tape .entry)) (now (work .entry)) base i) (row-item (now (text .entry)) (now (tape .entry)) (now (work .entry)) base j) ⌝ }
+fn visible_rows(
+    library: &[u8],
+    text: &[u8],
+    tape: &[u32],
+    work: &[u32],
+    base: u32,
+    i: u32,
+    j: u32,
+) -> bool
+    ensures { λ r. ⌜ r ≡ visible-order (row-item (joint (now (library .entry)) (now (text .entry))) (now (tape .entry)) (now (work .entry)) base i) (row-item (joint (now (library .entry)) (now (text .entry))) (now (tape .entry)) (now (work .entry)) base j) ⌝ }
 {
     let a = read_row(work, base, i);
     let b = read_row(work, base, j);
-    visible_not_after(text, tape, work, a, b)
+    visible_not_after(library, text, tape, work, a, b)
 }
 
 // Does row i of the hidden items at `base` come not after row j by their origins alone?
-fn sort_rows(text: &[u8], tape: &[u32], work: &[u32], base: u32, i: u32, j: u32) -> bool
-    ensures { λ r. ⌜ r ≡ not-after (origin-text (row-item (now (text .entry)) (now (tape .entry)) (now (work .entry)) base i .origin)) (origin-text (row-item (now (text .entry)) (now (tape .entry)) (now (work .entry)) base j .origin)) ⌝ }
+fn sort_rows(
+    library: &[u8],
+    text: &[u8],
+    tape: &[u32],
+    work: &[u32],
+    base: u32,
+    i: u32,
+    j: u32,
+) -> bool
+    ensures { λ r. ⌜ r ≡ not-after (origin-text (row-item (joint (now (library .entry)) (now (text .entry))) (now (tape .entry)) (now (work .entry)) base i .origin)) (origin-text (row-item (joint (now (library .entry)) (now (text .entry))) (now (tape .entry)) (now (work .entry)) base j .origin)) ⌝ }
 {
     let a = read_row(work, base, i);
     let b = read_row(work, base, j);
     let o = a.origin;
     let p = b.origin;
-    compare_origins(text, tape, o, p) < 2
+    compare_origins(library, text, tape, o, p) < 2
 }
 
 // Does row i of the hidden items at `base` come not after row j?
 fn hidden_rows(
+    library: &[u8],
     text: &[u8],
     tape: &[u32],
     work: &[u32],
@@ -196,15 +225,16 @@ fn hidden_rows(
     j: u32,
 ) -> bool
     requires { ⌜ count < 2 ^ 31 ⌝ }
-    ensures { λ r. ⌜ r ≡ hidden-order (items-at (now (text .entry)) (now (tape .entry)) (now (work .entry)) sorts count) (row-item (now (text .entry)) (now (tape .entry)) (now (work .entry)) base i) (row-item (now (text .entry)) (now (tape .entry)) (now (work .entry)) base j) ⌝ }
+    ensures { λ r. ⌜ r ≡ hidden-order (items-at (joint (now (library .entry)) (now (text .entry))) (now (tape .entry)) (now (work .entry)) sorts count) (row-item (joint (now (library .entry)) (now (text .entry))) (now (tape .entry)) (now (work .entry)) base i) (row-item (joint (now (library .entry)) (now (text .entry))) (now (tape .entry)) (now (work .entry)) base j) ⌝ }
 {
     let a = read_row(work, base, i);
     let b = read_row(work, base, j);
-    hidden_not_after(text, tape, work, sorts, count, a, b)
+    hidden_not_after(library, text, tape, work, sorts, count, a, b)
 }
 
 // Does row i of the equations at `base` come not after row j?
 fn equation_rows(
+    library: &[u8],
     text: &[u8],
     work: &[u32],
     visible: u32,
@@ -213,22 +243,30 @@ fn equation_rows(
     i: u32,
     j: u32,
 ) -> bool
-    ensures { λ r. ⌜ r ≡ place-order (row-place (now (text .entry)) (now (work .entry)) visible nodes (equation-row-at (now (work .entry)) (base + i * 8))) (row-place (now (text .entry)) (now (work .entry)) visible nodes (equation-row-at (now (work .entry)) (base + j * 8))) ⌝ }
+    ensures { λ r. ⌜ r ≡ place-order (row-place (joint (now (library .entry)) (now (text .entry))) (now (work .entry)) visible nodes (equation-row-at (now (work .entry)) (base + i * 8))) (row-place (joint (now (library .entry)) (now (text .entry))) (now (work .entry)) visible nodes (equation-row-at (now (work .entry)) (base + j * 8))) ⌝ }
 {
     let a = read_equation(work, base, i);
     let b = read_equation(work, base, j);
-    equation_not_after(text, work, visible, nodes, a, b)
+    equation_not_after(library, text, work, visible, nodes, a, b)
 }
 
 // Does row i of the table come not after row j?
-pub fn row_not_after(text: &[u8], tape: &[u32], work: &[u32], table: Table, i: u32, j: u32) -> bool
+pub fn row_not_after(
+    library: &[u8],
+    text: &[u8],
+    tape: &[u32],
+    work: &[u32],
+    table: Table,
+    i: u32,
+    j: u32,
+) -> bool
     requires { ⌜ Small table ⌝ }
-    ensures { λ r. ⌜ r ≡ row-order (now (text .entry)) (now (tape .entry)) (now (work .entry)) table i j ⌝ }
+    ensures { λ r. ⌜ r ≡ row-order (joint (now (library .entry)) (now (text .entry))) (now (tape .entry)) (now (work .entry)) table i j ⌝ }
 {
     match table {
-        Table::Visible(b) => visible_rows(text, tape, work, b, i, j),
-        Table::Sorts(b) => sort_rows(text, tape, work, b, i, j),
-        Table::Hidden(b, s, n) => hidden_rows(text, tape, work, b, s, n, i, j),
-        Table::Equations(v, b, a) => equation_rows(text, work, v, b, a, i, j),
+        Table::Visible(b) => visible_rows(library, text, tape, work, b, i, j),
+        Table::Sorts(b) => sort_rows(library, text, tape, work, b, i, j),
+        Table::Hidden(b, s, n) => hidden_rows(library, text, tape, work, b, s, n, i, j),
+        Table::Equations(v, b, a) => equation_rows(library, text, work, v, b, a, i, j),
     }
 }

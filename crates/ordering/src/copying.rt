@@ -7,6 +7,7 @@ use tables::entries::word_at;
 ghost use mathlib.Core.Path.{_≡_};
 ghost use Prim.Native.Nat.{_+_, _*_, _≤_, _<_};
 ghost use lib.ListN.{length, getD, set};
+ghost use Rattle.names.specs.Joint.{joint};
 ghost use Rattle.ordering.specs.Orders.{Small};
 ghost use Rattle.ordering.specs.Copying.{RowCopied, RowRoom, CopyRoom, NumberedCopied, RowsCopied, NoteRoom, NotePut, NotesPut, SortRoom, TableSorted, NotedRoom, TableNoted};
 
@@ -93,6 +94,7 @@ pub fn note_rows(work: &mut [u32], order: u32, m: u32, notes: u32, n: u32)
 
 // The n rows of the table at `from`, those that are to be put in order, in order to the table at `to`; and how many they are.
 pub fn sort_rows(
+    library: &[u8],
     text: &[u8],
     work: &mut [u32],
     t: usize,
@@ -105,15 +107,16 @@ pub fn sort_rows(
 ) -> u32
     requires { ⌜ SortRoom (length (now work)) t from n order to size ⌝ }
     requires { ⌜ Small table ⌝ }
-    ensures { λ m. ⌜ TableSorted (now (text .entry)) t table from n order to size m (now (work .entry)) (now (work .exit)) ⌝ }
+    ensures { λ m. ⌜ TableSorted (joint (now (library .entry)) (now (text .entry))) t table from n order to size m (now (work .entry)) (now (work .exit)) ⌝ }
 {
-    let m = order_rows(text, work, t, table, n, order);
+    let m = order_rows(library, text, work, t, table, n, order);
     copy_rows(work, from, n, order, m, to, size);
     m
 }
 
 // Items in order, as `sort_rows` puts them, and a note for each of the n rows of where it went.
 pub fn put_table(
+    library: &[u8],
     text: &[u8],
     work: &mut [u32],
     t: usize,
@@ -126,9 +129,9 @@ pub fn put_table(
 ) -> u32
     requires { ⌜ NotedRoom (length (now work)) t from n order to notes ⌝ }
     requires { ⌜ Small table ⌝ }
-    ensures { λ m. ⌜ TableNoted (now (text .entry)) t table from n order to notes m (now (work .entry)) (now (work .exit)) ⌝ }
+    ensures { λ m. ⌜ TableNoted (joint (now (library .entry)) (now (text .entry))) t table from n order to notes m (now (work .entry)) (now (work .exit)) ⌝ }
 {
-    let m = sort_rows(text, work, t, table, from, n, order, to, 16);
+    let m = sort_rows(library, text, work, t, table, from, n, order, to, 16);
     note_rows(work, order, m, notes, n);
     m
 }

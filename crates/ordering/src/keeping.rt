@@ -11,6 +11,7 @@ ghost use mathlib.Core.Path.{_≡_};
 ghost use Prim.Native.Nat.{_+_, _*_, _≤_, _<_};
 ghost use lib.ListN.{length};
 ghost use Rattle.meaning.specs.Written.{visible-order, hidden-order};
+ghost use Rattle.names.specs.Joint.{joint};
 ghost use Rattle.forms.specs.Memory.{part};
 ghost use Rattle.forms.specs.Forms.{items-at};
 ghost use Rattle.ordering.specs.Copying.{SortRoom, NotedRoom};
@@ -19,16 +20,17 @@ ghost use Rattle.ordering.specs.Nodes.{kept-form};
 ghost use Rattle.ordering.specs.Keeps.{Keeps};
 
 // n names at `from`, in order, to `to`.
-fn put_names(text: &[u8], work: &mut [u32], from: u32, n: u32, order: u32, to: u32)
+fn put_names(library: &[u8], text: &[u8], work: &mut [u32], from: u32, n: u32, order: u32, to: u32)
     requires { ⌜ SortRoom (length (now work)) 0 from n order to 1 ⌝ }
-    ensures { λ u. ⌜ NamesPut (now (text .entry)) from n order to (now (work .entry)) (now (work .exit)) ⌝ }
+    ensures { λ u. ⌜ NamesPut (joint (now (library .entry)) (now (text .entry))) from n order to (now (work .entry)) (now (work .exit)) ⌝ }
 {
-    order_names(text, work, from, 1, n, order);
+    order_names(library, text, work, from, 1, n, order);
     copy_rows(work, from, n, order, n, to, 1);
 }
 
 // n visible items at `from`, in order, to `to`.
 fn put_visible(
+    library: &[u8],
     text: &[u8],
     work: &mut [u32],
     t: usize,
@@ -39,9 +41,10 @@ fn put_visible(
     notes: u32,
 )
     requires { ⌜ NotedRoom (length (now work)) t from n order to notes ⌝ }
-    ensures { λ u. ⌜ ItemsPut (now (text .entry)) t visible-order from n order to notes (now (work .entry)) (now (work .exit)) ⌝ }
+    ensures { λ u. ⌜ ItemsPut (joint (now (library .entry)) (now (text .entry))) t visible-order from n order to notes (now (work .entry)) (now (work .exit)) ⌝ }
 {
     put_table(
+        library,
         text,
         work,
         t,
@@ -56,6 +59,7 @@ fn put_visible(
 
 // n hidden items at `from`, in order, to `to`: there the sorts in order stand first, since types are written by their numbers.
 fn put_hidden(
+    library: &[u8],
     text: &[u8],
     work: &mut [u32],
     t: usize,
@@ -68,10 +72,22 @@ fn put_hidden(
     requires { ⌜ NotedRoom (length (now work)) t from n order to notes ⌝ }
     requires { ⌜ t ≤ to ⌝ }
     requires { ⌜ n ≤ 1073741824 ⌝ }
-    ensures { λ u. ⌜ ItemsPut (now (text .entry)) t (hidden-order (sorts-in-order (items-at (now (text .entry)) (part (now (work .entry)) 0 t) (now (work .entry)) from n))) from n order to notes (now (work .entry)) (now (work .exit)) ⌝ }
+    ensures { λ u. ⌜ ItemsPut (joint (now (library .entry)) (now (text .entry))) t (hidden-order (sorts-in-order (items-at (joint (now (library .entry)) (now (text .entry))) (part (now (work .entry)) 0 t) (now (work .entry)) from n))) from n order to notes (now (work .entry)) (now (work .exit)) ⌝ }
 {
-    let m = sort_rows(text, work, t, Table::Sorts(from), from, n, order, to, 16);
+    let m = sort_rows(
+        library,
+        text,
+        work,
+        t,
+        Table::Sorts(from),
+        from,
+        n,
+        order,
+        to,
+        16,
+    );
     put_table(
+        library,
         text,
         work,
         t,
@@ -85,12 +101,22 @@ fn put_hidden(
 }
 
 // The items of f in order to the places of k. Notes of where they went stand from p on, of visible items and then of hidden ones.
-fn keep_items(text: &[u8], work: &mut [u32], t: usize, f: Form, k: Form, p: u32, order: u32)
+fn keep_items(
+    library: &[u8],
+    text: &[u8],
+    work: &mut [u32],
+    t: usize,
+    f: Form,
+    k: Form,
+    p: u32,
+    order: u32,
+)
     requires { ⌜ KeepRoom (length (now work)) t f k p order ⌝ }
-    ensures { λ u. ⌜ ItemsKept (now (text .entry)) t f k p order (now (work .entry)) (now (work .exit)) ⌝ }
+    ensures { λ u. ⌜ ItemsKept (joint (now (library .entry)) (now (text .entry))) t f k p order (now (work .entry)) (now (work .exit)) ⌝ }
 {
     let hidden_notes = p + f.visible_count;
     put_names(
+        library,
         text,
         work,
         f.parameters,
@@ -99,6 +125,7 @@ fn keep_items(text: &[u8], work: &mut [u32], t: usize, f: Form, k: Form, p: u32,
         k.parameters,
     );
     put_visible(
+        library,
         text,
         work,
         t,
@@ -109,6 +136,7 @@ fn keep_items(text: &[u8], work: &mut [u32], t: usize, f: Form, k: Form, p: u32,
         p,
     );
     put_hidden(
+        library,
         text,
         work,
         t,
@@ -121,9 +149,18 @@ fn keep_items(text: &[u8], work: &mut [u32], t: usize, f: Form, k: Form, p: u32,
 }
 
 // The equations of f in order to the places of k, their nodes through the notes.
-fn keep_equations(text: &[u8], work: &mut [u32], t: usize, f: Form, k: Form, p: u32, order: u32)
+fn keep_equations(
+    library: &[u8],
+    text: &[u8],
+    work: &mut [u32],
+    t: usize,
+    f: Form,
+    k: Form,
+    p: u32,
+    order: u32,
+)
     requires { ⌜ KeepRoom (length (now work)) t f k p order ⌝ }
-    ensures { λ u. ⌜ EquationsKept (now (text .entry)) t f k p order (now (work .entry)) (now (work .exit)) ⌝ }
+    ensures { λ u. ⌜ EquationsKept (joint (now (library .entry)) (now (text .entry))) t f k p order (now (work .entry)) (now (work .exit)) ⌝ }
 {
     let hidden_notes = p + f.visible_count;
     let visible = k.visible;
@@ -132,6 +169,7 @@ fn keep_equations(text: &[u8], work: &mut [u32], t: usize, f: Form, k: Form, p: 
     let n = f.equation_count;
     copy_nodes(work, p, hidden_notes, f.nodes, 0, nodes, 0, f.node_count);
     sort_rows(
+        library,
         text,
         work,
         t,
@@ -171,12 +209,20 @@ fn kept_form(f: Form, k: Form) -> Form
 }
 
 // The form f in the order of its listing, at the places of k; what is behind p is written over.
-pub fn keep_in_order(text: &[u8], work: &mut [u32], t: usize, f: Form, k: Form, p: u32) -> Form
+pub fn keep_in_order(
+    library: &[u8],
+    text: &[u8],
+    work: &mut [u32],
+    t: usize,
+    f: Form,
+    k: Form,
+    p: u32,
+) -> Form
     requires { ⌜ KeepRoom (length (now work)) t f k p (order-place f p) ⌝ }
-    ensures { λ r. ⌜ Keeps (now (text .entry)) t f k p r (now (work .entry)) (now (work .exit)) ⌝ }
+    ensures { λ r. ⌜ Keeps (joint (now (library .entry)) (now (text .entry))) t f k p r (now (work .entry)) (now (work .exit)) ⌝ }
 {
     let order = order_place(f, p);
-    keep_items(text, work, t, f, k, p, order);
-    keep_equations(text, work, t, f, k, p, order);
+    keep_items(library, text, work, t, f, k, p, order);
+    keep_equations(library, text, work, t, f, k, p, order);
     kept_form(f, k)
 }

@@ -7,6 +7,7 @@ use declarations::checks::variables_right;
 use forms::Verdict;
 ghost use mathlib.Core.Path.{_≡_};
 ghost use lib.ListN.{length};
+ghost use Rattle.names.specs.Joint.{joint};
 ghost use Rattle.forms.specs.Memory.{part};
 ghost use Rattle.forms.specs.Verdicts.{told};
 ghost use Rattle.declarations.specs.Sorts.{Ready};
@@ -14,6 +15,7 @@ ghost use Rattle.own.specs.Checking.{variables-by, declarations-by, Rows
 
 // 12, where the table of `own` has the visible rows, and the hidden ones behind them.
 fn check_variables(
+    library: &[u8],
     text: &[u8],
     work: &[u32],
     t: usize,
@@ -23,7 +25,7 @@ fn check_variables(
 ) -> Verdict
     requires { ⌜ Ready (now work) t own ⌝ }
     requires { ⌜ RowsSmall own visible ⌝ }
-    ensures { λ r. ⌜ told (now (text .entry)) r ≡ variables-by (now (text .entry)) (part (now (work .entry)) 0 t) (now (work .entry)) own visible hidden ⌝ }
+    ensures { λ r. ⌜ told (joint (now (library .entry)) (now (text .entry))) r ≡ variables-by (joint (now (library .entry)) (now (text .entry))) (part (now (work .entry)) 0 t) (now (work .entry)) own visible hidden ⌝ }
 {
     let from = own.from;
     let end = own.end;
@@ -34,11 +36,12 @@ fn check_variables(
         rows,
         count: visible,
     };
-    variables_right(text, work, t, all, rows + visible * 16, hidden)
+    variables_right(library, text, work, t, all, rows + visible * 16, hidden)
 }
 
 // 13, and then 12.
 fn check_declarations(
+    library: &[u8],
     text: &[u8],
     work: &[u32],
     t: usize,
@@ -48,17 +51,18 @@ fn check_declarations(
 ) -> Verdict
     requires { ⌜ Ready (now work) t own ⌝ }
     requires { ⌜ RowsSmall own visible ⌝ }
-    ensures { λ r. ⌜ told (now (text .entry)) r ≡ declarations-by (now (text .entry)) (part (now (work .entry)) 0 t) (now (work .entry)) own visible hidden ⌝ }
+    ensures { λ r. ⌜ told (joint (now (library .entry)) (now (text .entry))) r ≡ declarations-by (joint (now (library .entry)) (now (text .entry))) (part (now (work .entry)) 0 t) (now (work .entry)) own visible hidden ⌝ }
 {
-    match available(text, work, t, own) {
+    match available(library, text, work, t, own) {
         Verdict::Stop(k, w) => Verdict::Stop(k, w),
-        Verdict::Fine => check_variables(text, work, t, own, visible, hidden),
+        Verdict::Fine => check_variables(library, text, work, t, own, visible, hidden),
     }
 }
 
 // All of them: the names of the parameters stand at `parameters`, the visible rows and the own hidden ones behind them in the table of `own`,
 // whose first rows are what the module imports. The order table is made at p.
 pub fn own_checks(
+    library: &[u8],
     text: &[u8],
     work: &mut [u32],
     t: usize,
@@ -69,14 +73,24 @@ pub fn own_checks(
 ) -> Verdict
     requires { ⌜ Ready (now work) t own ⌝ }
     requires { ⌜ CheckRoom (length (now work)) t own parameters counts p ⌝ }
-    ensures { λ r. ⌜ OwnChecked (now (text .entry)) t own parameters counts p (now (work .entry)) (now (work .exit)) r ⌝ }
+    ensures { λ r. ⌜ OwnChecked (joint (now (library .entry)) (now (text .entry))) t own parameters counts p (now (work .entry)) (now (work .exit)) r ⌝ }
 {
     let names = counts.parameter_count;
     let visible = counts.visible_count;
     let hidden = counts.hidden_count;
     let rows = own.rows;
-    match consistent(text, work, t, parameters, names, rows, visible + hidden, p) {
+    match consistent(
+        library,
+        text,
+        work,
+        t,
+        parameters,
+        names,
+        rows,
+        visible + hidden,
+        p,
+    ) {
         Verdict::Stop(k, w) => Verdict::Stop(k, w),
-        Verdict::Fine => check_declarations(text, work, t, own, visible, hidden),
+        Verdict::Fine => check_declarations(library, text, work, t, own, visible, hidden),
     }
 }

@@ -5,12 +5,14 @@ use super::parameters::own_parameters;
 use declarations::Own;
 use declarations::rows::own_rows;
 ghost use lib.ListN.{length};
+ghost use Rattle.names.specs.Joint.{joint};
 ghost use Rattle.declarations.specs.Sorts.{Ready};
 ghost use Rattle.own.specs.Joined.{OwnRoom, OwnMade};
 
 // The names of the module's parameters behind the n words at `parameters`; its visible items joined to the rows of `own`, and its hidden ones
 // behind them.
 pub fn own_items(
+    library: &[u8],
     text: &[u8],
     work: &mut [u32],
     t: usize,
@@ -20,13 +22,13 @@ pub fn own_items(
 ) -> OwnRows
     requires { ⌜ Ready (now work) t own ⌝ }
     requires { ⌜ OwnRoom (length (now work)) t own parameters n ⌝ }
-    ensures { λ r. ⌜ OwnMade (now (text .entry)) t own parameters n (now (work .entry)) (now (work .exit)) r ⌝ }
+    ensures { λ r. ⌜ OwnMade (joint (now (library .entry)) (now (text .entry))) t own parameters n (now (work .entry)) (now (work .exit)) r ⌝ }
 {
     let rows = own.rows;
     let count = own.count;
     let parameter_count = own_parameters(work, t, own, parameters, n);
-    let visible_count = join_visible(text, work, t, own, rows, count);
-    let all = own_rows(text, work, t, own, true, rows, visible_count);
+    let visible_count = join_visible(library, text, work, t, own, rows, count);
+    let all = own_rows(library, text, work, t, own, true, rows, visible_count);
     let hidden_count = all - visible_count;
     OwnRows {
         parameter_count,

@@ -5,19 +5,29 @@ use declarations::rows::is_own;
 use declarations::rows::own_row;
 ghost use mathlib.Core.Bool.{false};
 ghost use lib.ListN.{length};
+ghost use Rattle.names.specs.Joint.{joint};
 ghost use Rattle.forms.specs.Memory.{part};
 ghost use Rattle.declarations.specs.Sorts.{Ready};
 ghost use Rattle.declarations.specs.Items.{Roomy};
 ghost use Rattle.own.specs.Joined.{RowRoom, JoinedOne, Joined};
 
 // The item declared at d into the table of k rows at `base`. The number of rows after.
-fn join_item(text: &[u8], work: &mut [u32], t: usize, own: Own, base: u32, k: u32, d: u32) -> u32
+fn join_item(
+    library: &[u8],
+    text: &[u8],
+    work: &mut [u32],
+    t: usize,
+    own: Own,
+    base: u32,
+    k: u32,
+    d: u32,
+) -> u32
     requires { ⌜ Ready (now work) t own ⌝ }
     requires { ⌜ RowRoom (length (now work)) base k ⌝ }
-    ensures { λ r. ⌜ JoinedOne (now (text .entry)) (part (now (work .entry)) 0 t) (now (work .entry)) own base k d r (now (work .exit)) ⌝ }
+    ensures { λ r. ⌜ JoinedOne (joint (now (library .entry)) (now (text .entry))) (part (now (work .entry)) 0 t) (now (work .entry)) own base k d r (now (work .exit)) ⌝ }
 {
-    let row = own_row(text, work, t, own, d);
-    let at = place_item(text, work, t, base, k, row);
+    let row = own_row(library, text, work, t, own, d);
+    let at = place_item(library, text, work, t, base, k, row);
     if at < k {
         return k;
     }
@@ -25,17 +35,25 @@ fn join_item(text: &[u8], work: &mut [u32], t: usize, own: Own, base: u32, k: u3
 }
 
 // The module's visible items, in text order, into the table of n rows at `base`. The number of rows after.
-pub fn join_visible(text: &[u8], work: &mut [u32], t: usize, own: Own, base: u32, n: u32) -> u32
+pub fn join_visible(
+    library: &[u8],
+    text: &[u8],
+    work: &mut [u32],
+    t: usize,
+    own: Own,
+    base: u32,
+    n: u32,
+) -> u32
     requires { ⌜ Ready (now work) t own ⌝ }
     requires { ⌜ Roomy t own false base n (now work) ⌝ }
-    ensures { λ r. ⌜ Joined (now (text .entry)) t own base n (now (work .entry)) (now (work .exit)) r ⌝ }
+    ensures { λ r. ⌜ Joined (joint (now (library .entry)) (now (text .entry))) t own base n (now (work .entry)) (now (work .exit)) r ⌝ }
 {
     let end = own.end;
     let mut k = n;
     let mut i = own.from;
     while i < end {
         if is_own(&work[0..t], false, i) {
-            k = join_item(text, work, t, own, base, k, i);
+            k = join_item(library, text, work, t, own, base, k, i);
             i += 1;
         } else {
             i += 1;

@@ -10,12 +10,14 @@ use typing::equations::type_equations;
 ghost use mathlib.Core.Path.{_≡_};
 ghost use Prim.Native.Nat.{_+_, _≤_};
 ghost use lib.ListN.{length};
+ghost use Rattle.names.specs.Joint.{joint};
 ghost use Rattle.typing.specs.Equations.{told, equations-from};
 ghost use Rattle.typing.specs.Typed.{known-in, module-in, own-made};
 ghost use Rattle.own_equations.specs.Own.{owned, own-at};
 
 // The equations from i on, their rows and nodes where the form has them.
 fn type_placed(
+    library: &[u8],
     text: &[u8],
     work: &mut [u32],
     t: usize,
@@ -25,7 +27,7 @@ fn type_placed(
     end: usize,
 ) -> Equated
     requires { ⌜ (t ≤ length (now work)) × (t ≤ 65536) × (end ≤ t) × (f .«visible_count» + f .«hidden_count» ≤ 65536) ⌝ }
-    ensures { λ r. ⌜ told r (now (work .exit)) ≡ equations-from (now (text .entry)) (known-in t f) (module-in f home end) t 0 i (f .nodes) (now (work .entry)) ⌝ }
+    ensures { λ r. ⌜ told r (now (work .exit)) ≡ equations-from (joint (now (library .entry)) (now (text .entry))) (known-in t f) (module-in f home end) t 0 i (f .nodes) (now (work .entry)) ⌝ }
 {
     let visible = f.visible_count;
     let hidden = f.hidden_count;
@@ -45,7 +47,7 @@ fn type_placed(
         rows,
         nodes,
     };
-    type_equations(text, work, k, m, i, nodes)
+    type_equations(library, text, work, k, m, i, nodes)
 }
 
 // What is made of the form.
@@ -75,6 +77,7 @@ fn made_of(f: Form, r: Equated) -> Made
 
 // The equations of module number `home`, whose entries stand from `from` up to `end`: the first tag tells where they begin.
 pub fn type_own(
+    library: &[u8],
     text: &[u8],
     work: &mut [u32],
     t: usize,
@@ -84,9 +87,9 @@ pub fn type_own(
     end: usize,
 ) -> Made
     requires { ⌜ (t ≤ length (now work)) × (t ≤ 65536) × (end ≤ t) × (f .«visible_count» + f .«hidden_count» ≤ 65536) ⌝ }
-    ensures { λ r. ⌜ owned r (now (work .exit)) ≡ own-at (now (text .entry)) t f home from end (now (work .entry)) ⌝ }
+    ensures { λ r. ⌜ owned r (now (work .exit)) ≡ own-at (joint (now (library .entry)) (now (text .entry))) t f home from end (now (work .entry)) ⌝ }
 {
     let i = next_with(&work[0..t], 19, from, end);
-    let r = type_placed(text, work, t, f, home, i, end);
+    let r = type_placed(library, text, work, t, f, home, i, end);
     made_of(f, r)
 }

@@ -1,18 +1,19 @@
 -- One law for each way through the code, in the code's terms.
 use mathlib.Core.Path.{_≡_, refl, sym, ap, _∙_}
-use mathlib.Core.List.{List, [], _∷_}
+use mathlib.Core.List.{List, [], _∷_, _++_}
 use Prim.Native.Nat.{ℕ, zero, suc, _+_, _-_, _/_, _%_, _<_, _≤_, min}
 use native.Mathlib.Nat.{not-suc-le-zero}
 use native.Mathlib.Numerals.{sub-one, add-one}
 use native.Mathlib.Omega.{arith}
 use borrow.Author.Needs.{needs}
 use borrow.Author.Tests.{lt-ltb, le-ltb}
-use lib.ListN.{length, set, getD, drop-of-length-le}
-use lib.Seq.{set-out, drop-cons, take-nil, take-length}
+use lib.ListN.{length, set, getD, take, drop, drop-of-length-le, length-drop}
+use lib.Seq.{set-out, drop-cons, take-nil, take-length, take-all, drop-append-le, drop-append-add, take-append-add}
 use Rattle.meaning.specs.Lists.{pick}
 use Rattle.meaning.specs.Written.{digits, decimal}
 use Rattle.meaning.specs.Numbers.{name-size}
 use Rattle.names.specs.Word.{name-of}
+use Rattle.names.specs.Joint.{joint, name-in-text}
 use Rattle.pen.specs.Pen.{Pen, pen, written, part}
 use Rattle.pen.proofs.Laws.{mark-on, mark-off, written-append}
 
@@ -77,20 +78,36 @@ module _ (l : ℕ) (p : Pen) where
 pub text-done : (l : ℕ) (s : List ℕ) (p q : Pen) → q ≡ written l (part s 0 (length s)) p → q ≡ written l s p
 text-done l s p q e = e ∙ ap (λ (x : List ℕ). written l x p) (take-length s)
 
-module _ (l : ℕ) (s : List ℕ) (w : ℕ) (p q : Pen) where
-  sized : (size : ℕ) → size ≡ min (w % 64) name-size → q ≡ written l (part s (w / 64) size) p → q ≡ written l (name-of s w) p
-  unfolding name-of
-  sized size e f = f ∙ ap (λ (n : ℕ). written l (part s (w / 64) n) p) e
+-- a name of the text a and the library b behind it: it starts at w / 64 and may have k bytes
+module _ (l : ℕ) (a b : List ℕ) (w k : ℕ) (p : Pen) (e : k ≡ min (w % 64) name-size) where
+  module _ (h : w / 64 < length a) (q : Pen) (f : q ≡ written l (part a (w / 64) k) p) where
+    pub name-left : k ≤ length a - w / 64 → q ≡ written l (name-of (joint b a) w) p
+    unfolding name-of
+    name-left z = f ∙ ap (λ (xs : List ℕ). written l xs p) (rw e (sym (name-in-text b a w (omega arith))))
 
-  pub name-short : w % 64 < 40 → q ≡ written l (part s (w / 64) (w % 64)) p → q ≡ written l (name-of s w) p
-  name-short h e = sized (w % 64) (omega arith) e
+    pub name-over : (r : Pen) → length a - w / 64 < k → r ≡ written l (part b 0 (k - (length a - w / 64))) q → r ≡ written l (name-of (joint b a) w) p
+    unfolding name-of joint
+    name-over r z g =
+        let m = length a - w / 64 in
+        let size : min (w % 64) name-size ≡ m + (k - m) = omega arith in
+        let long : length (drop (w / 64) a) ≡ m = length-drop (w / 64) a in
+        let front : part a (w / 64) k ≡ drop (w / 64) a = take-all k (drop (w / 64) a) (omega arith) in
+        g ∙ ap (written l (take (k - m) b)) (f ∙ ap (λ (xs : List ℕ). written l xs p) front)
+        ∙ sym (written-append l (drop (w / 64) a) (take (k - m) b) p)
+        ∙ ap (λ (xs : List ℕ). written l xs p)
+        (sym (ap (λ (n : ℕ). take n (drop (w / 64) (a ++ b))) size ∙ ap (take (m + (k - m))) (drop-append-le (w / 64) a b (omega arith))
+        ∙ ap (λ (n : ℕ). take (n + (k - m)) (drop (w / 64) a ++ b)) (sym long) ∙ take-append-add (drop (w / 64) a) b (k - m)))
 
-  pub name-long : 40 ≤ w % 64 → q ≡ written l (part s (w / 64) 40) p → q ≡ written l (name-of s w) p
-  name-long h e = sized 40 (omega arith) e
+  pub name-right : (q : Pen) → length a ≤ w / 64 → q ≡ written l (part b (w / 64 - length a) k) p → q ≡ written l (name-of (joint b a) w) p
+  unfolding name-of joint
+  name-right q h f =
+      let place : w / 64 ≡ length a + (w / 64 - length a) = omega arith in
+      f ∙ ap (λ (xs : List ℕ). written l xs p)
+      (ap (λ (n : ℕ). part b (w / 64 - length a) n) e ∙ sym (ap (λ (i : ℕ). take (min (w % 64) name-size) (drop i (a ++ b))) place ∙ ap (take (min (w % 64) name-size)) (drop-append-add a b (w / 64 - length a))))
 
 pub number-done : (l n : ℕ) (p q : Pen) → q ≡ written l (digits 10 n) p → q ≡ written l (decimal n) p
 unfolding decimal
 number-done l n p q e = e
 
 -- what the answers of this crate hand to `search`
-pub ruleset cases = (put-in, put-past, put-full, copy-start, copy-again, copy-end, copy-past, digits-none, digits-one, digits-more, text-done, name-short, name-long, number-done, needs)
+pub ruleset cases = (put-in, put-past, put-full, copy-start, copy-again, copy-end, copy-past, digits-none, digits-one, digits-more, text-done, name-left, name-over, name-right, number-done, needs)

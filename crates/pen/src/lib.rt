@@ -1,8 +1,10 @@
 // Bytes written to lent output. The same calls count and write: lent no output, they only move the place.
+use names::joint::name_room;
 ghost use mathlib.Core.Path.{_≡_};
 ghost use mathlib.Core.List.{[], _∷_};
 ghost use Rattle.meaning.specs.Written.{digits, decimal, numbered};
 ghost use Rattle.names.specs.Word.{name-of};
+ghost use Rattle.names.specs.Joint.{joint};
 ghost use Rattle.pen.specs.Pen.{pen, written, part};
 
 // One byte at `at`. The next place; it never passes the limit.
@@ -51,15 +53,29 @@ pub fn put_text(out: &mut [u8], at: usize, limit: usize, text: &[u8]) -> usize
     put_bytes(out, at, limit, text, 0, text.len())
 }
 
-// The name w of the text.
-pub fn put_name(out: &mut [u8], at: usize, limit: usize, text: &[u8], w: u32) -> usize
-    ensures { λ r. ⌜ pen r (now (out .exit)) ≡ written limit (name-of (now (text .entry)) w) (pen at (now (out .entry))) ⌝ }
+// The name w of the text and the library behind it; a word that reaches over the seam is written from both.
+pub fn put_name(
+    out: &mut [u8],
+    at: usize,
+    limit: usize,
+    library: &[u8],
+    text: &[u8],
+    w: u32,
+) -> usize
+    ensures { λ r. ⌜ pen r (now (out .exit)) ≡ written limit (name-of (joint (now (library .entry)) (now (text .entry))) w) (pen at (now (out .entry))) ⌝ }
 {
+    let n = text.len();
     let start = (w / 64) as usize;
-    if w % 64 < 40 {
-        return put_bytes(out, at, limit, text, start, (w % 64) as usize);
+    let size = name_room(w);
+    if start < n {
+        let there = put_bytes(out, at, limit, text, start, size);
+        let left = n - start;
+        if left < size {
+            return put_bytes(out, there, limit, library, 0, size - left);
+        }
+        return there;
     }
-    put_bytes(out, at, limit, text, start, 40)
+    put_bytes(out, at, limit, library, start - n, size)
 }
 
 // The digits of n, `size` of them at most.

@@ -3,6 +3,7 @@ use super::Printed;
 use super::terms::put_term;
 use forms::EquationRow;
 ghost use mathlib.Core.Path.{_≡_};
+ghost use Rattle.names.specs.Joint.{joint};
 ghost use Rattle.pen.specs.Pen.{pen, written};
 ghost use Rattle.printing.specs.Terms.{listed, sides-at, when-at, rule-at, equation-at, Shown};
 
@@ -11,19 +12,20 @@ fn put_sides(
     out: &mut [u8],
     at: usize,
     limit: usize,
+    library: &[u8],
     text: &[u8],
     work: &[u32],
     visible: u32,
     depth: usize,
     i: usize,
 ) -> Printed
-    ensures { λ r. ⌜ Shown limit at (sides-at (now (text .entry)) (now (work .entry)) visible depth i) (now (out .entry)) r (now (out .exit)) ⌝ }
+    ensures { λ r. ⌜ Shown limit at (sides-at (joint (now (library .entry)) (now (text .entry))) (now (work .entry)) visible depth i) (now (out .entry)) r (now (out .exit)) ⌝ }
 {
-    let p = put_term(out, at, limit, text, work, visible, depth, i);
+    let p = put_term(out, at, limit, library, text, work, visible, depth, i);
     let a = p.at;
     let next = p.next;
     let b = pen::put(out, a, limit, b'=');
-    put_term(out, b, limit, text, work, visible, depth, next)
+    put_term(out, b, limit, library, text, work, visible, depth, next)
 }
 
 // The conditions from node i on, `left` of them, with commas between.
@@ -31,6 +33,7 @@ fn put_conditions(
     out: &mut [u8],
     at: usize,
     limit: usize,
+    library: &[u8],
     text: &[u8],
     work: &[u32],
     visible: u32,
@@ -38,12 +41,12 @@ fn put_conditions(
     left: u32,
     i: usize,
 ) -> Printed
-    ensures { λ r. ⌜ Shown limit at (listed (sides-at (now (text .entry)) (now (work .entry)) visible depth) left i) (now (out .entry)) r (now (out .exit)) ⌝ }
+    ensures { λ r. ⌜ Shown limit at (listed (sides-at (joint (now (library .entry)) (now (text .entry))) (now (work .entry)) visible depth) left i) (now (out .entry)) r (now (out .exit)) ⌝ }
 {
     if left == 0 {
         return Printed { at, next: i };
     }
-    let p = put_sides(out, at, limit, text, work, visible, depth, i);
+    let p = put_sides(out, at, limit, library, text, work, visible, depth, i);
     if left == 1 {
         return p;
     }
@@ -54,6 +57,7 @@ fn put_conditions(
         out,
         parted,
         limit,
+        library,
         text,
         work,
         visible,
@@ -68,6 +72,7 @@ fn put_when(
     out: &mut [u8],
     at: usize,
     limit: usize,
+    library: &[u8],
     text: &[u8],
     work: &[u32],
     visible: u32,
@@ -75,13 +80,13 @@ fn put_when(
     left: u32,
     i: usize,
 ) -> usize
-    ensures { λ r. ⌜ pen r (now (out .exit)) ≡ written limit (when-at (now (text .entry)) (now (work .entry)) visible depth left i) (pen at (now (out .entry))) ⌝ }
+    ensures { λ r. ⌜ pen r (now (out .exit)) ≡ written limit (when-at (joint (now (library .entry)) (now (text .entry))) (now (work .entry)) visible depth left i) (pen at (now (out .entry))) ⌝ }
 {
     if left == 0 {
         return at;
     }
     let a = pen::put_text(out, at, limit, b" when ");
-    let p = put_conditions(out, a, limit, text, work, visible, depth, left, i);
+    let p = put_conditions(out, a, limit, library, text, work, visible, depth, left, i);
     p.at
 }
 
@@ -90,6 +95,7 @@ fn put_rule(
     out: &mut [u8],
     at: usize,
     limit: usize,
+    library: &[u8],
     text: &[u8],
     work: &[u32],
     visible: u32,
@@ -97,12 +103,23 @@ fn put_rule(
     left: u32,
     i: usize,
 ) -> usize
-    ensures { λ r. ⌜ pen r (now (out .exit)) ≡ written limit (rule-at (now (text .entry)) (now (work .entry)) visible depth left i) (pen at (now (out .entry))) ⌝ }
+    ensures { λ r. ⌜ pen r (now (out .exit)) ≡ written limit (rule-at (joint (now (library .entry)) (now (text .entry))) (now (work .entry)) visible depth left i) (pen at (now (out .entry))) ⌝ }
 {
-    let p = put_sides(out, at, limit, text, work, visible, depth, i);
+    let p = put_sides(out, at, limit, library, text, work, visible, depth, i);
     let a = p.at;
     let next = p.next;
-    put_when(out, a, limit, text, work, visible, depth, left, next)
+    put_when(
+        out,
+        a,
+        limit,
+        library,
+        text,
+        work,
+        visible,
+        depth,
+        left,
+        next,
+    )
 }
 
 // The equation of a row, where its form's nodes stand from `nodes` on.
@@ -110,20 +127,32 @@ pub fn put_equation(
     out: &mut [u8],
     at: usize,
     limit: usize,
+    library: &[u8],
     text: &[u8],
     work: &[u32],
     visible: u32,
     nodes: u32,
     row: EquationRow,
 ) -> usize
-    ensures { λ r. ⌜ pen r (now (out .exit)) ≡ written limit (equation-at (now (text .entry)) (now (work .entry)) visible nodes row) (pen at (now (out .entry))) ⌝ }
+    ensures { λ r. ⌜ pen r (now (out .exit)) ≡ written limit (equation-at (joint (now (library .entry)) (now (text .entry))) (now (work .entry)) visible nodes row) (pen at (now (out .entry))) ⌝ }
 {
     let tag = row.tag;
     let left = row.conditions;
     let depth = row.count as usize;
     let start = nodes as usize + row.start as usize;
     let a = pen::put_text(out, at, limit, b"[");
-    let b = pen::put_name(out, a, limit, text, tag);
+    let b = pen::put_name(out, a, limit, library, text, tag);
     let c = pen::put_text(out, b, limit, b"] ");
-    put_rule(out, c, limit, text, work, visible, depth, left, start)
+    put_rule(
+        out,
+        c,
+        limit,
+        library,
+        text,
+        work,
+        visible,
+        depth,
+        left,
+        start,
+    )
 }

@@ -18,6 +18,7 @@ ghost use Rattle.meaning.specs.Names.{same, bytes};
 ghost use Rattle.meaning.specs.Origins.{same-section, same-origin, hidden-section};
 ghost use Rattle.meaning.specs.Written.{between-marks, sort-text, function-type-text, shape-text};
 ghost use Rattle.names.specs.Word.{name-of};
+ghost use Rattle.names.specs.Joint.{joint};
 ghost use Rattle.tables.specs.Entries.{home-at};
 ghost use Rattle.tables.specs.Rows.{section-of, origin-of, hidden-origin, sort-of, type-of, shape-of, item-of, row-at};
 ghost use Rattle.forms.specs.Forms.{items-at};
@@ -25,26 +26,26 @@ ghost use Rattle.pen.specs.Pen.{pen, written, rows-text};
 ghost use Rattle.printing.specs.Sorts.{sort-number, marked-sort};
 
 // Is o in the hidden section of the module that d stands in?
-fn is_hidden_there(text: &[u8], tape: &[u32], d: u32, o: Origin) -> bool
-    ensures { λ r. ⌜ r ≡ (same (name-of (now (text .entry)) (home-at (now (tape .entry)) d)) (name-of (now (text .entry)) (o .home)) && same-section hidden-section (section-of (now (text .entry)) (o .section))) ⌝ }
+fn is_hidden_there(library: &[u8], text: &[u8], tape: &[u32], d: u32, o: Origin) -> bool
+    ensures { λ r. ⌜ r ≡ (same (name-of (joint (now (library .entry)) (now (text .entry))) (home-at (now (tape .entry)) d)) (name-of (joint (now (library .entry)) (now (text .entry))) (o .home)) && same-section hidden-section (section-of (joint (now (library .entry)) (now (text .entry))) (o .section))) ⌝ }
 {
     let h = home_at(tape, d);
     let k = o.home;
-    if same_word(text, h, k) {
+    if same_word(library, text, h, k) {
         let s = o.section;
-        return same_section(text, Section::Hidden, s);
+        return same_section(library, text, Section::Hidden, s);
     }
     false
 }
 
 // Is o the origin of the hidden sort declared at d?
-fn is_hidden_sort(text: &[u8], tape: &[u32], d: u32, o: Origin) -> bool
-    ensures { λ r. ⌜ r ≡ same-origin (hidden-origin (now (text .entry)) (now (tape .entry)) d) (origin-of (now (text .entry)) (now (tape .entry)) o) ⌝ }
+fn is_hidden_sort(library: &[u8], text: &[u8], tape: &[u32], d: u32, o: Origin) -> bool
+    ensures { λ r. ⌜ r ≡ same-origin (hidden-origin (joint (now (library .entry)) (now (text .entry))) (now (tape .entry)) d) (origin-of (joint (now (library .entry)) (now (text .entry))) (now (tape .entry)) o) ⌝ }
 {
     let e = o.place;
     if kind_at(tape, e) == 0 {
-        if same_name_at(text, tape, d as usize, e as usize) {
-            return is_hidden_there(text, tape, d, o);
+        if same_name_at(library, text, tape, d as usize, e as usize) {
+            return is_hidden_there(library, text, tape, d, o);
         }
         return false;
     }
@@ -52,22 +53,38 @@ fn is_hidden_sort(text: &[u8], tape: &[u32], d: u32, o: Origin) -> bool
 }
 
 // Is row i of the table the hidden sort declared at d?
-fn is_sort_row(text: &[u8], tape: &[u32], work: &[u32], base: u32, i: u32, d: u32) -> bool
-    ensures { λ r. ⌜ r ≡ same-origin (hidden-origin (now (text .entry)) (now (tape .entry)) d) (item-of (now (text .entry)) (now (tape .entry)) (row-at (now (work .entry)) (base + i * 16)) .origin) ⌝ }
+fn is_sort_row(
+    library: &[u8],
+    text: &[u8],
+    tape: &[u32],
+    work: &[u32],
+    base: u32,
+    i: u32,
+    d: u32,
+) -> bool
+    ensures { λ r. ⌜ r ≡ same-origin (hidden-origin (joint (now (library .entry)) (now (text .entry))) (now (tape .entry)) d) (item-of (joint (now (library .entry)) (now (text .entry))) (now (tape .entry)) (row-at (now (work .entry)) (base + i * 16)) .origin) ⌝ }
 {
     let row = read_row(work, base, i);
     let o = row.origin;
-    is_hidden_sort(text, tape, d, o)
+    is_hidden_sort(library, text, tape, d, o)
 }
 
 // The number of the hidden sort declared at d.
-pub fn number_of_sort(text: &[u8], tape: &[u32], work: &[u32], base: u32, count: u32, d: u32) -> u32
+pub fn number_of_sort(
+    library: &[u8],
+    text: &[u8],
+    tape: &[u32],
+    work: &[u32],
+    base: u32,
+    count: u32,
+    d: u32,
+) -> u32
     requires { ⌜ count < 2 ^ 31 ⌝ }
-    ensures { λ r. ⌜ r ≡ sort-number (now (text .entry)) (now (tape .entry)) (now (work .entry)) base count d ⌝ }
+    ensures { λ r. ⌜ r ≡ sort-number (joint (now (library .entry)) (now (text .entry))) (now (tape .entry)) (now (work .entry)) base count d ⌝ }
 {
     let mut i: u32 = 0;
     while i < count {
-        if is_sort_row(text, tape, work, base, i, d) {
+        if is_sort_row(library, text, tape, work, base, i, d) {
             return i + 1;
         }
         i += 1;
@@ -80,6 +97,7 @@ pub fn put_sort(
     out: &mut [u8],
     at: usize,
     limit: usize,
+    library: &[u8],
     text: &[u8],
     tape: &[u32],
     work: &[u32],
@@ -88,12 +106,12 @@ pub fn put_sort(
     s: u32,
 ) -> usize
     requires { ⌜ count < 2 ^ 31 ⌝ }
-    ensures { λ r. ⌜ pen r (now (out .exit)) ≡ written limit (sort-text (items-at (now (text .entry)) (now (tape .entry)) (now (work .entry)) base count) (sort-of (now (text .entry)) (now (tape .entry)) s)) (pen at (now (out .entry))) ⌝ }
+    ensures { λ r. ⌜ pen r (now (out .exit)) ≡ written limit (sort-text (items-at (joint (now (library .entry)) (now (text .entry))) (now (tape .entry)) (now (work .entry)) base count) (sort-of (joint (now (library .entry)) (now (text .entry))) (now (tape .entry)) s)) (pen at (now (out .entry))) ⌝ }
 {
     if s % 2 == 0 {
-        return pen::put_name(out, at, limit, text, s / 2);
+        return pen::put_name(out, at, limit, library, text, s / 2);
     }
-    let k = number_of_sort(text, tape, work, base, count, s / 2);
+    let k = number_of_sort(library, text, tape, work, base, count, s / 2);
     pen::put_numbered(out, at, limit, k)
 }
 
@@ -112,6 +130,7 @@ fn put_marked(
     out: &mut [u8],
     at: usize,
     limit: usize,
+    library: &[u8],
     text: &[u8],
     tape: &[u32],
     work: &[u32],
@@ -121,11 +140,11 @@ fn put_marked(
     i: usize,
 ) -> usize
     requires { ⌜ count < 2 ^ 31 ⌝ }
-    ensures { λ r. ⌜ pen r (now (out .exit)) ≡ written limit (marked-sort (now (text .entry)) (now (tape .entry)) (now (work .entry)) base count sorts i) (pen at (now (out .entry))) ⌝ }
+    ensures { λ r. ⌜ pen r (now (out .exit)) ≡ written limit (marked-sort (joint (now (library .entry)) (now (text .entry))) (now (tape .entry)) (now (work .entry)) base count sorts i) (pen at (now (out .entry))) ⌝ }
 {
     let s = sort_at(sorts, i);
     let a = pen::put_text(out, at, limit, b"#");
-    put_sort(out, a, limit, text, tape, work, base, count, s)
+    put_sort(out, a, limit, library, text, tape, work, base, count, s)
 }
 
 // A row's sorts from the second up to `end`, each after a mark.
@@ -133,6 +152,7 @@ fn put_others(
     out: &mut [u8],
     at: usize,
     limit: usize,
+    library: &[u8],
     text: &[u8],
     tape: &[u32],
     work: &[u32],
@@ -142,12 +162,24 @@ fn put_others(
     end: usize,
 ) -> usize
     requires { ⌜ count < 2 ^ 31 ⌝ }
-    ensures { λ r. ⌜ pen r (now (out .exit)) ≡ written limit (rows-text (marked-sort (now (text .entry)) (now (tape .entry)) (now (work .entry)) base count sorts) 1 (end - 1)) (pen at (now (out .entry))) ⌝ }
+    ensures { λ r. ⌜ pen r (now (out .exit)) ≡ written limit (rows-text (marked-sort (joint (now (library .entry)) (now (text .entry))) (now (tape .entry)) (now (work .entry)) base count sorts) 1 (end - 1)) (pen at (now (out .entry))) ⌝ }
 {
     let mut to = at;
     let mut i = 1;
     while i < end {
-        to = put_marked(out, to, limit, text, tape, work, base, count, sorts, i);
+        to = put_marked(
+            out,
+            to,
+            limit,
+            library,
+            text,
+            tape,
+            work,
+            base,
+            count,
+            sorts,
+            i,
+        );
         i += 1;
     }
     to
@@ -171,6 +203,7 @@ fn put_sorts(
     out: &mut [u8],
     at: usize,
     limit: usize,
+    library: &[u8],
     text: &[u8],
     tape: &[u32],
     work: &[u32],
@@ -180,12 +213,35 @@ fn put_sorts(
     sorts: [u32; 9],
 ) -> usize
     requires { ⌜ count < 2 ^ 31 ⌝ }
-    ensures { λ r. ⌜ pen r (now (out .exit)) ≡ written limit (between-marks (bytes "#") (map (sort-text (items-at (now (text .entry)) (now (tape .entry)) (now (work .entry)) base count)) (map (sort-of (now (text .entry)) (now (tape .entry))) (take (kind - 2) sorts)))) (pen at (now (out .entry))) ⌝ }
+    ensures { λ r. ⌜ pen r (now (out .exit)) ≡ written limit (between-marks (bytes "#") (map (sort-text (items-at (joint (now (library .entry)) (now (text .entry))) (now (tape .entry)) (now (work .entry)) base count)) (map (sort-of (joint (now (library .entry)) (now (text .entry))) (now (tape .entry))) (take (kind - 2) sorts)))) (pen at (now (out .entry))) ⌝ }
 {
     let n = inputs_of(kind);
     if 0 < n {
-        let a = put_sort(out, at, limit, text, tape, work, base, count, sorts[0]);
-        return put_others(out, a, limit, text, tape, work, base, count, sorts, n);
+        let a = put_sort(
+            out,
+            at,
+            limit,
+            library,
+            text,
+            tape,
+            work,
+            base,
+            count,
+            sorts[0],
+        );
+        return put_others(
+            out,
+            a,
+            limit,
+            library,
+            text,
+            tape,
+            work,
+            base,
+            count,
+            sorts,
+            n,
+        );
     }
     at
 }
@@ -195,6 +251,7 @@ fn put_type(
     out: &mut [u8],
     at: usize,
     limit: usize,
+    library: &[u8],
     text: &[u8],
     tape: &[u32],
     work: &[u32],
@@ -204,12 +261,35 @@ fn put_type(
     sorts: [u32; 9],
 ) -> usize
     requires { ⌜ count < 2 ^ 31 ⌝ }
-    ensures { λ r. ⌜ pen r (now (out .exit)) ≡ written limit (function-type-text (items-at (now (text .entry)) (now (tape .entry)) (now (work .entry)) base count) (type-of (now (text .entry)) (now (tape .entry)) (kind - 2) sorts)) (pen at (now (out .entry))) ⌝ }
+    ensures { λ r. ⌜ pen r (now (out .exit)) ≡ written limit (function-type-text (items-at (joint (now (library .entry)) (now (text .entry))) (now (tape .entry)) (now (work .entry)) base count) (type-of (joint (now (library .entry)) (now (text .entry))) (now (tape .entry)) (kind - 2) sorts)) (pen at (now (out .entry))) ⌝ }
 {
     let a = pen::put_text(out, at, limit, b":");
-    let b = put_sorts(out, a, limit, text, tape, work, base, count, kind, sorts);
+    let b = put_sorts(
+        out,
+        a,
+        limit,
+        library,
+        text,
+        tape,
+        work,
+        base,
+        count,
+        kind,
+        sorts,
+    );
     let c = pen::put_text(out, b, limit, b"->");
-    put_sort(out, c, limit, text, tape, work, base, count, sorts[8])
+    put_sort(
+        out,
+        c,
+        limit,
+        library,
+        text,
+        tape,
+        work,
+        base,
+        count,
+        sorts[8],
+    )
 }
 
 // What follows an item's name.
@@ -217,6 +297,7 @@ pub fn put_shape(
     out: &mut [u8],
     at: usize,
     limit: usize,
+    library: &[u8],
     text: &[u8],
     tape: &[u32],
     work: &[u32],
@@ -225,7 +306,7 @@ pub fn put_shape(
     row: Row,
 ) -> usize
     requires { ⌜ count < 2 ^ 31 ⌝ }
-    ensures { λ r. ⌜ pen r (now (out .exit)) ≡ written limit (shape-text (items-at (now (text .entry)) (now (tape .entry)) (now (work .entry)) base count) (shape-of (now (text .entry)) (now (tape .entry)) (row .kind) (row .sorts))) (pen at (now (out .entry))) ⌝ }
+    ensures { λ r. ⌜ pen r (now (out .exit)) ≡ written limit (shape-text (items-at (joint (now (library .entry)) (now (text .entry))) (now (tape .entry)) (now (work .entry)) base count) (shape-of (joint (now (library .entry)) (now (text .entry))) (now (tape .entry)) (row .kind) (row .sorts))) (pen at (now (out .entry))) ⌝ }
 {
     let kind = row.kind;
     let sorts = row.sorts;
@@ -234,7 +315,30 @@ pub fn put_shape(
     }
     if kind == 1 {
         let a = pen::put_text(out, at, limit, b":");
-        return put_sort(out, a, limit, text, tape, work, base, count, sorts[8]);
+        return put_sort(
+            out,
+            a,
+            limit,
+            library,
+            text,
+            tape,
+            work,
+            base,
+            count,
+            sorts[8],
+        );
     }
-    put_type(out, at, limit, text, tape, work, base, count, kind, sorts)
+    put_type(
+        out,
+        at,
+        limit,
+        library,
+        text,
+        tape,
+        work,
+        base,
+        count,
+        kind,
+        sorts,
+    )
 }

@@ -3,6 +3,7 @@ use super::Printed;
 use tables::entries::word_at;
 ghost use mathlib.Core.Path.{_≡_};
 ghost use Prim.Native.Nat.{_<_};
+ghost use Rattle.names.specs.Joint.{joint};
 ghost use Rattle.pen.specs.Pen.{pen, written};
 ghost use Rattle.printing.specs.Terms.{node-text, listed, term-at, Shown};
 
@@ -11,17 +12,18 @@ fn put_item(
     out: &mut [u8],
     at: usize,
     limit: usize,
+    library: &[u8],
     text: &[u8],
     work: &[u32],
     visible: u32,
     v: u32,
 ) -> usize
-    ensures { λ r. ⌜ pen r (now (out .exit)) ≡ written limit (node-text (now (text .entry)) (now (work .entry)) visible v) (pen at (now (out .entry))) ⌝ }
+    ensures { λ r. ⌜ pen r (now (out .exit)) ≡ written limit (node-text (joint (now (library .entry)) (now (text .entry))) (now (work .entry)) visible v) (pen at (now (out .entry))) ⌝ }
 {
     if v / 16 % 2 == 0 {
         let row = (v / 32) as usize;
         let w = word_at(work, visible as usize + row * 16 + 1);
-        return pen::put_name(out, at, limit, text, w);
+        return pen::put_name(out, at, limit, library, text, w);
     }
     pen::put_numbered(out, at, limit, v / 32 + 1)
 }
@@ -31,13 +33,14 @@ pub fn put_term(
     out: &mut [u8],
     at: usize,
     limit: usize,
+    library: &[u8],
     text: &[u8],
     work: &[u32],
     visible: u32,
     depth: usize,
     i: usize,
 ) -> Printed
-    ensures { λ r. ⌜ Shown limit at (term-at (now (text .entry)) (now (work .entry)) visible depth i) (now (out .entry)) r (now (out .exit)) ⌝ }
+    ensures { λ r. ⌜ Shown limit at (term-at (joint (now (library .entry)) (now (text .entry))) (now (work .entry)) visible depth i) (now (out .entry)) r (now (out .exit)) ⌝ }
 {
     if depth == 0 {
         return Printed { at, next: i };
@@ -45,7 +48,7 @@ pub fn put_term(
     if i < work.len() {
         let v = word_at(work, i);
         let left = (v % 16) as usize;
-        let named = put_item(out, at, limit, text, work, visible, v);
+        let named = put_item(out, at, limit, library, text, work, visible, v);
         if left == 0 {
             return Printed {
                 at: named,
@@ -57,6 +60,7 @@ pub fn put_term(
             out,
             opened,
             limit,
+            library,
             text,
             work,
             visible,
@@ -77,6 +81,7 @@ fn put_arguments(
     out: &mut [u8],
     at: usize,
     limit: usize,
+    library: &[u8],
     text: &[u8],
     work: &[u32],
     visible: u32,
@@ -85,12 +90,12 @@ fn put_arguments(
     i: usize,
 ) -> Printed
     requires { ⌜ left < 16 ⌝ }
-    ensures { λ r. ⌜ Shown limit at (listed (term-at (now (text .entry)) (now (work .entry)) visible depth) left i) (now (out .entry)) r (now (out .exit)) ⌝ }
+    ensures { λ r. ⌜ Shown limit at (listed (term-at (joint (now (library .entry)) (now (text .entry))) (now (work .entry)) visible depth) left i) (now (out .entry)) r (now (out .exit)) ⌝ }
 {
     if left == 0 {
         return Printed { at, next: i };
     }
-    let p = put_term(out, at, limit, text, work, visible, depth, i);
+    let p = put_term(out, at, limit, library, text, work, visible, depth, i);
     if left == 1 {
         return p;
     }
@@ -101,6 +106,7 @@ fn put_arguments(
         out,
         parted,
         limit,
+        library,
         text,
         work,
         visible,

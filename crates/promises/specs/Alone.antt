@@ -212,22 +212,22 @@ no-room-told r e (inl p) q = inr p
 no-room-told r e (inr p) q = inl (ap (λ (x : Answer). x .number) p ∙ q)
 
 pub demand-3-alone : Demand3 ByItself
-demand-3-alone asked text text′ ms ms′ c memory memory′ output output′ =
+demand-3-alone asked texts texts′ ms ms′ c memory memory′ output output′ =
     ⊎-elim
-    (λ z. inl (no-room-told _ _ (answer-ended memory output asked text ms (c .read-as)) z))
+    (λ z. inl (no-room-told _ _ (answer-ended memory output asked texts ms (c .read-as)) z))
     (λ k. ⊎-elim
-    (λ z. inr (inl (no-room-told _ _ (answer-ended memory′ output′ asked text′ ms′ (c .read-as′)) z)))
-    (λ k′. demand-3 asked text text′ ms ms′ (in-the-call k k′) memory memory′ output output′)
+    (λ z. inr (inl (no-room-told _ _ (answer-ended memory′ output′ asked texts′ ms′ (c .read-as′)) z)))
+    (λ k′. demand-3 asked texts texts′ ms ms′ (in-the-call k k′) memory memory′ output output′)
     (room-or-not asked (normalise asked ms′)))
     (room-or-not asked (normalise asked ms))
   where
-    in-the-call : NotEighteen (normalise asked ms) → NotEighteen (normalise asked ms′) → Comparable InTheCall asked text text′ ms ms′
+    in-the-call : NotEighteen (normalise asked ms) → NotEighteen (normalise asked ms′) → Comparable InTheCall asked texts texts′ ms ms′
     in-the-call k k′ = record {
       read-as = c .read-as;
       read-as′ = c .read-as′;
       stands = c .stands;
       stands′ = c .stands′;
       same-order = c .same-order;
-      accepted = alone-accepted asked ms (read-fresh text ms (c .read-as .last) (c .read-as .reads)) (c .stands) (c .accepted) k;
-      accepted′ = alone-accepted asked ms′ (read-fresh text′ ms′ (c .read-as′ .last) (c .read-as′ .reads)) (c .stands′) (c .accepted′) k′;
+      accepted = alone-accepted asked ms (read-fresh texts ms (c .read-as .reads)) (c .stands) (c .accepted) k;
+      accepted′ = alone-accepted asked ms′ (read-fresh texts′ ms′ (c .read-as′ .reads)) (c .stands′) (c .accepted′) k′;
     }

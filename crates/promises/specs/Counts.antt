@@ -14,7 +14,6 @@ use Rattle.meaning.specs.Lists.{pick, before, each}
 use Rattle.meaning.specs.Names.{Name, same, member}
 use Rattle.meaning.specs.Numbers.{memory-size, accepted, asked-absent, lent-short}
 use Rattle.meaning.specs.Syntax.{Signature, Parameter, Pair, Clause, renamed-by, bound-by, Import, Equation, Module}
-use Rattle.meaning.specs.Grammar.{State, Result, done, refused, read}
 use Rattle.meaning.specs.Normal.{Visible, Normal, empty}
 use Rattle.meaning.specs.Origins.{ResolvedSides, Item}
 use Rattle.meaning.specs.Checks.{Outcome, fine, stop, _>>=_, _>>_, unless, consistent, fits, room, total-room, Size, checked}
@@ -22,12 +21,13 @@ use Rattle.meaning.specs.Clauses.{rename, bound-to, bind}
 use Rattle.meaning.specs.Own.{available-sorts}
 use Rattle.meaning.specs.Typing.{made-equation, typed-equations}
 use Rattle.meaning.specs.Evaluate.{Evaluated, named-by, names-right, acyclic, once-in, once-in-parameters, declared-once, normal-of, clause, clauses, expressions, united, imported, own-checks, own-equations, joined-own, evaluate}
+use Rattle.meaning.specs.Texts.{Texts, Reading, all-read, refused-in, read-texts}
 use Rattle.meaning.specs.Reached.{Placed, reached-among, reached, Ended, normalised, refused-at, end-or, total-of, in-turn, module-names, short-or-blank, normalise}
 use Rattle.meaning.specs.Listing.{lines-text}
 use Rattle.meaning.specs.Distinct.{Fresh, read-fresh}
 use Rattle.promises.specs.ListingLaws.{every-so}
 use Rattle.meaning.specs.OrderLaws.{Every, every-middle, Pairwise, same-self}
-use Rattle.meaning.specs.Answer.{Answer, refusal, of-ended, of-read, within, answer}
+use Rattle.meaning.specs.Answer.{Answer, refusal, of-ended, unread, of-read, within, answer}
 
 -- ---- one module after the other
 
@@ -100,44 +100,49 @@ module _ (declared : List Name) where
 -- ---- every answer
 
 -- which way a call went, and its count
-pub data Counted (memory-lent : ℕ) (asked : Name) (text : List ℕ) (r : Answer) : Type 0 where
-  memory-short : ltb memory-lent memory-size ≡ true → r .number ≡ lent-short → r .modules ≡ 0 → Counted memory-lent asked text r
-  not-read : (number at : ℕ) → read text ≡ refused number at → r .number ≡ number → r .modules ≡ 0 → Counted memory-lent asked text r
-  not-there : (ms : List Module) (s : State) → read text ≡ done ms s → member asked (module-names ms) ≡ false
-      → r .number ≡ asked-absent → r .modules ≡ 0 → Counted memory-lent asked text r
-  all-evaluated : (ms : List Module) (s : State) → read text ≡ done ms s → (r .number ≡ accepted) ⊎ (r .number ≡ lent-short)
-      → r .modules ≡ length (reached asked ms) → Counted memory-lent asked text r
-  up-to-refused : (ms : List Module) (s : State) → read text ≡ done ms s
-      → RefusedIn (module-names ms) (reached asked ms) (r .number) (r .modules) (r .evaluating) (r .culprit) → Counted memory-lent asked text r
+pub data Counted (memory-lent : ℕ) (asked : Name) (texts : Texts) (r : Answer) : Type 0 where
+  memory-short : ltb memory-lent memory-size ≡ true → r .number ≡ lent-short → r .modules ≡ 0 → Counted memory-lent asked texts r
+  not-read : (in-library : Bool) (number at : ℕ) → read-texts texts ≡ refused-in in-library number at → r .number ≡ number → r .modules ≡ 0 → Counted memory-lent asked texts r
+  not-there : (ms : List Module) → read-texts texts ≡ all-read ms → member asked (module-names ms) ≡ false
+      → r .number ≡ asked-absent → r .modules ≡ 0 → Counted memory-lent asked texts r
+  all-evaluated : (ms : List Module) → read-texts texts ≡ all-read ms → (r .number ≡ accepted) ⊎ (r .number ≡ lent-short)
+      → r .modules ≡ length (reached asked ms) → Counted memory-lent asked texts r
+  up-to-refused : (ms : List Module) → read-texts texts ≡ all-read ms
+      → RefusedIn (module-names ms) (reached asked ms) (r .number) (r .modules) (r .evaluating) (r .culprit) → Counted memory-lent asked texts r
 
-module _ (memory-lent output-lent : ℕ) (asked : Name) (text : List ℕ) where
+module _ (memory-lent output-lent : ℕ) (asked : Name) (texts : Texts) where
   -- a refusal has no listing, so what is lent does not change it
   refusal-within : (k c : ℕ) (m w : Name) (at : ℕ) → within output-lent asked (refusal k c m w at) ≡ refusal k c m w at
   unfolding within refusal lines-text each pick
   refusal-within k c m w at = rw (leb·zero output-lent)
 
-  ended-counted : (ms : List Module) (s : State) → read text ≡ done ms s → (e : Ended) → CountedIn (module-names ms) 0 (reached asked ms) e
-      → Counted memory-lent asked text (within output-lent asked (of-ended asked e))
+  unread-within : (in-library : Bool) (k at : ℕ) → within output-lent asked (unread in-library k at) ≡ unread in-library k at
+  unfolding within unread lines-text each pick
+  unread-within in-library k at = rw (leb·zero output-lent)
+
+  ended-counted : (ms : List Module) → read-texts texts ≡ all-read ms → (e : Ended) → CountedIn (module-names ms) 0 (reached asked ms) e
+      → Counted memory-lent asked texts (within output-lent asked (of-ended asked e))
   unfolding of-ended within refusal
-  ended-counted ms s q (normalised count n) h =
-      by-cases (Counted memory-lent asked text) _ _ _ (λ e. all-evaluated ms s q (inl refl) (omega arith))
-      (λ e. all-evaluated ms s q (inr refl) (omega arith))
-  ended-counted ms s q (refused-at number count told culprit) h =
-      subst (Counted memory-lent asked text) (sym (refusal-within number count told culprit 0))
-      (up-to-refused ms s q (subst (λ (c : ℕ). RefusedIn (module-names ms) (reached asked ms) number c told culprit) (omega (arith, h .2)) (h .1)))
+  ended-counted ms q (normalised count n) h =
+      by-cases (Counted memory-lent asked texts) _ _ _ (λ e. all-evaluated ms q (inl refl) (omega arith))
+      (λ e. all-evaluated ms q (inr refl) (omega arith))
+  ended-counted ms q (refused-at number count told culprit) h =
+      subst (Counted memory-lent asked texts) (sym (refusal-within number count told culprit 0))
+      (up-to-refused ms q (subst (λ (c : ℕ). RefusedIn (module-names ms) (reached asked ms) number c told culprit) (omega (arith, h .2)) (h .1)))
 
-  read-counted : (r : Result (List Module)) → read text ≡ r → Counted memory-lent asked text (within output-lent asked (of-read asked r))
-  unfolding of-read normalise of-ended refusal
-  read-counted (done ms s) q =
-      by-cases (λ (e : Ended). Counted memory-lent asked text (within output-lent asked (of-ended asked e))) _ _ _
-      (λ e. ended-counted ms s q (in-turn (module-names ms) [] empty (reached asked ms)) (in-turn-counted (module-names ms) [] empty (reached asked ms)))
-      (λ e. subst (Counted memory-lent asked text) (sym (refusal-within asked-absent 0 asked (short-or-blank asked) 0)) (not-there ms s q e refl refl))
-  read-counted (refused number at) q = subst (Counted memory-lent asked text) (sym (refusal-within number 0 [] [] at)) (not-read number at q refl refl)
+  read-counted : (r : Reading) → read-texts texts ≡ r → Counted memory-lent asked texts (within output-lent asked (of-read asked r))
+  unfolding of-read normalise of-ended unread refusal
+  read-counted (all-read ms) q =
+      by-cases (λ (e : Ended). Counted memory-lent asked texts (within output-lent asked (of-ended asked e))) _ _ _
+      (λ e. ended-counted ms q (in-turn (module-names ms) [] empty (reached asked ms)) (in-turn-counted (module-names ms) [] empty (reached asked ms)))
+      (λ e. subst (Counted memory-lent asked texts) (sym (refusal-within asked-absent 0 asked (short-or-blank asked) 0)) (not-there ms q e refl refl))
+  read-counted (refused-in l number at) q =
+      subst (Counted memory-lent asked texts) (sym (unread-within l number at)) (not-read l number at q refl refl)
 
-  pub counted : Counted memory-lent asked text (answer memory-lent output-lent asked text)
+  pub counted : Counted memory-lent asked texts (answer memory-lent output-lent asked texts)
   unfolding answer refusal
   counted =
-      by-cases (Counted memory-lent asked text) _ _ _ (λ e. memory-short e refl refl) (λ e. read-counted (read text) refl)
+      by-cases (Counted memory-lent asked texts) _ _ _ (λ e. memory-short e refl refl) (λ e. read-counted (read-texts texts) refl)
 
 -- ---- 1 to 6: evaluating refuses with 7 and more
 
@@ -259,18 +264,18 @@ evaluate-from declared earlier home total env m =
     (bound-from _ _ (bound-from _ _ (expressions-from env (m .imports)) (united-from empty)) (joined-own-from home total m))))
 
 -- a call that gives 1 to 6 has evaluated nothing
-pub none-evaluated : (memory-lent output-lent : ℕ) (asked : Name) (text : List ℕ) → let r = answer memory-lent output-lent asked text in
+pub none-evaluated : (memory-lent output-lent : ℕ) (asked : Name) (texts : Texts) → let r = answer memory-lent output-lent asked texts in
     1 ≤ r .number → r .number ≤ 6 → r .modules ≡ 0
-none-evaluated memory-lent output-lent asked text low high =
-    go (answer memory-lent output-lent asked text) (counted memory-lent output-lent asked text) low high
+none-evaluated memory-lent output-lent asked texts low high =
+    go (answer memory-lent output-lent asked texts) (counted memory-lent output-lent asked texts) low high
   where
-    go : (r : Answer) → Counted memory-lent asked text r → 1 ≤ r .number → r .number ≤ 6 → r .modules ≡ 0
+    go : (r : Answer) → Counted memory-lent asked texts r → 1 ≤ r .number → r .number ≤ 6 → r .modules ≡ 0
     go r (memory-short d e h) low high = h
-    go r (not-read number at q e h) low high = h
-    go r (not-there ms s q d e h) low high = h
-    go r (all-evaluated ms s q (inl e) h) low high = absurd (omega arith)
-    go r (all-evaluated ms s q (inr e) h) low high = absurd (omega arith)
-    go r (up-to-refused ms s q h) low high =
+    go r (not-read l number at q e h) low high = h
+    go r (not-there ms q d e h) low high = h
+    go r (all-evaluated ms q (inl e) h) low high = absurd (omega arith)
+    go r (all-evaluated ms q (inr e) h) low high = absurd (omega arith)
+    go r (up-to-refused ms q h) low high =
         let from : 7 ≤ r .number = subst FromSeven (h .outcome) (evaluate-from _ _ _ _ _ (h .refused .self)) in absurd (omega arith)
 
 -- ---- the count by the name that is told: reached modules have distinct names, so one more than stand before the first of that name
@@ -315,11 +320,11 @@ before-it x [] vs h = rw (same-self (x .self .name))
 before-it x (u ∷ us) vs h = rw (every-middle (Apart u) us vs x (h .0)) (ap suc (before-it x us vs (h .1)))
 
 -- where a module is refused, the count is one more than the number of reached modules before the module that is told
-pub refused-count : (asked : Name) (text : List ℕ) (ms : List Module) (s : State) (number count : ℕ) (told culprit : Name)
-    → read text ≡ done ms s → RefusedIn (module-names ms) (reached asked ms) number count told culprit
+pub refused-count : (asked : Name) (texts : Texts) (ms : List Module) (number count : ℕ) (told culprit : Name)
+    → read-texts texts ≡ all-read ms → RefusedIn (module-names ms) (reached asked ms) number count told culprit
     → count ≡ before (λ (x : Placed). same told (x .self .name)) (reached asked ms) + 1
 unfolding reached
-refused-count asked text ms s number count told culprit q h =
-    let d = reached-distinctly asked 0 [] [] ms (read-fresh text ms s q) in
+refused-count asked texts ms number count told culprit q h =
+    let d = reached-distinctly asked 0 [] [] ms (read-fresh texts ms q) in
     let e = before-it (h .refused) (h .accepted-before) (h .not-evaluated) (subst (Pairwise Apart) (h .split) (d .apart)) in
     h .counted ∙ (rw (h .split, h .named, e))

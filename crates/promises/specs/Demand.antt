@@ -8,18 +8,17 @@ use mathlib.Core.List.{List, [], _∷_}
 use Rattle.meaning.specs.Names.{Name, member}
 use Rattle.meaning.specs.Numbers.{no-room, lent-short}
 use Rattle.meaning.specs.Syntax.{Module}
-use Rattle.meaning.specs.Grammar.{State, read, done}
 use Rattle.meaning.specs.Evaluate.{named-by, missing, too-late}
+use Rattle.meaning.specs.Texts.{Texts, all-read, read-texts}
 use Rattle.meaning.specs.Reached.{Placed, reached, Ended, module-names, normalise, normalised, refused-at}
 use Rattle.meaning.specs.Answer.{Answer, listing, answer}
 use Rattle.promises.specs.VisiblePart.{visible-part}
 
--- ---- what the two texts have in common
+-- ---- what the two specifications have in common, each a pair of texts
 
--- the text is read without refusal, and these are its modules
-pub record ReadAs (text : List ℕ) (ms : List Module) : Type 0 where
-  pub last : State
-  pub reads : read text ≡ done ms last
+-- both texts are read without refusal, and these are their modules, the library's first
+pub record ReadAs (texts : Texts) (ms : List Module) : Type 0 where
+  pub reads : read-texts texts ≡ all-read ms
 
 -- two modules that differ at most in their hidden sorts, hidden functions, variables and equations
 pub record SameButHidden (m m′ : Module) : Type 0 where
@@ -54,9 +53,9 @@ abbrev pub Acceptance : Type 1
 Acceptance = Name → List Module → Type 0
 
 -- the premises. Of the modules that are not reached nothing is asked
-pub record Comparable (OthersAccepted : Acceptance) (asked : Name) (text text′ : List ℕ) (ms ms′ : List Module) : Type 0 where
-  pub read-as : ReadAs text ms
-  pub read-as′ : ReadAs text′ ms′
+pub record Comparable (OthersAccepted : Acceptance) (asked : Name) (texts texts′ : Texts) (ms ms′ : List Module) : Type 0 where
+  pub read-as : ReadAs texts ms
+  pub read-as′ : ReadAs texts′ ms′
   -- the asked module stands in both
   pub stands : member asked (module-names ms) ≡ true
   pub stands′ : member asked (module-names ms′) ≡ true
@@ -95,6 +94,7 @@ pub record SameAnswer (r r′ : Answer) : Type 0 where
   pub evaluating : r .evaluating ≡ r′ .evaluating
   pub culprit : r .culprit ≡ r′ .culprit
   pub at : r .at ≡ r′ .at
+  pub in-library : r .in-library ≡ r′ .in-library
   pub visible-lines : visible-part (listing r) ≡ visible-part (listing r′)
 
 -- 18 or 19: what is hidden takes room, and its lines do
@@ -107,5 +107,5 @@ Agreeing r r′ = ShortOfRoom r ⊎ (ShortOfRoom r′ ⊎ SameAnswer r r′)
 -- the demand, whatever is lent to the two calls
 abbrev pub Demand3 : Acceptance → Type 0
 Demand3 OthersAccepted =
-    (asked : Name) (text text′ : List ℕ) (ms ms′ : List Module) → Comparable OthersAccepted asked text text′ ms ms′
-    → (memory memory′ output output′ : ℕ) → Agreeing (answer memory output asked text) (answer memory′ output′ asked text′)
+    (asked : Name) (texts texts′ : Texts) (ms ms′ : List Module) → Comparable OthersAccepted asked texts texts′ ms ms′
+    → (memory memory′ output output′ : ℕ) → Agreeing (answer memory output asked texts) (answer memory′ output′ asked texts′)

@@ -7,6 +7,7 @@ use mathlib.Core.Bool.{true}
 use mathlib.Core.List.{List, [], _∷_}
 use Rattle.meaning.specs.Names.{Name, member}
 use Rattle.meaning.specs.Syntax.{Module}
+use Rattle.meaning.specs.Texts.{Texts}
 use Rattle.meaning.specs.Reached.{Placed, reached, module-names}
 use Rattle.promises.specs.Demand.{ReadAs, Counterparts, Acceptance, Comparable}
 
@@ -24,9 +25,9 @@ InOrderIn R [] ys = Unit {0}
 InOrderIn R (x ∷ xs) [] = ⊥
 InOrderIn R (x ∷ xs) (y ∷ ys) = (R x y × InOrderIn R xs ys) ⊎ InOrderIn R (x ∷ xs) ys
 
-pub record Enough (OthersAccepted : Acceptance) (asked : Name) (text text′ : List ℕ) (ms ms′ : List Module) : Type 0 where
-  pub read-as : ReadAs text ms
-  pub read-as′ : ReadAs text′ ms′
+pub record Enough (OthersAccepted : Acceptance) (asked : Name) (texts texts′ : Texts) (ms ms′ : List Module) : Type 0 where
+  pub read-as : ReadAs texts ms
+  pub read-as′ : ReadAs texts′ ms′
   -- the asked module stands in the one
   pub stands : member asked (module-names ms) ≡ true
   -- the modules that it reaches there stand in the other, in the same order
@@ -36,5 +37,5 @@ pub record Enough (OthersAccepted : Acceptance) (asked : Name) (text text′ : L
 
 abbrev pub IsEnough : Acceptance → Type 0
 IsEnough OthersAccepted =
-    (asked : Name) (text text′ : List ℕ) (ms ms′ : List Module) → Enough OthersAccepted asked text text′ ms ms′
-    → Comparable OthersAccepted asked text text′ ms ms′
+    (asked : Name) (texts texts′ : Texts) (ms ms′ : List Module) → Enough OthersAccepted asked texts texts′ ms ms′
+    → Comparable OthersAccepted asked texts texts′ ms ms′

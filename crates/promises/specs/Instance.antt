@@ -8,7 +8,7 @@ use mathlib.Core.List.{List, []}
 use Rattle.meaning.specs.Names.{bytes, Name}
 use Rattle.meaning.specs.Numbers.{memory-size, program-output, accepted, lent-short}
 use Rattle.meaning.specs.Syntax.{Module}
-use Rattle.meaning.specs.Grammar.{State, Result, read, done, refused}
+use Rattle.meaning.specs.Texts.{Texts, two-texts, Reading, all-read, refused-in, read-texts}
 use Rattle.meaning.specs.Reached.{reached}
 use Rattle.meaning.specs.Answer.{Answer, listing, answer}
 use Rattle.meaning.specs.Trials.{all-opened}
@@ -20,44 +20,40 @@ use Rattle.promises.specs.Alone.{demand-3-alone}
 use Rattle.promises.specs.Stored.{UpToDate, may-be-kept-alone}
 
 -- what was read
-unfoldable pub modules-in : Result (List Module) → List Module
-modules-in (done ms s) = ms
-modules-in (refused k p) = []
+unfoldable pub modules-in : Reading → List Module
+modules-in (all-read ms) = ms
+modules-in (refused-in l k p) = []
 
-unfoldable pub state-in : Result (List Module) → State
-state-in (done ms s) = s
-state-in (refused k p) = record { token = record { kind = 0; start = 0; end = 0 }; nodes = 0 }
+-- M2 is asked. It reaches M1, which hides different things in the two, and stands in the library in the one; M0 is not reached, and would not be accepted
+unfoldable pub one-pair : Texts
+one-pair = two-texts (bytes "module M1 begin exports begin sorts A functions f : A -> A end sorts H functions g : A -> H variables x : -> A equations [e] g(x) = g(f(x)) end M1") (bytes "module M2 begin imports M1 { renamed by [ A -> C ] } end M2")
 
--- M2 is asked. It reaches M1, which hides different things in the two; M0 is not reached, and would not be accepted
-unfoldable pub one-text : List ℕ
-one-text = bytes "module M1 begin exports begin sorts A functions f : A -> A end sorts H functions g : A -> H variables x : -> A equations [e] g(x) = g(f(x)) end M1 module M2 begin imports M1 { renamed by [ A -> C ] } end M2"
-
-unfoldable pub other-text : List ℕ
-other-text = bytes "module M1 begin exports begin sorts A functions f : A -> A end sorts C, D functions h : C # D -> A k : -> D variables y, z : -> C equations [i] h(y, k) = h(z, k) [ii] f(h(y, k)) = h(y, k) end M1 module M0 begin imports M2 sorts S, S end M0 module M2 begin imports M1 { renamed by [ A -> C ] } end M2"
+unfoldable pub other-pair : Texts
+other-pair = two-texts [] (bytes "module M1 begin exports begin sorts A functions f : A -> A end sorts C, D functions h : C # D -> A k : -> D variables y, z : -> C equations [i] h(y, k) = h(z, k) [ii] f(h(y, k)) = h(y, k) end M1 module M0 begin imports M2 sorts S, S end M0 module M2 begin imports M1 { renamed by [ A -> C ] } end M2")
 
 unfoldable pub asked : Name
 asked = bytes "M2"
 
 abbrev pub one-modules : List Module
-one-modules = modules-in (read one-text)
+one-modules = modules-in (read-texts one-pair)
 
 abbrev pub other-modules : List Module
-other-modules = modules-in (read other-text)
+other-modules = modules-in (read-texts other-pair)
 
-one-read : ReadAs one-text one-modules
-unfolding all-opened modules-in state-in one-text
-one-read = record { last = state-in (read one-text); reads = refl }
+one-read : ReadAs one-pair one-modules
+unfolding all-opened modules-in one-pair
+one-read = record { reads = refl }
 
-other-read : ReadAs other-text other-modules
-unfolding all-opened modules-in state-in other-text
-other-read = record { last = state-in (read other-text); reads = refl }
+other-read : ReadAs other-pair other-modules
+unfolding all-opened modules-in other-pair
+other-read = record { reads = refl }
 
 -- M1 is not the asked module
 pub not-m1 : {X : Type 0} → bytes "M1" ≡ bytes "M2" → X
 not-m1 e = let z : _≡_ {A = ℕ} 49 50 = cc in absurd (omega arith)
 
 same-but-hidden : InTurn (Counterparts asked one-modules other-modules) (reached asked one-modules) (reached asked other-modules)
-unfolding all-opened modules-in one-text other-text asked
+unfolding all-opened modules-in one-pair other-pair asked
 same-but-hidden = (
   record {
     alike = record { name = refl; parameters = refl; exports = refl; imports = refl };
@@ -76,8 +72,8 @@ same-but-hidden = (
   ),
 )
 
-pub comparable : Comparable InTheCall asked one-text other-text one-modules other-modules
-unfolding all-opened modules-in one-text other-text asked
+pub comparable : Comparable InTheCall asked one-pair other-pair one-modules other-modules
+unfolding all-opened modules-in one-pair other-pair asked
 comparable = record {
   read-as = one-read;
   read-as′ = other-read;
@@ -89,8 +85,8 @@ comparable = record {
 }
 
 -- M1 is accepted when it is asked by itself, too
-pub comparable-alone : Comparable ByItself asked one-text other-text one-modules other-modules
-unfolding all-opened modules-in one-text other-text asked
+pub comparable-alone : Comparable ByItself asked one-pair other-pair one-modules other-modules
+unfolding all-opened modules-in one-pair other-pair asked
 comparable-alone = record {
   read-as = one-read;
   read-as′ = other-read;
@@ -102,8 +98,8 @@ comparable-alone = record {
 }
 
 -- and it is enough to find M1 and M2 in the other text, with M0 between them
-pub enough : Enough ByItself asked one-text other-text one-modules other-modules
-unfolding all-opened modules-in one-text other-text asked placed-among all-placed
+pub enough : Enough ByItself asked one-pair other-pair one-modules other-modules
+unfolding all-opened modules-in one-pair other-pair asked placed-among all-placed
 enough = record {
   read-as = one-read;
   read-as′ = other-read;
@@ -116,29 +112,29 @@ enough = record {
 -- ---- so the answers agree in what is visible
 
 abbrev pub one-answer : Answer
-one-answer = answer memory-size program-output asked one-text
+one-answer = answer memory-size program-output asked one-pair
 
 abbrev pub other-answer : Answer
-other-answer = answer memory-size program-output asked other-text
+other-answer = answer memory-size program-output asked other-pair
 
 pub both-accepted : (one-answer .number ≡ accepted) × (other-answer .number ≡ accepted)
-unfolding all-opened one-text other-text asked
+unfolding all-opened one-pair other-pair asked
 both-accepted = (refl, refl)
 
 pub agrees : SameAnswer one-answer other-answer
 agrees =
     if-accepted one-answer other-answer (both-accepted .0) (both-accepted .1)
-    (demand-3 asked one-text other-text one-modules other-modules comparable memory-size memory-size program-output program-output)
+    (demand-3 asked one-pair other-pair one-modules other-modules comparable memory-size memory-size program-output program-output)
 
 pub agrees-alone : SameAnswer one-answer other-answer
 agrees-alone =
     if-accepted one-answer other-answer (both-accepted .0) (both-accepted .1)
-    (demand-3-alone asked one-text other-text one-modules other-modules comparable-alone memory-size memory-size program-output program-output)
+    (demand-3-alone asked one-pair other-pair one-modules other-modules comparable-alone memory-size memory-size program-output program-output)
 
 -- and the one visible part, once stored, may be kept for the other text
 pub kept : ShortOfRoom other-answer ⊎ UpToDate (visible-part (listing one-answer)) other-answer
 kept =
-    may-be-kept-alone asked one-text other-text one-modules other-modules enough memory-size memory-size program-output program-output _
+    may-be-kept-alone asked one-pair other-pair one-modules other-modules enough memory-size memory-size program-output program-output _
     (record { is-accepted = both-accepted .0; shows = refl })
 
 -- ---- computed: the visible parts are the same bytes, the listings are not
@@ -147,27 +143,27 @@ unfoldable pub visible-text : List ℕ
 visible-text = bytes "module=M2\nsort=C\norigin=[M1,export,sort,A]\nfunction=f:C->C\norigin=[M1,export,function,f:A->A]\n"
 
 pub one-listing : listing one-answer ≡ bytes "module=M2\nsort=C\norigin=[M1,export,sort,A]\nfunction=f:C->C\norigin=[M1,export,function,f:A->A]\nhidden-sort={1}\norigin=[M1,hidden,sort,H]\nhidden-function={2}:C->{1}\norigin=[M1,hidden,function,g:A->H]\nvariable={3}:C\norigin=[M1,hidden,variable,x:->A]\nequation=[e] {2}({3})={2}(f({3}))\nend=M2\n"
-unfolding all-opened one-text asked
+unfolding all-opened one-pair asked
 one-listing = refl
 
 pub other-listing : listing other-answer ≡ bytes "module=M2\nsort=C\norigin=[M1,export,sort,A]\nfunction=f:C->C\norigin=[M1,export,function,f:A->A]\nhidden-sort={1}\norigin=[M1,hidden,sort,C]\nhidden-sort={2}\norigin=[M1,hidden,sort,D]\nhidden-function={3}:{1}#{2}->C\norigin=[M1,hidden,function,h:C#D->A]\nhidden-function={4}:->{2}\norigin=[M1,hidden,function,k:->D]\nvariable={5}:{1}\norigin=[M1,hidden,variable,y:->C]\nvariable={6}:{1}\norigin=[M1,hidden,variable,z:->C]\nequation=[i] {3}({5},{4})={3}({6},{4})\nequation=[ii] f({3}({5},{4}))={3}({5},{4})\nend=M2\n"
-unfolding all-opened other-text asked
+unfolding all-opened other-pair asked
 other-listing = refl
 
 pub one-visible : visible-part (listing one-answer) ≡ visible-text
-unfolding all-opened visible-part-opened one-text asked visible-text
+unfolding all-opened visible-part-opened one-pair asked visible-text
 one-visible = refl
 
 pub other-visible : visible-part (listing other-answer) ≡ visible-text
-unfolding all-opened visible-part-opened other-text asked visible-text
+unfolding all-opened visible-part-opened other-pair asked visible-text
 other-visible = refl
 
 -- ---- why the demand leaves 18 and 19 out: where 350 bytes of output are lent, the one listing has room and the other has none
 
-pub one-has-room : answer memory-size 350 asked one-text .number ≡ accepted
-unfolding all-opened one-text asked
+pub one-has-room : answer memory-size 350 asked one-pair .number ≡ accepted
+unfolding all-opened one-pair asked
 one-has-room = refl
 
-pub other-has-none : answer memory-size 350 asked other-text .number ≡ lent-short
-unfolding all-opened other-text asked
+pub other-has-none : answer memory-size 350 asked other-pair .number ≡ lent-short
+unfolding all-opened other-pair asked
 other-has-none = refl

@@ -44,3 +44,4 @@ pub mod PlainText
 pub mod OneListing
 -- the count of modules
 pub mod Counts
+pub mod Library

@@ -11,9 +11,9 @@ use Rattle.meaning.specs.Normal.{Normal}
 use Rattle.meaning.specs.Written.{in-order}
 use Rattle.meaning.specs.Listing.{lines-text, listing-lines}
 use Rattle.meaning.specs.Numbers.{memory-size, program-output}
-use Rattle.meaning.specs.Grammar.{State, Result, done, refused, read}
+use Rattle.meaning.specs.Texts.{Texts, two-texts, Reading, all-read, refused-in, read-texts}
 use Rattle.meaning.specs.Reached.{Ended, normalised, refused-at, normalise}
-use Rattle.meaning.specs.Answer.{Answer, listing, refusal, of-ended, of-read, within, answer}
+use Rattle.meaning.specs.Answer.{Answer, listing, refusal, of-ended, unread, of-read, within, answer}
 use Rattle.meaning.specs.Trials.{all-opened}
 use Rattle.promises.specs.ListingLaws.{NonEmpty}
 use Rattle.promises.specs.SameListing.{SameNormal, one-listing}
@@ -21,7 +21,7 @@ use Rattle.promises.specs.WellTyped.{WellTyped}
 use Rattle.promises.specs.TermsTold.{content}
 use Rattle.promises.specs.SoundEvaluation.{Accepted, AcceptedCall, one-normal-form}
 use Rattle.promises.specs.AcceptedForms.{accepted-one-order, found-same, one-content, one-visible, same-itself, same-then}
-use Rattle.promises.specs.PlainText.{accepted-text}
+use Rattle.promises.specs.PlainText.{accepted-texts}
 
 -- ---- the two halves of "one listing", for whatever is accepted
 
@@ -35,20 +35,19 @@ accepted-one-listing asked k n a s =
 pub accepted-one-form : (k n : Normal) → Accepted k → Accepted n → SameNormal k n → k ≡ n
 accepted-one-form k n a b s = accepted-one-order k n a s ∙ sym (accepted-one-order n n b (same-itself n))
 
--- a call that is read and accepted: its text, its modules, the count, and the normal form
-pub record AcceptedText (asked : Name) (n : Normal) : Type 0 where
-  pub text : List ℕ
+-- a call that is read and accepted: its texts, their modules, the count, and the normal form
+pub record AcceptedTexts (asked : Name) (n : Normal) : Type 0 where
+  pub texts : Texts
   pub modules-read : List Module
-  pub state : State
   pub count : ℕ
-  pub is-read : read text ≡ done modules-read state
+  pub is-read : read-texts texts ≡ all-read modules-read
   pub is-accepted : normalise asked modules-read ≡ normalised count n
 
-pub accepted-call : (asked : Name) (n : Normal) → AcceptedText asked n → AcceptedCall asked n
-accepted-call asked n a = accepted-text (a .text) asked (a .modules-read) (a .state) (a .count) n (a .is-read) (a .is-accepted)
+pub accepted-call : (asked : Name) (n : Normal) → AcceptedTexts asked n → AcceptedCall asked n
+accepted-call asked n a = accepted-texts (a .texts) asked (a .modules-read) (a .count) n (a .is-read) (a .is-accepted)
 
 -- every equation of it is well typed, over its own items
-pub accepted-well-typed : (asked : Name) (n : Normal) → AcceptedText asked n → WellTyped n
+pub accepted-well-typed : (asked : Name) (n : Normal) → AcceptedTexts asked n → WellTyped n
 accepted-well-typed asked n a = accepted-call asked n a .normal .whole .typed
 
 -- the same visible part, hidden items, and equations but for their modules and positions: tags, terms and types are the same, in the same order
@@ -59,7 +58,7 @@ pub record SameForm (m m′ : Name) (n n′ : Normal) : Type 0 where
   pub equations : map content (n .hidden .equations) ≡ map content (n′ .hidden .equations)
 
 -- two accepted calls with one listing asked for one module, and have one normal form, as far as document 01 writes it
-pub accepted-told : (asked asked′ : Name) (n n′ : Normal) → AcceptedText asked n → AcceptedText asked′ n′
+pub accepted-told : (asked asked′ : Name) (n n′ : Normal) → AcceptedTexts asked n → AcceptedTexts asked′ n′
     → lines-text (listing-lines asked n) ≡ lines-text (listing-lines asked′ n′) → SameForm asked asked′ n n′
 accepted-told asked asked′ n n′ t t′ e =
     let a = accepted-call asked n t in
@@ -77,33 +76,33 @@ accepted-told asked asked′ n n′ t t′ e =
 -- an answer whose lines list the normal form of an accepted call
 pub record Listed (asked : Name) (r : Answer) : Type 0 where
   pub normal : Normal
-  pub accepted : AcceptedText asked normal
+  pub accepted : AcceptedTexts asked normal
   pub lists : r .lines ≡ listing-lines asked normal
 
 abbrev IfLines : Name → Answer → Type 0
 IfLines asked r = NonEmpty (r .lines) → Listed asked r
 
-module _ (asked : Name) (text : List ℕ) where
-  ended-listed : (ms : List Module) (s : State) → read text ≡ done ms s → (e : Ended) → normalise asked ms ≡ e → IfLines asked (of-ended asked e)
+module _ (asked : Name) (texts : Texts) where
+  ended-listed : (ms : List Module) → read-texts texts ≡ all-read ms → (e : Ended) → normalise asked ms ≡ e → IfLines asked (of-ended asked e)
   unfolding of-ended refusal
-  ended-listed ms s r (normalised count n) e h = record {
+  ended-listed ms r (normalised count n) e h = record {
     normal = n;
-    accepted = record { text = text; modules-read = ms; state = s; count = count; is-read = r; is-accepted = e };
+    accepted = record { texts = texts; modules-read = ms; count = count; is-read = r; is-accepted = e };
     lists = refl;
   }
-  ended-listed ms s r (refused-at number count m w) e h = absurd h
+  ended-listed ms r (refused-at number count m w) e h = absurd h
 
-  read-listed : (r : Result (List Module)) → read text ≡ r → IfLines asked (of-read asked r)
-  unfolding of-read refusal
-  read-listed (done ms s) e = ended-listed ms s e (normalise asked ms) refl
-  read-listed (refused number at) e = λ h. absurd h
+  read-listed : (r : Reading) → read-texts texts ≡ r → IfLines asked (of-read asked r)
+  unfolding of-read unread
+  read-listed (all-read ms) e = ended-listed ms e (normalise asked ms) refl
+  read-listed (refused-in l number at) e = λ h. absurd h
 
   -- every answer that has lines
-  pub answer-listed : (memory output : ℕ) → IfLines asked (answer memory output asked text)
+  pub answer-listed : (memory output : ℕ) → IfLines asked (answer memory output asked texts)
   unfolding answer within refusal
   answer-listed memory output =
       by-cases (IfLines asked) _ _ _ (λ b. λ h. absurd h)
-      (λ b. by-cases (IfLines asked) _ _ _ (λ c. read-listed (read text) refl) (λ c. λ h. absurd h))
+      (λ b. by-cases (IfLines asked) _ _ _ (λ c. read-listed (read-texts texts) refl) (λ c. λ h. absurd h))
 
 -- two answers with one listing have one normal form, as far as document 01 writes it
 pub answers-told : (asked asked′ : Name) (r r′ : Answer) (l : Listed asked r) (l′ : Listed asked′ r′) → listing r ≡ listing r′
@@ -115,37 +114,39 @@ answers-told asked asked′ r r′ l l′ e =
 -- ---- what a listing does not tell: to which module an equation belongs, and its position there. Below, `f` stands in N1 in the one
 -- specification and in N2 in the other; M has two different normal forms, with one listing
 
-unfoldable pub one-text : List ℕ
-one-text =
-    bytes "module M0 begin exports begin sorts A functions a : -> A end end M0\n"
+unfoldable pub one-pair : Texts
+one-pair =
+    two-texts []
+    (bytes "module M0 begin exports begin sorts A functions a : -> A end end M0\n"
     ++ (bytes "module N1 begin imports M0 equations [e] a = a [f] a = a end N1\n"
-    ++ (bytes "module N2 begin imports M0 equations [g] a = a end N2\n" ++ bytes "module M begin imports N1, N2 end M"))
+    ++ (bytes "module N2 begin imports M0 equations [g] a = a end N2\n" ++ bytes "module M begin imports N1, N2 end M")))
 
-unfoldable pub other-text : List ℕ
-other-text =
-    bytes "module M0 begin exports begin sorts A functions a : -> A end end M0\n"
+unfoldable pub other-pair : Texts
+other-pair =
+    two-texts []
+    (bytes "module M0 begin exports begin sorts A functions a : -> A end end M0\n"
     ++ (bytes "module N1 begin imports M0 equations [e] a = a end N1\n"
-    ++ (bytes "module N2 begin imports M0 equations [f] a = a [g] a = a end N2\n" ++ bytes "module M begin imports N1, N2 end M"))
+    ++ (bytes "module N2 begin imports M0 equations [f] a = a [g] a = a end N2\n" ++ bytes "module M begin imports N1, N2 end M")))
 
 equations-in : Ended → List ResolvedEquation
 equations-in (normalised count n) = n .hidden .equations
 equations-in (refused-at number count m w) = []
 
-equations-of : Result (List Module) → List ResolvedEquation
-equations-of (done ms s) = equations-in (normalise (bytes "M") ms)
-equations-of (refused number at) = []
+equations-of : Reading → List ResolvedEquation
+equations-of (all-read ms) = equations-in (normalise (bytes "M") ms)
+equations-of (refused-in l number at) = []
 
-homes : List ℕ → List ℕ
-homes text = map (λ (e : ResolvedEquation). e .home) (equations-of (read text))
+homes : Texts → List ℕ
+homes texts = map (λ (e : ResolvedEquation). e .home) (equations-of (read-texts texts))
 
-one-homes : homes one-text ≡ 1 ∷ 1 ∷ 2 ∷ []
-unfolding all-opened homes equations-of equations-in one-text
+one-homes : homes one-pair ≡ 1 ∷ 1 ∷ 2 ∷ []
+unfolding all-opened homes equations-of equations-in one-pair
 one-homes = refl
 
-other-homes : homes other-text ≡ 1 ∷ 2 ∷ 2 ∷ []
-unfolding all-opened homes equations-of equations-in other-text
+other-homes : homes other-pair ≡ 1 ∷ 2 ∷ 2 ∷ []
+unfolding all-opened homes equations-of equations-in other-pair
 other-homes = refl
 
-pub not-told : listing (answer memory-size program-output (bytes "M") one-text) ≡ listing (answer memory-size program-output (bytes "M") other-text)
-unfolding all-opened one-text other-text
+pub not-told : listing (answer memory-size program-output (bytes "M") one-pair) ≡ listing (answer memory-size program-output (bytes "M") other-pair)
+unfolding all-opened one-pair other-pair
 not-told = refl

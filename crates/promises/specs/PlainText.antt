@@ -19,6 +19,8 @@ use Rattle.meaning.specs.Evaluate.{clauses}
 use Rattle.meaning.specs.Normal.{Normal}
 use Rattle.promises.specs.ListingLaws.{Within, in-name, NonEmpty, Plain, every-append}
 use Rattle.meaning.specs.Numbers.{text-size, module-limit, over-size, other-end, module-twice}
+use Rattle.meaning.specs.Texts.{Texts, all-read, read-texts}
+use Rattle.meaning.specs.TextsLaws.{of-both}
 use Rattle.meaning.specs.Grammar.{State, Result, done, refused, Parser, after, _>>=_ as bind-read, _>>_ as next-read, return, refuse, unexpected, if-next, too-many, step, expect, short-name, name, that-name, this-name, separated, many, some-of, optional, sort-list, input-type, function, signature, parameter, exports, pair, pairs, renamed, bound, perhaps-renamed, modifier, modifier-end, import-expression, imports, variable-group, variables, counted-name, term-name, term-by, in-brackets, term, sides, sides-list, implied, conditional, equation-after, no-nodes, equation, fresh-name, a-module, modules, empty-signature, is, is-name, read}
 use Rattle.meaning.specs.Reached.{normalised, normalise}
 use Rattle.meaning.specs.OrderLaws.{Every}
@@ -391,13 +393,20 @@ module _ (text : List ℕ) where
       reads-bind (reads-if _ (reads-return [] tt) (record { reads = λ s k. reads-modules n (m .name ∷ taken) .reads s k })) (λ ms g.
       reads-return (m ∷ ms) (h, g)))
 
-  pub read-plain : (ms : List Module) (s : State) → read text ≡ done ms s → Every PlainModule ms
+  text-plain : (n : ℕ) (taken : List Name) (ms : List Module) (s : State) → read text n taken ≡ done ms s → Every PlainModule ms
   unfolding read
-  read-plain ms s e =
+  text-plain n taken ms s e =
       subst (λ (r : Result (List Module)). GivesRead (Every PlainModule) r) e
-      (by-cases (GivesRead (Every PlainModule)) _ _ _ (λ f. reads-modules module-limit [] .reads _ (token-named 0)) (λ f. tt)) .0
+      (by-cases (GivesRead (Every PlainModule)) _ _ _ (λ f. reads-modules n taken .reads _ (token-named 0)) (λ f. tt)) .0
 
--- a text whose call is accepted
-pub accepted-text : (text : List ℕ) (asked : Name) (ms : List Module) (s : State) (count : ℕ) (n : Normal) → read text ≡ done ms s
+both-plain : (ls ms : List Module) → Every PlainModule ls → Every PlainModule ms → Every PlainModule (ls ++ ms)
+both-plain [] ms h g = g
+both-plain (l ∷ ls) ms h g = (h .0, both-plain ls ms (h .1) g)
+
+pub read-plain : (texts : Texts) (ms : List Module) → read-texts texts ≡ all-read ms → Every PlainModule ms
+read-plain = of-both (Every PlainModule) tt both-plain text-plain
+
+-- texts whose call is accepted
+pub accepted-texts : (texts : Texts) (asked : Name) (ms : List Module) (count : ℕ) (n : Normal) → read-texts texts ≡ all-read ms
     → normalise asked ms ≡ normalised count n → AcceptedCall asked n
-accepted-text text asked ms s count n e f = call-accepted asked ms count n (read-plain text ms s e) f
+accepted-texts texts asked ms count n e f = call-accepted asked ms count n (read-plain texts ms e) f

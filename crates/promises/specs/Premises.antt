@@ -9,15 +9,15 @@ use Rattle.meaning.specs.Lists.{pick}
 use Rattle.meaning.specs.Names.{bytes, Name, same, member}
 use Rattle.meaning.specs.Numbers.{memory-size, program-output}
 use Rattle.meaning.specs.Syntax.{Module}
-use Rattle.meaning.specs.Grammar.{read}
 use Rattle.meaning.specs.Written.{decimal}
 use Rattle.meaning.specs.Evaluate.{named-by, missing, too-late}
+use Rattle.meaning.specs.Texts.{Texts, two-texts, read-texts}
 use Rattle.meaning.specs.Reached.{Placed, reached, module-names}
 use Rattle.meaning.specs.Answer.{listing, answer}
 use Rattle.meaning.specs.Trials.{all-opened}
 use Rattle.promises.specs.VisiblePart.{visible-part, visible-part-opened}
 use Rattle.promises.specs.Demand.{ReadAs, ForEach, Counterparts, InTurn, InTheCall, Comparable}
-use Rattle.promises.specs.Instance.{modules-in, state-in, asked, not-m1}
+use Rattle.promises.specs.Instance.{modules-in, asked, not-m1}
 
 -- ---- the premises but one
 
@@ -50,9 +50,9 @@ pub record CounterpartsBut (left-out : Premise) (asked : Name) (ms ms′ : List 
       But left-out names-found
       (ForEach (λ w. too-late (module-names ms) (x .earlier) w ≡ too-late (module-names ms′) (x′ .earlier) w) (named-by (x .self)))
 
-pub record ComparableBut (left-out : Premise) (asked : Name) (text text′ : List ℕ) (ms ms′ : List Module) : Type 0 where
-  pub read-as : ReadAs text ms
-  pub read-as′ : ReadAs text′ ms′
+pub record ComparableBut (left-out : Premise) (asked : Name) (texts texts′ : Texts) (ms ms′ : List Module) : Type 0 where
+  pub read-as : ReadAs texts ms
+  pub read-as′ : ReadAs texts′ ms′
   pub stands : member asked (module-names ms) ≡ true
   pub stands′ : member asked (module-names ms′) ≡ true
   pub same-order : But left-out same-modules (InTurn (CounterpartsBut left-out asked ms ms′) (reached asked ms) (reached asked ms′))
@@ -76,10 +76,10 @@ all-alike asked ms ms′ (x ∷ xs) (x′ ∷ xs′) h = (
   all-alike asked ms ms′ xs xs′ (h .1),
 )
 
-pub nothing-left-out : (asked : Name) (text text′ : List ℕ) (ms ms′ : List Module) → ComparableBut nothing asked text text′ ms ms′
-    → Comparable InTheCall asked text text′ ms ms′
+pub nothing-left-out : (asked : Name) (texts texts′ : Texts) (ms ms′ : List Module) → ComparableBut nothing asked texts texts′ ms ms′
+    → Comparable InTheCall asked texts texts′ ms ms′
 unfolding pick place
-nothing-left-out asked text text′ ms ms′ c = record {
+nothing-left-out asked texts texts′ ms ms′ c = record {
   read-as = c .read-as;
   read-as′ = c .read-as′;
   stands = c .stands;
@@ -92,20 +92,20 @@ nothing-left-out asked text text′ ms ms′ c = record {
 -- ---- two texts that show that a premise matters
 
 -- an answer's number, its culprit, and the visible part of its listing
-unfoldable pub told : List ℕ → List ℕ
-told text =
-    let r = answer memory-size program-output asked text in
+unfoldable pub told : Texts → List ℕ
+told texts =
+    let r = answer memory-size program-output asked texts in
     decimal (r .number) ++ (bytes " " ++ (r .culprit ++ (bytes "\n" ++ visible-part (listing r))))
 
-pub record Matters (p : Premise) (text text′ : List ℕ) (result result′ : List ℕ) : Type 0 where
-  pub others : ComparableBut p asked text text′ (modules-in (read text)) (modules-in (read text′))
-  pub first-told : told text ≡ result
-  pub second-told : told text′ ≡ result′
+pub record Matters (p : Premise) (texts texts′ : Texts) (result result′ : List ℕ) : Type 0 where
+  pub others : ComparableBut p asked texts texts′ (modules-in (read-texts texts)) (modules-in (read-texts texts′))
+  pub first-told : told texts ≡ result
+  pub second-told : told texts′ ≡ result′
   pub apart : same result result′ ≡ false
 
 -- opens what all of them compute by
 unfoldable pub matters-opened : Unit {0}
-unfolding all-opened visible-part-opened modules-in state-in place asked told
+unfolding all-opened visible-part-opened modules-in place asked told
 matters-opened = tt
 
 -- nor is M0 asked
@@ -114,15 +114,15 @@ not-m0 e = let z : _≡_ {A = ℕ} 48 50 = cc in absurd (omega arith)
 
 -- a parameter of an imported module
 pub parameters-matter : Matters same-parameters
-    (bytes "module M1 begin parameters P begin sorts X end P end M1 module M2 begin imports M1 end M2")
-    (bytes "module M1 begin parameters P begin sorts Y end P end M1 module M2 begin imports M1 end M2")
+    (two-texts [] (bytes "module M1 begin parameters P begin sorts X end P end M1 module M2 begin imports M1 end M2"))
+    (two-texts [] (bytes "module M1 begin parameters P begin sorts Y end P end M1 module M2 begin imports M1 end M2"))
     (bytes "0 \nmodule=M2\nparameter=P\nparameter-sort=X\norigin=[M1,parameter P,sort,X]\n")
     (bytes "0 \nmodule=M2\nparameter=P\nparameter-sort=Y\norigin=[M1,parameter P,sort,Y]\n")
 unfolding matters-opened
 parameters-matter = record {
   others = record {
-    read-as = record { last = _; reads = refl };
-    read-as′ = record { last = _; reads = refl };
+    read-as = record { reads = refl };
+    read-as′ = record { reads = refl };
     stands = refl;
     stands′ = refl;
     same-order = (
@@ -142,15 +142,15 @@ parameters-matter = record {
 
 -- an export of an imported module
 pub exports-matter : Matters same-exports
-    (bytes "module M1 begin exports begin sorts A end end M1 module M2 begin imports M1 end M2")
-    (bytes "module M1 begin exports begin sorts B end end M1 module M2 begin imports M1 end M2")
+    (two-texts [] (bytes "module M1 begin exports begin sorts A end end M1 module M2 begin imports M1 end M2"))
+    (two-texts [] (bytes "module M1 begin exports begin sorts B end end M1 module M2 begin imports M1 end M2"))
     (bytes "0 \nmodule=M2\nsort=A\norigin=[M1,export,sort,A]\n")
     (bytes "0 \nmodule=M2\nsort=B\norigin=[M1,export,sort,B]\n")
 unfolding matters-opened
 exports-matter = record {
   others = record {
-    read-as = record { last = _; reads = refl };
-    read-as′ = record { last = _; reads = refl };
+    read-as = record { reads = refl };
+    read-as′ = record { reads = refl };
     stands = refl;
     stands′ = refl;
     same-order = (
@@ -170,15 +170,15 @@ exports-matter = record {
 
 -- an import of an imported module: the same module under another name
 pub imports-matter : Matters same-imports
-    (bytes "module M0 begin exports begin sorts A end end M0 module M1 begin imports M0 end M1 module M2 begin imports M1 end M2")
-    (bytes "module M0 begin exports begin sorts A end end M0 module M1 begin imports M0 { renamed by [ A -> B ] } end M1 module M2 begin imports M1 end M2")
+    (two-texts [] (bytes "module M0 begin exports begin sorts A end end M0 module M1 begin imports M0 end M1 module M2 begin imports M1 end M2"))
+    (two-texts [] (bytes "module M0 begin exports begin sorts A end end M0 module M1 begin imports M0 { renamed by [ A -> B ] } end M1 module M2 begin imports M1 end M2"))
     (bytes "0 \nmodule=M2\nsort=A\norigin=[M0,export,sort,A]\n")
     (bytes "0 \nmodule=M2\nsort=B\norigin=[M0,export,sort,A]\n")
 unfolding matters-opened
 imports-matter = record {
   others = record {
-    read-as = record { last = _; reads = refl };
-    read-as′ = record { last = _; reads = refl };
+    read-as = record { reads = refl };
+    read-as′ = record { reads = refl };
     stands = refl;
     stands′ = refl;
     same-order = (
@@ -201,15 +201,15 @@ imports-matter = record {
 
 -- a hidden function of the asked module itself: its own hidden names clash with visible ones
 pub asked-matters : Matters asked-unchanged
-    (bytes "module M1 begin exports begin sorts A functions f : A -> A end end M1 module M2 begin imports M1 functions g : A -> A end M2")
-    (bytes "module M1 begin exports begin sorts A functions f : A -> A end end M1 module M2 begin imports M1 functions f : A -> A end M2")
+    (two-texts [] (bytes "module M1 begin exports begin sorts A functions f : A -> A end end M1 module M2 begin imports M1 functions g : A -> A end M2"))
+    (two-texts [] (bytes "module M1 begin exports begin sorts A functions f : A -> A end end M1 module M2 begin imports M1 functions f : A -> A end M2"))
     (bytes "0 \nmodule=M2\nsort=A\norigin=[M1,export,sort,A]\nfunction=f:A->A\norigin=[M1,export,function,f:A->A]\n")
     (bytes "10 f\n")
 unfolding matters-opened
 asked-matters = record {
   others = record {
-    read-as = record { last = _; reads = refl };
-    read-as′ = record { last = _; reads = refl };
+    read-as = record { reads = refl };
+    read-as′ = record { reads = refl };
     stands = refl;
     stands′ = refl;
     same-order = (
@@ -229,15 +229,15 @@ asked-matters = record {
 
 -- a name that is missing in the one and late in the other
 pub names-matter : Matters names-found
-    (bytes "module M2 begin imports M1 end M2")
-    (bytes "module M2 begin imports M1 end M2 module M1 begin end M1")
+    (two-texts [] (bytes "module M2 begin imports M1 end M2"))
+    (two-texts [] (bytes "module M2 begin imports M1 end M2 module M1 begin end M1"))
     (bytes "7 M1\n")
     (bytes "8 M1\n")
 unfolding matters-opened
 names-matter = record {
   others = record {
-    read-as = record { last = _; reads = refl };
-    read-as′ = record { last = _; reads = refl };
+    read-as = record { reads = refl };
+    read-as′ = record { reads = refl };
     stands = refl;
     stands′ = refl;
     same-order = (
@@ -254,15 +254,15 @@ names-matter = record {
 
 -- the order of the modules: in the second text M1 stands after M2, and is not reached
 pub order-matters : Matters same-modules
-    (bytes "module M1 begin end M1 module M2 begin imports M1 end M2")
-    (bytes "module M2 begin imports M1 end M2 module M1 begin end M1")
+    (two-texts [] (bytes "module M1 begin end M1 module M2 begin imports M1 end M2"))
+    (two-texts [] (bytes "module M2 begin imports M1 end M2 module M1 begin end M1"))
     (bytes "0 \nmodule=M2\n")
     (bytes "8 M1\n")
 unfolding matters-opened
 order-matters = record {
   others = record {
-    read-as = record { last = _; reads = refl };
-    read-as′ = record { last = _; reads = refl };
+    read-as = record { reads = refl };
+    read-as′ = record { reads = refl };
     stands = refl;
     stands′ = refl;
     same-order = tt;
@@ -276,15 +276,15 @@ order-matters = record {
 
 -- an imported module that is not accepted: its own hidden sort clashes with its exported one
 pub acceptance-matters : Matters others-accepted
-    (bytes "module M1 begin exports begin sorts A end sorts B end M1 module M2 begin imports M1 end M2")
-    (bytes "module M1 begin exports begin sorts A end sorts A end M1 module M2 begin imports M1 end M2")
+    (two-texts [] (bytes "module M1 begin exports begin sorts A end sorts B end M1 module M2 begin imports M1 end M2"))
+    (two-texts [] (bytes "module M1 begin exports begin sorts A end sorts A end M1 module M2 begin imports M1 end M2"))
     (bytes "0 \nmodule=M2\nsort=A\norigin=[M1,export,sort,A]\n")
     (bytes "10 A\n")
 unfolding matters-opened
 acceptance-matters = record {
   others = record {
-    read-as = record { last = _; reads = refl };
-    read-as′ = record { last = _; reads = refl };
+    read-as = record { reads = refl };
+    read-as′ = record { reads = refl };
     stands = refl;
     stands′ = refl;
     same-order = (

@@ -14,6 +14,7 @@ use Rattle.meaning.specs.Normal.{Visible, Normal, empty, unite-visible}
 use Rattle.meaning.specs.Written.{visible-in-order}
 use Rattle.meaning.specs.Checks.{Outcome, Size, fine, stop}
 use Rattle.meaning.specs.Evaluate.{Evaluated, import-names, named-by, missing, too-late, names-right, evaluate}
+use Rattle.meaning.specs.Texts.{Texts}
 use Rattle.meaning.specs.Reached.{Placed, reached, Ended, end-or, total-of, in-turn, module-names, normalise, normalised, refused-at}
 use Rattle.meaning.specs.Listing.{line, lines-text, visible-lines, shown}
 use Rattle.meaning.specs.Answer.{Answer, listing, refusal, of-ended, of-read, within, answer}
@@ -145,9 +146,9 @@ pub normalise-stands : (asked : Name) (ms : List Module) → member asked (modul
 unfolding normalise pick
 normalise-stands asked ms e = rw e
 
-pub normalise-close : (asked : Name) (text text′ : List ℕ) (ms ms′ : List Module) → Comparable InTheCall asked text text′ ms ms′
+pub normalise-close : (asked : Name) (texts texts′ : Texts) (ms ms′ : List Module) → Comparable InTheCall asked texts texts′ ms ms′
     → Close (normalise asked ms) (normalise asked ms′)
-normalise-close asked text text′ ms ms′ c =
+normalise-close asked texts texts′ ms ms′ c =
     let p = normalise-stands asked ms (c .stands) in
     let p′ = normalise-stands asked ms′ (c .stands′) in
     subst (λ r. Close r (normalise asked ms′)) (sym p)
@@ -170,6 +171,7 @@ ended-same asked (normalised c n) (normalised c′ n′) t t′ q = inr (inr rec
   evaluating = refl;
   culprit = refl;
   at = refl;
+  in-library = refl;
   visible-lines =
       t ∙ ap lines-text
       (listing-shown asked n ∙ (λ i. shown false (line "module" asked ∷ visible-lines (q .1 i))) ∙ sym (listing-shown asked n′)) ∙ sym t′;
@@ -184,6 +186,7 @@ ended-same asked (refused-at k c m w) (refused-at k′ c′ m′ w′) t t′ (i
   evaluating = q .2;
   culprit = q .3;
   at = refl;
+  in-library = refl;
   visible-lines = refl;
 })
 
@@ -201,10 +204,10 @@ unfolding pick
 short-second true x y z p h = h
 short-second false x y z p h = inl p
 
-pub answer-ended : (memory output : ℕ) (asked : Name) (text : List ℕ) (ms : List Module) → ReadAs text ms
-    → Short (answer memory output asked text) (of-ended asked (normalise asked ms))
+pub answer-ended : (memory output : ℕ) (asked : Name) (texts : Texts) (ms : List Module) → ReadAs texts ms
+    → Short (answer memory output asked texts) (of-ended asked (normalise asked ms))
 unfolding answer within refusal of-read
-answer-ended memory output asked text ms e =
+answer-ended memory output asked texts ms e =
     short-first _ _ _ _ refl (short-second _ _ _ _ refl (inr (ap (of-read asked) (e .reads))))
 
 agreeing : (r r′ e e′ : Answer) → Short r e → Short r′ e′ → Agreeing e e′ → Agreeing r r′
@@ -213,11 +216,11 @@ agreeing r r′ e e′ (inr p) (inl q) h = inr (inl (inr q))
 agreeing r r′ e e′ (inr p) (inr q) h = subst (λ x. Agreeing x r′) (sym p) (subst (λ x. Agreeing e x) (sym q) h)
 
 pub demand-3 : Demand3 InTheCall
-demand-3 asked text text′ ms ms′ c memory memory′ output output′ =
-    agreeing _ _ _ _ (answer-ended memory output asked text ms (c .read-as)) (answer-ended memory′ output′ asked text′ ms′ (c .read-as′))
+demand-3 asked texts texts′ ms ms′ c memory memory′ output output′ =
+    agreeing _ _ _ _ (answer-ended memory output asked texts ms (c .read-as)) (answer-ended memory′ output′ asked texts′ ms′ (c .read-as′))
     (ended-same asked (normalise asked ms) (normalise asked ms′)
-    (ended-tied asked text ms (c .read-as .last) (c .read-as .reads)) (ended-tied asked text′ ms′ (c .read-as′ .last) (c .read-as′ .reads))
-    (normalise-close asked text text′ ms ms′ c))
+    (ended-tied asked texts ms (c .read-as .reads)) (ended-tied asked texts′ ms′ (c .read-as′ .reads))
+    (normalise-close asked texts texts′ ms ms′ c))
 
 pub has-room : (r : Answer) → r .number ≡ accepted → ShortOfRoom r → ⊥
 has-room r p (inl q) = omega (arith, p, q)

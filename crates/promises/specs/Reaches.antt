@@ -279,13 +279,13 @@ reaches-no-more asked ms ms′ fresh stands h =
 
 pub is-enough : (OthersAccepted : Acceptance) → IsEnough OthersAccepted
 unfolding reached all-placed
-is-enough OthersAccepted asked text text′ ms ms′ c = record {
+is-enough OthersAccepted asked texts texts′ ms ms′ c = record {
   read-as = c .read-as;
   read-as′ = c .read-as′;
   stands = c .stands;
   stands′ = names-stand asked ms ms′ (reached asked ms) 0 [] ms′ (c .same-order) asked (asked-reached asked 0 [] ms (c .stands));
   same-order =
-      reaches-no-more asked ms ms′ (read-fresh text′ ms′ (c .read-as′ .last) (c .read-as′ .reads)) (c .stands) (c .same-order);
+      reaches-no-more asked ms ms′ (read-fresh texts′ ms′ (c .read-as′ .reads)) (c .stands) (c .same-order);
   accepted = c .accepted;
   accepted′ = c .accepted′;
 }

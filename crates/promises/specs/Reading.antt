@@ -10,6 +10,8 @@ use Rattle.meaning.specs.Names.{byte, Name, same, member}
 use Rattle.meaning.specs.Numbers.{text-size, name-size, module-limit, import-limit, binding-limit, pair-limit, argument-limit, condition-limit, bracket-limit, node-limit, module-twice}
 use Rattle.meaning.specs.Tokens.{end-of-text, arrow, implies, begin-key, bound-key, by-key, end-key, equations-key, exports-key, functions-key, imports-key, module-key, parameters-key, renamed-key, sorts-key, to-key, variables-key, when-key, token-at}
 use Rattle.meaning.specs.Syntax.{Pair, Clause, Term, Sides, Module, renamed-by, bound-by}
+use Rattle.meaning.specs.Texts.{Texts, all-read, read-texts}
+use Rattle.meaning.specs.TextsLaws.{of-both}
 use Rattle.meaning.specs.Grammar.{State, Result, done, refused, Parser, after, _>>=_, _>>_, return, refuse, unexpected, if-next, is, is-name, begins-term, too-many, empty-signature, step, expect, spelled, short-name, name, that-name, this-name, separated, many, some-of, optional, sort-list, input-type, function, signature, parameter, exports, pair, pairs, renamed, bound, perhaps-renamed, modifier, modifier-end, import-expression, imports, variable-group, variables, counted-name, term-name, term-by, in-brackets, term, sides, sides-list, implied, conditional, equation-after, no-nodes, equation, fresh-name, a-module, modules, read}
 use Rattle.promises.specs.Demand.{ForEach}
 use Rattle.promises.specs.Tie.{Inline}
@@ -370,11 +372,18 @@ module _ (text : List ℕ) where
       (next-steady (ForEach InlineModule) (is end-of-text) _ _ (return-steady (ForEach InlineModule) [] tt) (modules-steady n (m .name ∷ taken)))
       (λ ms k. return-steady (ForEach InlineModule) (m ∷ ms) (h, k)))
 
-  read-fair : Fair (ForEach InlineModule) (read text)
+  text-fair : (n : ℕ) (taken : List Name) → Fair (ForEach InlineModule) (read text n taken)
   unfolding read
-  read-fair =
+  text-fair n taken =
       fair-pick (ForEach InlineModule) (leb (length text) text-size) _ _
-      (λ b. modules-steady module-limit [] (record { token = token-at text 0; nodes = 0 }) (token-inline text 0)) tt
+      (λ b. modules-steady n taken (record { token = token-at text 0; nodes = 0 }) (token-inline text 0)) tt
 
-  pub read-inline : (ms : List Module) (s : State) → read text ≡ done ms s → ForEach InlineModule ms
-  read-inline ms s e = subst (Fair (ForEach InlineModule)) e read-fair .0
+  text-inline : (n : ℕ) (taken : List Name) (ms : List Module) (s : State) → read text n taken ≡ done ms s → ForEach InlineModule ms
+  text-inline n taken ms s e = subst (Fair (ForEach InlineModule)) e (text-fair n taken) .0
+
+both-inline : (ls ms : List Module) → ForEach InlineModule ls → ForEach InlineModule ms → ForEach InlineModule (ls ++ ms)
+both-inline [] ms h g = g
+both-inline (l ∷ ls) ms h g = (h .0, both-inline ls ms (h .1) g)
+
+pub read-inline : (texts : Texts) (ms : List Module) → read-texts texts ≡ all-read ms → ForEach InlineModule ms
+read-inline = of-both (ForEach InlineModule) tt both-inline text-inline

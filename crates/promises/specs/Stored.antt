@@ -6,6 +6,7 @@ use mathlib.Core.List.{List}
 use Rattle.meaning.specs.Names.{Name}
 use Rattle.meaning.specs.Numbers.{accepted}
 use Rattle.meaning.specs.Syntax.{Module}
+use Rattle.meaning.specs.Texts.{Texts}
 use Rattle.meaning.specs.Answer.{Answer, listing, answer}
 use Rattle.promises.specs.VisiblePart.{visible-part}
 use Rattle.promises.specs.Demand.{Acceptance, InTheCall, ByItself, ShortOfRoom, Agreeing, Demand3}
@@ -19,12 +20,12 @@ pub record UpToDate (stored : List ℕ) (r : Answer) : Type 0 where
   pub is-accepted : r .number ≡ accepted
   pub shows : visible-part (listing r) ≡ stored
 
--- what was up to date for the one text is so for the other, unless the other call is short of room
+-- what was up to date for the one pair of texts is so for the other, unless the other call is short of room
 abbrev pub MayBeKept : Acceptance → Type 0
 MayBeKept OthersAccepted =
-    (asked : Name) (text text′ : List ℕ) (ms ms′ : List Module) → Enough OthersAccepted asked text text′ ms ms′
-    → (memory memory′ output output′ : ℕ) (stored : List ℕ) → UpToDate stored (answer memory output asked text)
-    → ShortOfRoom (answer memory′ output′ asked text′) ⊎ UpToDate stored (answer memory′ output′ asked text′)
+    (asked : Name) (texts texts′ : Texts) (ms ms′ : List Module) → Enough OthersAccepted asked texts texts′ ms ms′
+    → (memory memory′ output output′ : ℕ) (stored : List ℕ) → UpToDate stored (answer memory output asked texts)
+    → ShortOfRoom (answer memory′ output′ asked texts′) ⊎ UpToDate stored (answer memory′ output′ asked texts′)
 
 still-up-to-date : (stored : List ℕ) (r r′ : Answer) → Agreeing r r′ → UpToDate stored r → ShortOfRoom r′ ⊎ UpToDate stored r′
 still-up-to-date stored r r′ (inl q) h = absurd (has-room r (h .is-accepted) q)
@@ -33,9 +34,9 @@ still-up-to-date stored r r′ (inr (inr q)) h =
     inr (record { is-accepted = sym (q .number) ∙ h .is-accepted; shows = sym (q .visible-lines) ∙ h .shows })
 
 kept-by : (OthersAccepted : Acceptance) → Demand3 OthersAccepted → MayBeKept OthersAccepted
-kept-by OthersAccepted demand asked text text′ ms ms′ c memory memory′ output output′ stored h =
+kept-by OthersAccepted demand asked texts texts′ ms ms′ c memory memory′ output output′ stored h =
     still-up-to-date stored _ _
-    (demand asked text text′ ms ms′ (is-enough OthersAccepted asked text text′ ms ms′ c) memory memory′ output output′) h
+    (demand asked texts texts′ ms ms′ (is-enough OthersAccepted asked texts texts′ ms ms′ c) memory memory′ output output′) h
 
 pub may-be-kept : MayBeKept InTheCall
 may-be-kept = kept-by InTheCall demand-3

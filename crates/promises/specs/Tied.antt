@@ -6,10 +6,10 @@ use mathlib.Core.List.{List, [], _∷_}
 use Rattle.meaning.specs.Lists.{pick}
 use Rattle.meaning.specs.Names.{Name, same, member}
 use Rattle.meaning.specs.Syntax.{Module}
-use Rattle.meaning.specs.Grammar.{State, Result, read, done, refused}
+use Rattle.meaning.specs.Texts.{Texts, Reading, all-read, refused-in, read-texts}
 use Rattle.meaning.specs.Reached.{Ended, module-names, normalise, normalised, refused-at}
 use Rattle.meaning.specs.Listing.{lines-text, shown}
-use Rattle.meaning.specs.Answer.{Answer, listing, refusal, of-ended, of-read, within, answer}
+use Rattle.meaning.specs.Answer.{Answer, listing, refusal, of-ended, unread, of-read, within, answer}
 use Rattle.meaning.specs.Laws.{by-cases}
 use Rattle.promises.specs.VisiblePart.{visible-part}
 use Rattle.promises.specs.Demand.{ForEach}
@@ -46,21 +46,21 @@ ended-plain asked ms h = go (member asked (module-names ms)) refl
     go true b = of-inline (name-inline asked ms h b) (normalise asked ms) (normalise-inline asked ms h)
     go false b = rw b tt
 
-pub ended-tied : (asked : Name) (text : List ℕ) (ms : List Module) (s : State) → read text ≡ done ms s
+pub ended-tied : (asked : Name) (texts : Texts) (ms : List Module) → read-texts texts ≡ all-read ms
     → visible-part (listing (of-ended asked (normalise asked ms))) ≡ lines-text (shown false (of-ended asked (normalise asked ms) .lines))
-ended-tied asked text ms s e = visible-tie _ (ended-plain asked ms (read-inline text ms s e))
+ended-tied asked texts ms e = visible-tie _ (ended-plain asked ms (read-inline texts ms e))
 
-read-plain : (asked : Name) (text : List ℕ) (r : Result (List Module)) → read text ≡ r → Plain (of-read asked r)
-unfolding of-read refusal
-read-plain asked text (done ms s) e = ended-plain asked ms (read-inline text ms s e)
-read-plain asked text (refused k p) e = tt
+read-plain : (asked : Name) (texts : Texts) (r : Reading) → read-texts texts ≡ r → Plain (of-read asked r)
+unfolding of-read unread
+read-plain asked texts (all-read ms) e = ended-plain asked ms (read-inline texts ms e)
+read-plain asked texts (refused-in l k p) e = tt
 
 -- each line of an answer stays a line
-pub answer-plain : (memory output : ℕ) (asked : Name) (text : List ℕ) → Plain (answer memory output asked text)
+pub answer-plain : (memory output : ℕ) (asked : Name) (texts : Texts) → Plain (answer memory output asked texts)
 unfolding answer within refusal
-answer-plain memory output asked text =
-    by-cases Plain _ _ _ (λ b. tt) (λ b. by-cases Plain _ _ _ (λ c. read-plain asked text (read text) refl) (λ c. tt))
+answer-plain memory output asked texts =
+    by-cases Plain _ _ _ (λ b. tt) (λ b. by-cases Plain _ _ _ (λ c. read-plain asked texts (read-texts texts) refl) (λ c. tt))
 
-pub answer-tied : (memory output : ℕ) (asked : Name) (text : List ℕ)
-    → visible-part (listing (answer memory output asked text)) ≡ lines-text (shown false (answer memory output asked text .lines))
-answer-tied memory output asked text = visible-tie (answer memory output asked text .lines) (answer-plain memory output asked text)
+pub answer-tied : (memory output : ℕ) (asked : Name) (texts : Texts)
+    → visible-part (listing (answer memory output asked texts)) ≡ lines-text (shown false (answer memory output asked texts .lines))
+answer-tied memory output asked texts = visible-tie (answer memory output asked texts .lines) (answer-plain memory output asked texts)

@@ -2,7 +2,7 @@
 use mathlib.Core.Path.{_≡_, refl, sym, ap, _∙_}
 use mathlib.Core.Bool.{Bool, true, false}
 use mathlib.Core.List.{List, _∷_}
-use Prim.Native.Nat.{ℕ, zero, suc, _+_, _-_, _/_, _%_, _<_, _≤_}
+use Prim.Native.Nat.{ℕ, zero, suc, _+_, _-_, _/_, _%_, _<_, _≤_, min}
 use native.Mathlib.Nat.{not-suc-le-zero}
 use native.Mathlib.Numerals.{add-one, sub-one}
 use native.Mathlib.Omega.{arith}
@@ -12,11 +12,12 @@ use borrow.Author.Needs.{needs}
 use borrow.Author.Tests.{eq-eqb, ne-eqb, le-leb, lt-leb}
 use Rattle.types.specs.declared.Token.{Token}
 use Rattle.meaning.specs.Lists.{pick, any}
-use Rattle.meaning.specs.Names.{same}
+use Rattle.meaning.specs.Names.{Name, same, member}
 use Rattle.meaning.specs.Numbers.{text-size}
 use Rattle.meaning.specs.Tokens.{token-at}
 use Rattle.meaning.specs.Grammar.{is}
 use Rattle.names.specs.Word.{name-of}
+use Rattle.reading.specs.Known.{named-so}
 use Rattle.entries.specs.declared.Place.{Place}
 use Rattle.entries.specs.declared.Reading.{Reading}
 use Rattle.entries.specs.declared.Reading.the-variants.{Done, Refused}
@@ -71,60 +72,86 @@ pub twice-done : (r a : Reading) (p : Place) (z : Reading) → a ≡ Done p → 
 unfolding twice
 twice-done r a p z e h = rw e h
 
--- the name is read; b says that an earlier module has it
-decides : Bool → Place → Writer
-decides b p q x = pick b (refuse 5 p x) (out (Done q) x)
+-- the name is read; b says that an earlier module has it, and d that one of the library has
+decides : Bool → Bool → Place → Writer
+decides b d p q x = pick b (refuse 5 p x) (pick d (refuse 5 p x) (out (Done q) x))
 
-module _ (s : List ℕ) (r : Reading) (p : Place) (e : r ≡ Done p) (t : List ℕ) (w : ℕ) (g : w ≡ next-word (Done p)) (b : Bool) (f : b ≡ taken s w (p .entries) t) (a : Reading) (u : List ℕ) (h : out a u ≡ onward (Done p) t (name s 1)) where
-  fresh-any : onward r t (fresh-name s) ≡ onward a u (decides b p)
+module _ (s : List ℕ) (ns : List Name) (r : Reading) (p : Place) (e : r ≡ Done p) (t : List ℕ) (w : ℕ) (g : w ≡ next-word (Done p)) (b : Bool) (f : b ≡ taken s w (p .entries) t) (d : Bool) (l : d ≡ member (name-of s w) ns) (a : Reading) (u : List ℕ) (h : out a u ≡ onward (Done p) t (name s 1)) where
+  fresh-any : onward r t (fresh-name s ns) ≡ onward a u (decides b d p)
   unfolding onward next-word fresh-name decides
-  fresh-any = rw (e, ← h, f, g)
+  fresh-any = rw (e, ← h, f, l, g)
 
-  pub fresh-twice : (z : Reading) → b ≡ true → z ≡ twice (Done p) a → out z u ≡ onward r t (fresh-name s)
+  pub fresh-twice : (z : Reading) → b ≡ true → z ≡ twice (Done p) a → out z u ≡ onward r t (fresh-name s ns)
   unfolding onward still decides pick twice refuse
   fresh-twice z y k = rw fresh-any (go a k)
     where
-      go : (a : Reading) → z ≡ twice (Done p) a → out z u ≡ onward a u (decides b p)
+      go : (a : Reading) → z ≡ twice (Done p) a → out z u ≡ onward a u (decides b d p)
       go (Refused n q) k = rw k
       go (Done q) k = rw (k, y)
 
-  pub fresh-done : b ≡ false → out a u ≡ onward r t (fresh-name s)
-  unfolding onward decides pick
-  fresh-done y = rw fresh-any (go a)
+  pub fresh-known : (z : Reading) → b ≡ false → d ≡ true → z ≡ twice (Done p) a → out z u ≡ onward r t (fresh-name s ns)
+  unfolding onward still decides pick twice refuse
+  fresh-known z y x k = rw fresh-any (go a k)
     where
-      go : (a : Reading) → out a u ≡ onward a u (decides b p)
+      go : (a : Reading) → z ≡ twice (Done p) a → out z u ≡ onward a u (decides b d p)
+      go (Refused n q) k = rw k
+      go (Done q) k = rw (k, y, x)
+
+  pub fresh-done : b ≡ false → d ≡ false → out a u ≡ onward r t (fresh-name s ns)
+  unfolding onward decides pick
+  fresh-done y x = rw fresh-any (go a)
+    where
+      go : (a : Reading) → out a u ≡ onward a u (decides b d p)
       go (Refused n q) = refl
-      go (Done q) = rw y
+      go (Done q) = rw (y, x)
+
+-- ---- names of the library
+
+-- the words from i on are left
+module _ (n : Name) (library heads : List ℕ) (i : ℕ) where
+  pub known-here : (b : Bool) → i < length heads → b ≡ same n (name-of library (getD heads i 0)) → b ≡ true
+      → member n (named-so library (drop i heads)) ≡ true
+  unfolding named-so member pick
+  known-here b h e y = rw (drop-cons heads i 0 h, ← e, y)
+
+  pub known-later : (b : Bool) → i < length heads → b ≡ same n (name-of library (getD heads i 0)) → b ≡ false
+      → member n (named-so library (drop i heads)) ≡ member n (named-so library (drop (i + 1) heads))
+  unfolding named-so member pick
+  known-later b h e y = rw (drop-cons heads i 0 h, ← e, y, add-one i)
+
+  pub known-end : length heads ≤ i → member n (named-so library (drop i heads)) ≡ false
+  unfolding named-so member
+  known-end h = rw (drop-of-length-le heads h)
 
 -- ---- modules, of which l more may come
 
-module _ (w : Writer) (r₀ : Reading) (t₀ : List ℕ) (s : List ℕ) (l : ℕ) (r : Reading) (t : List ℕ) (v : Comes w (modules s l) r₀ t₀ r t) where
-  module _ (z : 0 < l) (q : Reading) (u : List ℕ) (h : out q u ≡ onward r t (a-module s)) (b : Bool) (e : b ≡ next-passes (is 0) q) where
-    pub modules-again : b ≡ false → length u ≡ length t → Comes w (modules s (l - 1)) r₀ t₀ q u
+module _ (w : Writer) (r₀ : Reading) (t₀ : List ℕ) (s : List ℕ) (ns : List Name) (l : ℕ) (r : Reading) (t : List ℕ) (v : Comes w (modules s l ns) r₀ t₀ r t) where
+  module _ (z : 0 < l) (q : Reading) (u : List ℕ) (h : out q u ≡ onward r t (a-module s ns)) (b : Bool) (e : b ≡ next-passes (is 0) q) where
+    pub modules-again : b ≡ false → length u ≡ length t → Comes w (modules s (l - 1) ns) r₀ t₀ q u
     unfolding modules
     modules-again y k = record { sized = k ∙ v .sized; comes = v .comes ∙ sym (go l z) }
       where
-        go : (l : ℕ) → 0 < l → onward q u (modules s (l - 1)) ≡ onward r t (modules s l)
+        go : (l : ℕ) → 0 < l → onward q u (modules s (l - 1) ns) ≡ onward r t (modules s l ns)
         go zero z = absurd (not-suc-le-zero z)
         go (suc n) z =
-            let rest = modules s n in
+            let rest = modules s n ns in
             rw sub-one
-            (then r q t u (onward q u rest) (a-module s) (if-next (is 0) stay rest) h (next-no (is 0) stay rest q b e u (onward q u rest) y refl))
+            (then r q t u (onward q u rest) (a-module s ns) (if-next (is 0) stay rest) h (next-no (is 0) stay rest q b e u (onward q u rest) y refl))
 
     pub modules-end : b ≡ true → out q u ≡ onward r₀ t₀ w
     unfolding modules
     modules-end y = go l z ∙ sym (v .comes)
       where
-        go : (l : ℕ) → 0 < l → out q u ≡ onward r t (modules s l)
+        go : (l : ℕ) → 0 < l → out q u ≡ onward r t (modules s l ns)
         go zero z = absurd (not-suc-le-zero z)
-        go (suc n) z = then r q t u (out q u) (a-module s) (if-next (is 0) stay (modules s n)) h (next-yes (is 0) stay (modules s n) q b e u (out q u) y (stays q u))
+        go (suc n) z = then r q t u (out q u) (a-module s ns) (if-next (is 0) stay (modules s n ns)) h (next-yes (is 0) stay (modules s n ns) q b e u (out q u) y (stays q u))
 
   module _ (z : l ≤ 0) (q : Reading) (b : Bool) (e : b ≡ next-passes (is 137) r) where
     pub modules-full : b ≡ true → q ≡ still (refuse 4) r → out q t ≡ onward r₀ t₀ w
     unfolding modules too-many
     modules-full y h = go l z ∙ sym (v .comes)
       where
-        go : (l : ℕ) → l ≤ 0 → out q t ≡ onward r t (modules s l)
+        go : (l : ℕ) → l ≤ 0 → out q t ≡ onward r t (modules s l ns)
         go zero z = next-yes (is 137) (refuse 4) unexpected r b e t (out q t) y (quietly r q t (refuse 4) (refuse-quiet 4) h)
         go (suc n) z = absurd (not-suc-le-zero z)
 
@@ -132,7 +159,7 @@ module _ (w : Writer) (r₀ : Reading) (t₀ : List ℕ) (s : List ℕ) (l : ℕ
     unfolding modules too-many
     modules-bad y h = go l z ∙ sym (v .comes)
       where
-        go : (l : ℕ) → l ≤ 0 → out q t ≡ onward r t (modules s l)
+        go : (l : ℕ) → l ≤ 0 → out q t ≡ onward r t (modules s l ns)
         go zero z = next-no (is 137) (refuse 4) unexpected r b e t (out q t) y (quietly r q t unexpected unexpected-quiet h)
         go (suc n) z = absurd (not-suc-le-zero z)
 
@@ -170,16 +197,16 @@ pub wiped-refused : (r : Reading) (k q : ℕ) (t u : List ℕ) → r ≡ Refused
 unfolding wiped
 wiped-refused r k q t u e h = rw (e, h)
 
-module _ (s t : List ℕ) where
-  pub read-long : (o : Out) → 32768 < length s → o ≡ wiped (Refused 4 32768) t → o ≡ read s t
+module _ (s : List ℕ) (l : ℕ) (ns : List Name) (t : List ℕ) where
+  pub read-long : (o : Out) → 32768 < length s → o ≡ wiped (Refused 4 32768) t → o ≡ read s l ns t
   unfolding read text-size pick
   read-long o h e = rw (lt-leb (length s) 32768 h) e
 
-  pub read-all : (k : Token) (q : Reading) (u : List ℕ) (o : Out) → length s ≤ 32768 → k ≡ token-at s 0 → out q u ≡ onward (Done (place k 0 0)) t (modules s 64) → o ≡ wiped q u → o ≡ read s t
+  pub read-all : (k : Token) (q : Reading) (u : List ℕ) (o : Out) → length s ≤ 32768 → k ≡ token-at s 0 → out q u ≡ onward (Done (place k 0 0)) t (modules s l ns) → o ≡ wiped q u → o ≡ read s l ns t
   unfolding read text-size onward pick
   read-all k q u o h e g w = rw (le-leb (length s) 32768 h, ← e, ← g) w
 
 -- what the answers of `read_modules` hand to `search`, and what all others do
 pub ruleset rounds = (begins-loop, modules-again, modules-end, modules-full, modules-bad, needs)
 
-pub ruleset cases = (declares-yes, declares-no, taken-here, taken-later, taken-past, taken-end, twice-refused, twice-done, fresh-twice, fresh-done, refused-onward, clear-start, clear-again, clear-end, wiped-done, wiped-refused, read-long, read-all, needs)
+pub ruleset cases = (declares-yes, declares-no, taken-here, taken-later, taken-past, taken-end, twice-refused, twice-done, fresh-twice, fresh-known, fresh-done, known-here, known-later, known-end, refused-onward, clear-start, clear-again, clear-end, wiped-done, wiped-refused, read-long, read-all, needs)

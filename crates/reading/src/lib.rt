@@ -6,7 +6,9 @@ use modules::read_modules;
 ghost use mathlib.Core.Path.{_≡_};
 ghost use lib.ListN.{length, replicate};
 ghost use Rattle.entries.specs.Model.{out, wiped, read};
+ghost use Rattle.reading.specs.Known.{named-so};
 
+mod known;
 mod modules;
 
 // The whole tape, set to zero.
@@ -33,9 +35,10 @@ fn wipe(tape: &mut [u32], r: Reading) -> Reading
     }
 }
 
-// What a text says, on the tape; or its leftmost offence, and zeros.
-pub fn read(text: &[u8], tape: &mut [u32]) -> Reading
-    ensures { λ r. ⌜ out r (now (tape .exit)) ≡ read (now (text .entry)) (now (tape .entry)) ⌝ }
+// What a text of so many modules at most says, on the tape; or its leftmost offence, and zeros. The heads are the words of modules of the
+// library, whose names are taken.
+pub fn read(text: &[u8], library: &[u8], heads: &[u32], limit: usize, tape: &mut [u32]) -> Reading
+    ensures { λ r. ⌜ out r (now (tape .exit)) ≡ read (now (text .entry)) limit (named-so (now (library .entry)) (now (heads .entry))) (now (tape .entry)) ⌝ }
 {
     if numbers::TEXT_SIZE < text.len() {
         return wipe(
@@ -52,6 +55,6 @@ pub fn read(text: &[u8], tape: &mut [u32]) -> Reading
         nodes: 0,
         entries: 0,
     });
-    let r = read_modules(text, tape, first);
+    let r = read_modules(text, library, heads, limit, tape, first);
     wipe(tape, r)
 }

@@ -1,4 +1,5 @@
 // Modules, to the end of the text.
+use super::known::is_known;
 use entries::Reading;
 use entries::declarations::read_signature;
 use entries::declarations::section_exports;
@@ -18,6 +19,7 @@ use terms::equations::section_variables;
 ghost use mathlib.Core.Path.{_≡_};
 ghost use Rattle.entries.specs.Model.{out, onward, declares, taken, fresh-name, front, back, module-named, a-module, modules};
 ghost use Rattle.entries.specs.Steps.{twice};
+ghost use Rattle.reading.specs.Known.{named-so};
 
 // Is this the entry of a module with the name of that word?
 fn declares(text: &[u8], w: u32, entry: u32) -> bool
@@ -56,9 +58,9 @@ fn twice(at: Reading, read: Reading) -> Reading
     }
 }
 
-// A name that no earlier module has.
-fn fresh_name(text: &[u8], tape: &mut [u32], at: Reading) -> Reading
-    ensures { λ r. ⌜ out r (now (tape .exit)) ≡ onward at (now (tape .entry)) (fresh-name (now (text .entry))) ⌝ }
+// A name that no earlier module has, nor one of the library, where these are the heads' words.
+fn fresh_name(text: &[u8], library: &[u8], heads: &[u32], tape: &mut [u32], at: Reading) -> Reading
+    ensures { λ r. ⌜ out r (now (tape .exit)) ≡ onward at (now (tape .entry)) (fresh-name (now (text .entry)) (named-so (now (library .entry)) (now (heads .entry)))) ⌝ }
 {
     match at {
         Reading::Refused { number, place } => Reading::Refused { number, place },
@@ -66,8 +68,12 @@ fn fresh_name(text: &[u8], tape: &mut [u32], at: Reading) -> Reading
             let n = p.entries;
             let w = next_word(at);
             let again = is_taken(text, tape, w, n);
+            let known = is_known(library, heads, text, w);
             let a = read_name(text, tape, at, roles::MODULE_NAME);
             if again {
+                return twice(at, a);
+            }
+            if known {
                 return twice(at, a);
             }
             a
@@ -94,10 +100,17 @@ fn read_back(text: &[u8], tape: &mut [u32], at: Reading) -> Reading
 }
 
 // A module from its name on, whose word is w.
-fn module_named(text: &[u8], tape: &mut [u32], at: Reading, w: u32) -> Reading
-    ensures { λ r. ⌜ out r (now (tape .exit)) ≡ onward at (now (tape .entry)) (module-named (now (text .entry)) w) ⌝ }
+fn module_named(
+    text: &[u8],
+    library: &[u8],
+    heads: &[u32],
+    tape: &mut [u32],
+    at: Reading,
+    w: u32,
+) -> Reading
+    ensures { λ r. ⌜ out r (now (tape .exit)) ≡ onward at (now (tape .entry)) (module-named (now (text .entry)) (named-so (now (library .entry)) (now (heads .entry))) w) ⌝ }
 {
-    let a = fresh_name(text, tape, at);
+    let a = fresh_name(text, library, heads, tape, at);
     let b = expect(text, a, tokens::BEGIN_KEY);
     let c = read_front(text, tape, b);
     let d = read_back(text, tape, c);
@@ -105,22 +118,29 @@ fn module_named(text: &[u8], tape: &mut [u32], at: Reading, w: u32) -> Reading
     this_name(text, e, w)
 }
 
-fn read_module(text: &[u8], tape: &mut [u32], at: Reading) -> Reading
-    ensures { λ r. ⌜ out r (now (tape .exit)) ≡ onward at (now (tape .entry)) (a-module (now (text .entry))) ⌝ }
+fn read_module(text: &[u8], library: &[u8], heads: &[u32], tape: &mut [u32], at: Reading) -> Reading
+    ensures { λ r. ⌜ out r (now (tape .exit)) ≡ onward at (now (tape .entry)) (a-module (now (text .entry)) (named-so (now (library .entry)) (now (heads .entry)))) ⌝ }
 {
     let a = expect(text, at, tokens::MODULE_KEY);
     let w = next_word(a);
-    module_named(text, tape, a, w)
+    module_named(text, library, heads, tape, a, w)
 }
 
-// The modules to the end of the text, 64 at most.
-pub fn read_modules(text: &[u8], tape: &mut [u32], at: Reading) -> Reading
-    ensures { λ r. ⌜ out r (now (tape .exit)) ≡ onward at (now (tape .entry)) (modules (now (text .entry)) 64) ⌝ }
+// The modules to the end of the text, so many at most.
+pub fn read_modules(
+    text: &[u8],
+    library: &[u8],
+    heads: &[u32],
+    limit: usize,
+    tape: &mut [u32],
+    at: Reading,
+) -> Reading
+    ensures { λ r. ⌜ out r (now (tape .exit)) ≡ onward at (now (tape .entry)) (modules (now (text .entry)) limit (named-so (now (library .entry)) (now (heads .entry)))) ⌝ }
 {
     let mut here = at;
-    let mut left: usize = numbers::MODULE_LIMIT;
+    let mut left: usize = limit;
     while 0 < left {
-        let read = read_module(text, tape, here);
+        let read = read_module(text, library, heads, tape, here);
         if next_is(read, tokens::END_OF_TEXT) {
             return read;
         }

@@ -6,11 +6,10 @@ use mathlib.Core.List.{List, [], _∷_}
 use Rattle.meaning.specs.Lists.{pick, any}
 use Rattle.meaning.specs.Names.{Name, byte}
 use Rattle.meaning.specs.Laws.{by-cases}
-use Rattle.meaning.specs.Syntax.{Module}
-use Rattle.meaning.specs.Grammar.{Result, done, refused, read}
+use Rattle.meaning.specs.Texts.{Texts, Reading, all-read, refused-in, read-texts}
 use Rattle.meaning.specs.Reached.{Ended, normalised, refused-at, normalise}
 use Rattle.meaning.specs.Listing.{Line, lines-text, shown}
-use Rattle.meaning.specs.Answer.{Answer, answer, listing, refusal, of-ended, of-read, within}
+use Rattle.meaning.specs.Answer.{Answer, answer, listing, refusal, of-ended, unread, of-read, within}
 use Rattle.meaning.specs.Trials.{Every}
 use Rattle.promises.specs.Demand.{ForEach}
 use Rattle.promises.specs.Tie.{lacks, Inline, PlainLine}
@@ -60,25 +59,25 @@ ended-listed asked (normalised count n) d =
     record { known = listing-known asked n; fronts = listing-settled asked n (every-of Sort-or-function (n .visible .items) d) }
 ended-listed asked (refused-at number count m w) d = no-lines number count m w 0
 
-read-listed : (asked : Name) (r : Result (List Module)) → Listed (of-read asked r)
-unfolding of-read
-read-listed asked (done ms s) = ended-listed asked (normalise asked ms) (normalise-declared asked ms)
-read-listed asked (refused number at) = no-lines number 0 [] [] at
+read-listed : (asked : Name) (r : Reading) → Listed (of-read asked r)
+unfolding of-read unread Every leading shown
+read-listed asked (all-read ms) = ended-listed asked (normalise asked ms) (normalise-declared asked ms)
+read-listed asked (refused-in l number at) = record { known = tt; fronts = refl }
 
-answer-listed : (memory output : ℕ) (asked : Name) (text : List ℕ) → Listed (answer memory output asked text)
+answer-listed : (memory output : ℕ) (asked : Name) (texts : Texts) → Listed (answer memory output asked texts)
 unfolding answer within
-answer-listed memory output asked text =
-    by-cases Listed _ _ _ (λ b. no-lines _ _ _ _ _) (λ b. by-cases Listed _ _ _ (λ c. read-listed asked (read text)) (λ c. no-lines _ _ _ _ _))
+answer-listed memory output asked texts =
+    by-cases Listed _ _ _ (λ b. no-lines _ _ _ _ _) (λ b. by-cases Listed _ _ _ (λ c. read-listed asked (read-texts texts)) (λ c. no-lines _ _ _ _ _))
 
 -- ---- for every call that lends so much working memory and output
 
-module _ (memory output : ℕ) (asked : Name) (text : List ℕ) where
+module _ (memory output : ℕ) (asked : Name) (texts : Texts) where
   abbrev told : Answer
-  told = answer memory output asked text
+  told = answer memory output asked texts
 
   all-readable : Every Readable (told .lines)
   all-readable =
-      readable (told .lines) (answer-listed memory output asked text .known) (plain-values (told .lines) (answer-plain memory output asked text))
+      readable (told .lines) (answer-listed memory output asked texts .known) (plain-values (told .lines) (answer-plain memory output asked texts))
 
   -- reading the listing from place 0 gives its lines in order, and then the end
   pub answer-given : Gives (listing told) 0 (told .lines)
@@ -86,8 +85,8 @@ module _ (memory output : ℕ) (asked : Name) (text : List ℕ) where
 
   -- the front of the listing is the text of its visible lines
   pub answer-front : front-part (listing told) ≡ lines-text (shown false (told .lines))
-  answer-front = front-leads (told .lines) all-readable ∙ ap lines-text (answer-listed memory output asked text .fronts)
+  answer-front = front-leads (told .lines) all-readable ∙ ap lines-text (answer-listed memory output asked texts .fronts)
 
   -- and so it is the visible part that the promise on hidden things speaks of
   pub front-visible : front-part (listing told) ≡ visible-part (listing told)
-  front-visible = answer-front ∙ sym (answer-tied memory output asked text)
+  front-visible = answer-front ∙ sym (answer-tied memory output asked texts)

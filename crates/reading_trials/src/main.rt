@@ -62,7 +62,8 @@ fn told(a: usize, b: usize) {
 // What reading says of one text.
 fn answer(text: &[u8]) {
     let mut tape = [0; 32768];
-    let r = reading::read(text, &mut tape);
+    let none = [0; 1];
+    let r = reading::read(text, &text[0..0], &none[0..0], 64, &mut tape);
     match r {
         Reading::Done(p) => told(0, p.entries),
         Reading::Refused { number, place } => told(wide(number), place),

@@ -9,12 +9,21 @@ use translation::Mode;
 use uniting::empty_form;
 use uniting::unite;
 ghost use lib.ListN.{length};
+ghost use Rattle.names.specs.Joint.{joint};
 ghost use Rattle.making.specs.Steps.{MakeRoom, Renamed, RenamedForm, JoinRoom, JoinedForm};
 
 // g, with the pairs' new names.
-fn renamed(text: &[u8], work: &mut [u32], t: usize, pairs: u32, g: Form, b: Block) -> Made
+fn renamed(
+    library: &[u8],
+    text: &[u8],
+    work: &mut [u32],
+    t: usize,
+    pairs: u32,
+    g: Form,
+    b: Block,
+) -> Made
     requires { ⌜ MakeRoom (length (now work)) t g b ⌝ }
-    ensures { λ r. ⌜ RenamedForm (now (text .entry)) t (now (work .entry)) pairs g b r (now (work .exit)) ⌝ }
+    ensures { λ r. ⌜ RenamedForm (joint (now (library .entry)) (now (text .entry))) t (now (work .entry)) pairs g b r (now (work .exit)) ⌝ }
 {
     let m = Mode {
         kind: 1,
@@ -24,27 +33,43 @@ fn renamed(text: &[u8], work: &mut [u32], t: usize, pairs: u32, g: Form, b: Bloc
         count: 0,
     };
     let e = empty_form(b);
-    let f = unite(text, work, t, m, g, e, b);
-    checked(text, work, t, f, b)
+    let f = unite(library, text, work, t, m, g, e, b);
+    checked(library, text, work, t, f, b)
 }
 
 // The renaming of g by the pairs on the tape from `pairs` on: 14.
-pub fn rename(text: &[u8], work: &mut [u32], t: usize, pairs: u32, g: Form, b: Block) -> Made
+pub fn rename(
+    library: &[u8],
+    text: &[u8],
+    work: &mut [u32],
+    t: usize,
+    pairs: u32,
+    g: Form,
+    b: Block,
+) -> Made
     requires { ⌜ MakeRoom (length (now work)) t g b ⌝ }
-    ensures { λ r. ⌜ Renamed (now (text .entry)) t (now (work .entry)) pairs g b r (now (work .exit)) ⌝ }
+    ensures { λ r. ⌜ Renamed (joint (now (library .entry)) (now (text .entry))) t (now (work .entry)) pairs g b r (now (work .exit)) ⌝ }
 {
     let visible = g.visible;
     let count = g.visible_count;
-    match wrong_renaming(text, work, t, pairs, visible, count) {
+    match wrong_renaming(library, text, work, t, pairs, visible, count) {
         Verdict::Stop(k, w) => Made::Refused(k, w),
-        Verdict::Fine => renamed(text, work, t, pairs, g, b),
+        Verdict::Fine => renamed(library, text, work, t, pairs, g, b),
     }
 }
 
 // g united with f, which lies in the block.
-pub fn join(text: &[u8], work: &mut [u32], t: usize, g: Form, f: Form, b: Block) -> Made
+pub fn join(
+    library: &[u8],
+    text: &[u8],
+    work: &mut [u32],
+    t: usize,
+    g: Form,
+    f: Form,
+    b: Block,
+) -> Made
     requires { ⌜ JoinRoom (length (now work)) t g f b ⌝ }
-    ensures { λ r. ⌜ JoinedForm (now (text .entry)) t (now (work .entry)) g f b r (now (work .exit)) ⌝ }
+    ensures { λ r. ⌜ JoinedForm (joint (now (library .entry)) (now (text .entry))) t (now (work .entry)) g f b r (now (work .exit)) ⌝ }
 {
     let m = Mode {
         kind: 0,
@@ -53,6 +78,6 @@ pub fn join(text: &[u8], work: &mut [u32], t: usize, g: Form, f: Form, b: Block)
         visible: 0,
         count: 0,
     };
-    let u = unite(text, work, t, m, g, f, b);
-    checked(text, work, t, u, b)
+    let u = unite(library, text, work, t, m, g, f, b);
+    checked(library, text, work, t, u, b)
 }

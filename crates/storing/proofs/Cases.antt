@@ -12,7 +12,7 @@ use Rattle.ordering.specs.Keeps.{Keeps}
 use Rattle.storing.specs.Places.{place-form, scratch-start, space-small, keep-room}
 use Rattle.storing.specs.Storing.{store-done}
 
-pub is-scratch : 959584 ≡ scratch-start
+pub is-scratch : 992352 ≡ scratch-start
 unfolding scratch-start
 is-scratch = refl
 

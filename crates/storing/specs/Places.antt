@@ -53,7 +53,7 @@ placed-between f cursor = record {
 -- ---- notes and order table
 
 unfoldable pub scratch-start : ℕ
-scratch-start = 959584
+scratch-start = 992352
 
 -- notes of 512 items, and an order table of 8 parameters, 512 items and 256 equations
 abbrev pub scratch-room : ℕ

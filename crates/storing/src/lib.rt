@@ -7,6 +7,7 @@ ghost use mathlib.Core.Path.{_≡_};
 ghost use Prim.Native.Nat.{_+_, _*_, _≤_};
 ghost use lib.ListN.{length};
 ghost use lib.Seq.{sets};
+ghost use Rattle.names.specs.Joint.{joint};
 ghost use Rattle.keeping.specs.Keeping.{form-words};
 ghost use Rattle.layout.specs.Layout.{table-start};
 ghost use Rattle.ordering.specs.Kept.{KeepRoom, order-place};
@@ -62,18 +63,18 @@ fn place_form(f: Form, cursor: u32) -> Form
 fn scratch_start() -> u32
     ensures { λ r. ⌜ r ≡ scratch-start ⌝ }
 {
-    959584
+    992352
 }
 
 // The form f in order, from the cursor on.
-fn keep_at(text: &[u8], work: &mut [u32], t: usize, f: Form, cursor: u32) -> Form
+fn keep_at(library: &[u8], text: &[u8], work: &mut [u32], t: usize, f: Form, cursor: u32) -> Form
     requires { ⌜ cursor + form-space f ≤ 1073741824 ⌝ }
     requires { ⌜ KeepRoom (length (now work)) t f (place-form f cursor) scratch-start (order-place f scratch-start) ⌝ }
-    ensures { λ r. ⌜ Keeps (now (text .entry)) t f (place-form f cursor) scratch-start r (now (work .entry)) (now (work .exit)) ⌝ }
+    ensures { λ r. ⌜ Keeps (joint (now (library .entry)) (now (text .entry))) t f (place-form f cursor) scratch-start r (now (work .entry)) (now (work .exit)) ⌝ }
 {
     let place = place_form(f, cursor);
     let scratch = scratch_start();
-    keep_in_order(text, work, t, f, place, scratch)
+    keep_in_order(library, text, work, t, f, place, scratch)
 }
 
 // The normal form of module k is at f.
@@ -85,11 +86,19 @@ fn write_row(work: &mut [u32], k: u32, f: Form)
 }
 
 // The form f in order from the cursor on, as the normal form of module k; and where the next one may begin.
-pub fn store(text: &[u8], work: &mut [u32], t: usize, k: u32, f: Form, cursor: u32) -> u32
+pub fn store(
+    library: &[u8],
+    text: &[u8],
+    work: &mut [u32],
+    t: usize,
+    k: u32,
+    f: Form,
+    cursor: u32,
+) -> u32
     requires { ⌜ StoreRoom (length (now work)) t k f cursor ⌝ }
-    ensures { λ r. ⌜ Stored (now (text .entry)) t k f cursor r (now (work .entry)) (now (work .exit)) ⌝ }
+    ensures { λ r. ⌜ Stored (joint (now (library .entry)) (now (text .entry))) t k f cursor r (now (work .entry)) (now (work .exit)) ⌝ }
 {
-    let kept = keep_at(text, work, t, f, cursor);
+    let kept = keep_at(library, text, work, t, f, cursor);
     write_row(work, k, kept);
     next_cursor(f, cursor)
 }

@@ -133,21 +133,20 @@ module _ (text tape : List ℕ) (k : ℕ) (a : List ℕ) (l : ℕ) (b : List ℕ
         let y : length (map s (take (l - 2) b)) ≡ m = length-map (take (l - 2) b) s ∙ omega (arith, length-take (l - 2) b) in
         rw (agree-lengths same-sort (map s (take (k - 2) a)) (map s (take (l - 2) b)) (λ q. h (sym x ∙ q ∙ y)))
 
-    module _ (h : n ≡ m) (p : Bool) (g : p ≡ same-sort (sort-of text tape (getD a 8 0)) (sort-of text tape (getD b 8 0))) where
-      pub types-outputs : p ≡ false → false ≡ one-type
-      unfolding same-type type-of
-      types-outputs q =
-          let s = sort-of text tape in
-          rw (← g, q) (sym (and-false (agree same-sort (map s (take (k - 2) a)) (map s (take (l - 2) b)))))
-
-      pub types-told : (r : Bool) → p ≡ true
-          → r ≡ agree same-sort (map (sort-of text tape) (take n a)) (map (sort-of text tape) (take n b)) → r ≡ one-type
-      unfolding same-type type-of
-      types-told r q t =
-          let s = sort-of text tape in
+    module _ (h : n ≡ m) (p : Bool) (g : p ≡ agree same-sort (map (sort-of text tape) (take n a)) (map (sort-of text tape) (take n b))) where
+      all-inputs : p ≡ agree same-sort (map (sort-of text tape) (take (k - 2) a)) (map (sort-of text tape) (take (l - 2) b))
+      all-inputs =
           let x : take n a ≡ take (k - 2) a = ap (λ (i : ℕ). take i a) e ∙ take-nine (k - 2) a la in
           let y : take n b ≡ take (l - 2) b = ap (λ (i : ℕ). take i b) (h ∙ f) ∙ take-nine (l - 2) b lb in
-          rw (← g, q) ((rw (x, y) at t) ∙ sym (and-true (agree same-sort (map s (take (k - 2) a)) (map s (take (l - 2) b)))))
+          rw (x, y) at g
+
+      pub types-inputs : p ≡ false → false ≡ one-type
+      unfolding same-type type-of
+      types-inputs q = rw (← all-inputs, q)
+
+      pub types-told : (r : Bool) → p ≡ true → r ≡ same-sort (sort-of text tape (getD a 8 0)) (sort-of text tape (getD b 8 0)) → r ≡ one-type
+      unfolding same-type type-of
+      types-told r q t = rw (← all-inputs, q) t
 
 module _ (text tape : List ℕ) (k : ℕ) (a : List ℕ) (l : ℕ) (b : List ℕ) where
   abbrev one-shape : Bool

@@ -11,18 +11,19 @@ ghost use Prim.Native.Nat.{_+_};
 ghost use Rattle.meaning.specs.Lists.{agree};
 ghost use Rattle.meaning.specs.Names.{same};
 ghost use Rattle.meaning.specs.Origins.{same-declared, same-origin};
+ghost use Rattle.names.specs.Joint.{joint};
 ghost use Rattle.tables.specs.Entries.{name-at, sort-place, names-from, declared-at};
 ghost use Rattle.tables.specs.Rows.{origin-of};
 
 // Are the c names that follow d those that follow e?
-pub fn same_names(text: &[u8], tape: &[u32], d: u32, e: u32, c: u32) -> bool
-    ensures { λ r. ⌜ r ≡ agree same (names-from (now (text .entry)) (now (tape .entry)) (d + 1) c) (names-from (now (text .entry)) (now (tape .entry)) (e + 1) c) ⌝ }
+pub fn same_names(library: &[u8], text: &[u8], tape: &[u32], d: u32, e: u32, c: u32) -> bool
+    ensures { λ r. ⌜ r ≡ agree same (names-from (joint (now (library .entry)) (now (text .entry))) (now (tape .entry)) (d + 1) c) (names-from (joint (now (library .entry)) (now (text .entry))) (now (tape .entry)) (e + 1) c) ⌝ }
 {
     let mut i = d as usize + 1;
     let mut j = e as usize + 1;
     let mut left = c;
     while 0 < left {
-        if same_name_at(text, tape, i, j) {
+        if same_name_at(library, text, tape, i, j) {
             i += 1;
             j += 1;
             left -= 1;
@@ -34,15 +35,21 @@ pub fn same_names(text: &[u8], tape: &[u32], d: u32, e: u32, c: u32) -> bool
 }
 
 // Have the variables declared at d and e the same sort?
-fn same_sorts_at(text: &[u8], tape: &[u32], d: u32, e: u32) -> bool
-    ensures { λ r. ⌜ r ≡ same (name-at (now (text .entry)) (now (tape .entry)) (sort-place (now (tape .entry)) d)) (name-at (now (text .entry)) (now (tape .entry)) (sort-place (now (tape .entry)) e)) ⌝ }
+fn same_sorts_at(library: &[u8], text: &[u8], tape: &[u32], d: u32, e: u32) -> bool
+    ensures { λ r. ⌜ r ≡ same (name-at (joint (now (library .entry)) (now (text .entry))) (now (tape .entry)) (sort-place (now (tape .entry)) d)) (name-at (joint (now (library .entry)) (now (text .entry))) (now (tape .entry)) (sort-place (now (tape .entry)) e)) ⌝ }
 {
-    same_name_at(text, tape, sort_place(tape, d), sort_place(tape, e))
+    same_name_at(
+        library,
+        text,
+        tape,
+        sort_place(tape, d),
+        sort_place(tape, e),
+    )
 }
 
 // Do the declarations at d and e say the same but for the name?
-fn same_but_name(text: &[u8], tape: &[u32], d: u32, e: u32) -> bool
-    ensures { λ r. ⌜ (same (name-at (now (text .entry)) (now (tape .entry)) d) (name-at (now (text .entry)) (now (tape .entry)) e) && r) ≡ same-declared (declared-at (now (text .entry)) (now (tape .entry)) d) (declared-at (now (text .entry)) (now (tape .entry)) e) ⌝ }
+fn same_but_name(library: &[u8], text: &[u8], tape: &[u32], d: u32, e: u32) -> bool
+    ensures { λ r. ⌜ (same (name-at (joint (now (library .entry)) (now (text .entry))) (now (tape .entry)) d) (name-at (joint (now (library .entry)) (now (text .entry))) (now (tape .entry)) e) && r) ≡ same-declared (declared-at (joint (now (library .entry)) (now (text .entry))) (now (tape .entry)) d) (declared-at (joint (now (library .entry)) (now (text .entry))) (now (tape .entry)) e) ⌝ }
 {
     let k = kind_at(tape, d);
     let l = kind_at(tape, e);
@@ -50,40 +57,40 @@ fn same_but_name(text: &[u8], tape: &[u32], d: u32, e: u32) -> bool
         return false;
     }
     if 1 < k {
-        return same_names(text, tape, d, e, k - 1);
+        return same_names(library, text, tape, d, e, k - 1);
     }
     if k == 1 {
-        return same_sorts_at(text, tape, d, e);
+        return same_sorts_at(library, text, tape, d, e);
     }
     true
 }
 
 // Are the declarations at d and e one?
-pub fn same_declared(text: &[u8], tape: &[u32], d: u32, e: u32) -> bool
-    ensures { λ r. ⌜ r ≡ same-declared (declared-at (now (text .entry)) (now (tape .entry)) d) (declared-at (now (text .entry)) (now (tape .entry)) e) ⌝ }
+pub fn same_declared(library: &[u8], text: &[u8], tape: &[u32], d: u32, e: u32) -> bool
+    ensures { λ r. ⌜ r ≡ same-declared (declared-at (joint (now (library .entry)) (now (text .entry))) (now (tape .entry)) d) (declared-at (joint (now (library .entry)) (now (text .entry))) (now (tape .entry)) e) ⌝ }
 {
     if d == e {
         return true;
     }
-    if same_name_at(text, tape, d as usize, e as usize) {
-        return same_but_name(text, tape, d, e);
+    if same_name_at(library, text, tape, d as usize, e as usize) {
+        return same_but_name(library, text, tape, d, e);
     }
     false
 }
 
 // Are a and b one origin?
-pub fn same_origin(text: &[u8], tape: &[u32], a: Origin, b: Origin) -> bool
-    ensures { λ r. ⌜ r ≡ same-origin (origin-of (now (text .entry)) (now (tape .entry)) a) (origin-of (now (text .entry)) (now (tape .entry)) b) ⌝ }
+pub fn same_origin(library: &[u8], text: &[u8], tape: &[u32], a: Origin, b: Origin) -> bool
+    ensures { λ r. ⌜ r ≡ same-origin (origin-of (joint (now (library .entry)) (now (text .entry))) (now (tape .entry)) a) (origin-of (joint (now (library .entry)) (now (text .entry))) (now (tape .entry)) b) ⌝ }
 {
     let d = a.place;
     let e = b.place;
-    if same_declared(text, tape, d, e) {
+    if same_declared(library, text, tape, d, e) {
         let x = a.home;
         let y = b.home;
-        if same_word(text, x, y) {
+        if same_word(library, text, x, y) {
             let s = a.section;
             let t = b.section;
-            return same_section(text, s, t);
+            return same_section(library, text, s, t);
         }
         return false;
     }

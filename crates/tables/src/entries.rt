@@ -1,12 +1,13 @@
 // Words of a memory, and what the tape says at a place: roles, names, and where a declaration is from.
 use super::Origin;
 use super::Section;
-use names::same_name;
+use names::joint::same_name;
 ghost use mathlib.Core.Path.{_≡_};
 ghost use Prim.Native.Nat.{_-_};
 ghost use lib.ListN.{getD, set};
 ghost use Rattle.meaning.specs.Names.{same};
 ghost use Rattle.names.specs.Word.{name-of};
+ghost use Rattle.names.specs.Joint.{joint};
 ghost use Rattle.tables.specs.Entries.{role-at, word-at, name-at, last-with, next-with, inputs-from, is-function-role, is-parameter-role, is-export-role, arity-at, sort-place, home-at, section-at, origin-at};
 ghost use Rattle.tables.specs.Kinds.{kind-at};
 
@@ -28,13 +29,13 @@ pub fn put_word(t: &mut [u32], i: usize, v: u32)
 }
 
 // Are a and b the same name? One word is one name, with no look at the text.
-pub fn same_word(text: &[u8], a: u32, b: u32) -> bool
-    ensures { λ r. ⌜ r ≡ same (name-of (now (text .entry)) a) (name-of (now (text .entry)) b) ⌝ }
+pub fn same_word(library: &[u8], text: &[u8], a: u32, b: u32) -> bool
+    ensures { λ r. ⌜ r ≡ same (name-of (joint (now (library .entry)) (now (text .entry))) a) (name-of (joint (now (library .entry)) (now (text .entry))) b) ⌝ }
 {
     if a == b {
         return true;
     }
-    same_name(text, a, b)
+    same_name(library, text, a, b)
 }
 
 // What stands at i.
@@ -52,10 +53,10 @@ pub fn name_at(tape: &[u32], i: usize) -> u32
 }
 
 // Is the name at i the name at j?
-pub fn same_name_at(text: &[u8], tape: &[u32], i: usize, j: usize) -> bool
-    ensures { λ r. ⌜ r ≡ same (name-at (now (text .entry)) (now (tape .entry)) i) (name-at (now (text .entry)) (now (tape .entry)) j) ⌝ }
+pub fn same_name_at(library: &[u8], text: &[u8], tape: &[u32], i: usize, j: usize) -> bool
+    ensures { λ r. ⌜ r ≡ same (name-at (joint (now (library .entry)) (now (text .entry))) (now (tape .entry)) i) (name-at (joint (now (library .entry)) (now (text .entry))) (now (tape .entry)) j) ⌝ }
 {
-    same_word(text, name_at(tape, i), name_at(tape, j))
+    same_word(library, text, name_at(tape, i), name_at(tape, j))
 }
 
 // The last place up to i that has the role; 0 if none has.

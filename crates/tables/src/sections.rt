@@ -3,6 +3,7 @@ use super::Section;
 use super::entries::same_word;
 ghost use mathlib.Core.Path.{_≡_};
 ghost use Rattle.meaning.specs.Origins.{same-section};
+ghost use Rattle.names.specs.Joint.{joint};
 ghost use Rattle.tables.specs.Rows.{section-of, section-word, word-section};
 
 // A section as one word.
@@ -30,8 +31,8 @@ pub fn word_section(w: u32) -> Section
 }
 
 // Are a and b one section? Of two parameters the names decide.
-pub fn same_section(text: &[u8], a: Section, b: Section) -> bool
-    ensures { λ r. ⌜ r ≡ same-section (section-of (now (text .entry)) a) (section-of (now (text .entry)) b) ⌝ }
+pub fn same_section(library: &[u8], text: &[u8], a: Section, b: Section) -> bool
+    ensures { λ r. ⌜ r ≡ same-section (section-of (joint (now (library .entry)) (now (text .entry))) a) (section-of (joint (now (library .entry)) (now (text .entry))) b) ⌝ }
 {
     match a {
         Section::Export => match b {
@@ -47,7 +48,7 @@ pub fn same_section(text: &[u8], a: Section, b: Section) -> bool
         Section::Parameter(p) => match b {
             Section::Export => false,
             Section::Hidden => false,
-            Section::Parameter(q) => same_word(text, p, q),
+            Section::Parameter(q) => same_word(library, text, p, q),
         },
     }
 }

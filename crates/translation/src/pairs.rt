@@ -3,6 +3,7 @@ use tables::entries::name_at;
 use tables::entries::role_at;
 use tables::entries::same_word;
 use tables::entries::word_at;
+ghost use Rattle.names.specs.Joint.{joint};
 ghost use Rattle.translation.specs.Moved.{SmallWord, Renamed};
 
 // The word of the name at i: small enough to be doubled.
@@ -13,14 +14,14 @@ fn small_word(tape: &[u32], i: usize) -> u32
 }
 
 // The word of the new name: that of the first pair whose old name is w's, or w itself. Every pair is asked of the name as it was.
-pub fn renaming_word(text: &[u8], tape: &[u32], pairs: u32, w: u32) -> u32
-    ensures { λ r. ⌜ Renamed (now (text .entry)) (now (tape .entry)) pairs w r ⌝ }
+pub fn renaming_word(library: &[u8], text: &[u8], tape: &[u32], pairs: u32, w: u32) -> u32
+    ensures { λ r. ⌜ Renamed (joint (now (library .entry)) (now (text .entry))) (now (tape .entry)) pairs w r ⌝ }
 {
     let mut i = pairs as usize;
     let mut left: u32 = 32;
     while 0 < left {
         if role_at(tape, i) == 14 {
-            if same_word(text, name_at(tape, i), w) {
+            if same_word(library, text, name_at(tape, i), w) {
                 return small_word(tape, i + 1);
             }
             i += 2;

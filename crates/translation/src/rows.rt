@@ -10,15 +10,16 @@ ghost use Prim.Native.Nat.{_-_, _≤_, min};
 ghost use lib.ListN.{length};
 ghost use Rattle.meaning.specs.Normal.{move-sort, move-name};
 ghost use Rattle.names.specs.Word.{name-of};
+ghost use Rattle.names.specs.Joint.{joint};
 ghost use Rattle.tables.specs.Rows.{sort-of, shape-of};
 ghost use Rattle.forms.specs.Memory.{part};
 ghost use Rattle.translation.specs.Translation.{sort-name, function-name};
 ghost use Rattle.translation.specs.Moved.{NewSort, MovedSorts, MovedRow, shape-name};
 
 // The word of a visible sort's new name.
-pub fn new_sort_word(text: &[u8], work: &[u32], t: usize, m: Mode, w: u32) -> u32
+pub fn new_sort_word(library: &[u8], text: &[u8], work: &[u32], t: usize, m: Mode, w: u32) -> u32
     requires { ⌜ t ≤ length (now work) ⌝ }
-    ensures { λ r. ⌜ NewSort (now (text .entry)) (part (now (work .entry)) 0 t) (now (work .entry)) m w r ⌝ }
+    ensures { λ r. ⌜ NewSort (joint (now (library .entry)) (now (text .entry))) (part (now (work .entry)) 0 t) (now (work .entry)) m w r ⌝ }
 {
     let kind = m.kind;
     let pairs = m.pairs;
@@ -26,18 +27,25 @@ pub fn new_sort_word(text: &[u8], work: &[u32], t: usize, m: Mode, w: u32) -> u3
         return w;
     }
     if kind == 1 {
-        return renaming_word(text, &work[0..t], pairs, w);
+        return renaming_word(library, text, &work[0..t], pairs, w);
     }
-    if is_formal_sort(text, work, t, m, w) {
-        return renaming_word(text, &work[0..t], pairs, w);
+    if is_formal_sort(library, text, work, t, m, w) {
+        return renaming_word(library, text, &work[0..t], pairs, w);
     }
     w
 }
 
 // The word of the new name of the function that the row stands for.
-pub fn new_function_word(text: &[u8], work: &[u32], t: usize, m: Mode, row: Row) -> u32
+pub fn new_function_word(
+    library: &[u8],
+    text: &[u8],
+    work: &[u32],
+    t: usize,
+    m: Mode,
+    row: Row,
+) -> u32
     requires { ⌜ t ≤ length (now work) ⌝ }
-    ensures { λ r. ⌜ name-of (now (text .entry)) r ≡ shape-name (now (text .entry)) (part (now (work .entry)) 0 t) (now (work .entry)) m (name-of (now (text .entry)) (row .name)) (shape-of (now (text .entry)) (part (now (work .entry)) 0 t) (row .kind) (row .sorts)) ⌝ }
+    ensures { λ r. ⌜ name-of (joint (now (library .entry)) (now (text .entry))) r ≡ shape-name (joint (now (library .entry)) (now (text .entry))) (part (now (work .entry)) 0 t) (now (work .entry)) m (name-of (joint (now (library .entry)) (now (text .entry))) (row .name)) (shape-of (joint (now (library .entry)) (now (text .entry))) (part (now (work .entry)) 0 t) (row .kind) (row .sorts)) ⌝ }
 {
     let kind = m.kind;
     let pairs = m.pairs;
@@ -46,21 +54,21 @@ pub fn new_function_word(text: &[u8], work: &[u32], t: usize, m: Mode, row: Row)
         return name;
     }
     if kind == 1 {
-        return renaming_word(text, &work[0..t], pairs, name);
+        return renaming_word(library, text, &work[0..t], pairs, name);
     }
-    if is_formal_function(text, work, t, m, row) {
-        return renaming_word(text, &work[0..t], pairs, name);
+    if is_formal_function(library, text, work, t, m, row) {
+        return renaming_word(library, text, &work[0..t], pairs, name);
     }
     name
 }
 
 // A sort under its new name; a hidden sort stays.
-pub fn moved_sort(text: &[u8], work: &[u32], t: usize, m: Mode, s: u32) -> u32
+pub fn moved_sort(library: &[u8], text: &[u8], work: &[u32], t: usize, m: Mode, s: u32) -> u32
     requires { ⌜ t ≤ length (now work) ⌝ }
-    ensures { λ r. ⌜ sort-of (now (text .entry)) (part (now (work .entry)) 0 t) r ≡ move-sort (sort-name (now (text .entry)) (part (now (work .entry)) 0 t) (now (work .entry)) m) (function-name (now (text .entry)) (part (now (work .entry)) 0 t) (now (work .entry)) m) (sort-of (now (text .entry)) (part (now (work .entry)) 0 t) s) ⌝ }
+    ensures { λ r. ⌜ sort-of (joint (now (library .entry)) (now (text .entry))) (part (now (work .entry)) 0 t) r ≡ move-sort (sort-name (joint (now (library .entry)) (now (text .entry))) (part (now (work .entry)) 0 t) (now (work .entry)) m) (function-name (joint (now (library .entry)) (now (text .entry))) (part (now (work .entry)) 0 t) (now (work .entry)) m) (sort-of (joint (now (library .entry)) (now (text .entry))) (part (now (work .entry)) 0 t) s) ⌝ }
 {
     if s % 2 == 0 {
-        return new_sort_word(text, work, t, m, s / 2) * 2;
+        return new_sort_word(library, text, work, t, m, s / 2) * 2;
     }
     s
 }
@@ -79,47 +87,55 @@ fn input_count(kind: u32) -> usize
 }
 
 // The sorts of a row of the kind under their new names.
-fn moved_sorts(text: &[u8], work: &[u32], t: usize, m: Mode, kind: u32, sorts: [u32; 9]) -> [u32; 9]
+fn moved_sorts(
+    library: &[u8],
+    text: &[u8],
+    work: &[u32],
+    t: usize,
+    m: Mode,
+    kind: u32,
+    sorts: [u32; 9],
+) -> [u32; 9]
     requires { ⌜ t ≤ length (now work) ⌝ }
-    ensures { λ r. ⌜ MovedSorts (now (text .entry)) (part (now (work .entry)) 0 t) (now (work .entry)) m (kind - 2) sorts r ⌝ }
+    ensures { λ r. ⌜ MovedSorts (joint (now (library .entry)) (now (text .entry))) (part (now (work .entry)) 0 t) (now (work .entry)) m (kind - 2) sorts r ⌝ }
 {
     let n = input_count(kind);
     let mut moved = sorts;
-    moved[8] = moved_sort(text, work, t, m, sorts[8]);
+    moved[8] = moved_sort(library, text, work, t, m, sorts[8]);
     let mut i = 0;
     while i < n {
-        moved[i] = moved_sort(text, work, t, m, sorts[i]);
+        moved[i] = moved_sort(library, text, work, t, m, sorts[i]);
         i += 1;
     }
     moved
 }
 
 // The word of the new name of a visible item.
-fn moved_name(text: &[u8], work: &[u32], t: usize, m: Mode, row: Row) -> u32
+fn moved_name(library: &[u8], text: &[u8], work: &[u32], t: usize, m: Mode, row: Row) -> u32
     requires { ⌜ t ≤ length (now work) ⌝ }
-    ensures { λ r. ⌜ name-of (now (text .entry)) r ≡ move-name (sort-name (now (text .entry)) (part (now (work .entry)) 0 t) (now (work .entry)) m) (function-name (now (text .entry)) (part (now (work .entry)) 0 t) (now (work .entry)) m) (name-of (now (text .entry)) (row .name)) (shape-of (now (text .entry)) (part (now (work .entry)) 0 t) (row .kind) (row .sorts)) ⌝ }
+    ensures { λ r. ⌜ name-of (joint (now (library .entry)) (now (text .entry))) r ≡ move-name (sort-name (joint (now (library .entry)) (now (text .entry))) (part (now (work .entry)) 0 t) (now (work .entry)) m) (function-name (joint (now (library .entry)) (now (text .entry))) (part (now (work .entry)) 0 t) (now (work .entry)) m) (name-of (joint (now (library .entry)) (now (text .entry))) (row .name)) (shape-of (joint (now (library .entry)) (now (text .entry))) (part (now (work .entry)) 0 t) (row .kind) (row .sorts)) ⌝ }
 {
     let kind = row.kind;
     let name = row.name;
     if kind == 0 {
-        return new_sort_word(text, work, t, m, name);
+        return new_sort_word(library, text, work, t, m, name);
     }
     if kind == 1 {
         return name;
     }
-    new_function_word(text, work, t, m, row)
+    new_function_word(library, text, work, t, m, row)
 }
 
 // A hidden item: its sorts are under their new names, and its own name stays.
-pub fn moved_hidden(text: &[u8], work: &[u32], t: usize, m: Mode, row: Row) -> Row
+pub fn moved_hidden(library: &[u8], text: &[u8], work: &[u32], t: usize, m: Mode, row: Row) -> Row
     requires { ⌜ t ≤ length (now work) ⌝ }
-    ensures { λ r. ⌜ MovedRow (now (text .entry)) (part (now (work .entry)) 0 t) (now (work .entry)) m false row r ⌝ }
+    ensures { λ r. ⌜ MovedRow (joint (now (library .entry)) (now (text .entry))) (part (now (work .entry)) 0 t) (now (work .entry)) m false row r ⌝ }
 {
     let standing = row.standing;
     let kind = row.kind;
     let origin = row.origin;
     let old = row.sorts;
-    let sorts = moved_sorts(text, work, t, m, kind, old);
+    let sorts = moved_sorts(library, text, work, t, m, kind, old);
     Row {
         standing,
         name: row.name,
@@ -130,16 +146,16 @@ pub fn moved_hidden(text: &[u8], work: &[u32], t: usize, m: Mode, row: Row) -> R
 }
 
 // A visible item: its name and its sorts are under their new names.
-pub fn moved_visible(text: &[u8], work: &[u32], t: usize, m: Mode, row: Row) -> Row
+pub fn moved_visible(library: &[u8], text: &[u8], work: &[u32], t: usize, m: Mode, row: Row) -> Row
     requires { ⌜ t ≤ length (now work) ⌝ }
-    ensures { λ r. ⌜ MovedRow (now (text .entry)) (part (now (work .entry)) 0 t) (now (work .entry)) m true row r ⌝ }
+    ensures { λ r. ⌜ MovedRow (joint (now (library .entry)) (now (text .entry))) (part (now (work .entry)) 0 t) (now (work .entry)) m true row r ⌝ }
 {
     let standing = row.standing;
     let kind = row.kind;
     let origin = row.origin;
     let old = row.sorts;
-    let name = moved_name(text, work, t, m, row);
-    let sorts = moved_sorts(text, work, t, m, kind, old);
+    let name = moved_name(library, text, work, t, m, row);
+    let sorts = moved_sorts(library, text, work, t, m, kind, old);
     Row {
         standing,
         name,
@@ -150,16 +166,24 @@ pub fn moved_visible(text: &[u8], work: &[u32], t: usize, m: Mode, row: Row) -> 
 }
 
 // A row of a table of visible items, or of hidden ones.
-pub fn moved_row(text: &[u8], work: &[u32], t: usize, m: Mode, visible: bool, row: Row) -> Row
+pub fn moved_row(
+    library: &[u8],
+    text: &[u8],
+    work: &[u32],
+    t: usize,
+    m: Mode,
+    visible: bool,
+    row: Row,
+) -> Row
     requires { ⌜ t ≤ length (now work) ⌝ }
-    ensures { λ r. ⌜ MovedRow (now (text .entry)) (part (now (work .entry)) 0 t) (now (work .entry)) m visible row r ⌝ }
+    ensures { λ r. ⌜ MovedRow (joint (now (library .entry)) (now (text .entry))) (part (now (work .entry)) 0 t) (now (work .entry)) m visible row r ⌝ }
 {
     let kind = m.kind;
     if kind == 0 {
         return row;
     }
     if visible {
-        return moved_visible(text, work, t, m, row);
+        return moved_visible(library, text, work, t, m, row);
     }
-    moved_hidden(text, work, t, m, row)
+    moved_hidden(library, text, work, t, m, row)
 }

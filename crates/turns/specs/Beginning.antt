@@ -29,7 +29,7 @@ use Rattle.evaluating.specs.States.{first-state}
 use Rattle.evaluating.specs.Sofar.{Told, Ready, Sofar}
 use Rattle.turns.specs.declared.Ended.{Ended}
 use Rattle.turns.specs.Turns.{LastStands, EndsAs, Resumed, Turned, Given, AllTurned}
-use Rattle.turns.specs.ByNumber.{places-ordered, places-within}
+use Rattle.turns.specs.ByNumber.{places-ordered, places-within, places-few}
 
 table-behind : tape-end ≤ table-start
 unfolding tape-end table-start
@@ -57,6 +57,7 @@ module _ (text : List ℕ) (t : ℕ) (w w′ : List ℕ) (h : Heads) (given : Gi
         heads = s .begun .few;
         ordered = places-ordered text (part w 0 t) t (given .modules) h s;
         within = places-within text (part w 0 t) t (given .modules) h s;
+        few-entries = places-few text (part w 0 t) t (given .modules) h s (given .told .small);
         below = table-none w w′ cleared;
         start = omega arith;
         space = omega arith;

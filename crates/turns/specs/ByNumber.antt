@@ -1,12 +1,13 @@
 -- The module with a number: that there is one, its name on the tape, and where it begins and ends there.
-use mathlib.Core.Path.{_≡_, refl, sym, ap, _∙_}
-use Prim.Native.Nat.{ℕ, zero, suc, _+_, _≤_, _<_}
+use mathlib.Core.Path.{_≡_, refl, sym, ap, subst, _∙_}
+use Prim.Native.Nat.{ℕ, zero, suc, _+_, _-_, _≤_, _<_}
 use native.Mathlib.Omega.{arith}
 use mathlib.Core.List.{List, [], _∷_, _++_}
 use lib.ListN.{length, getD, take, drop, length-append, length-map, take-append-drop}
 use lib.Seq.{drop-drop, length-take-le}
 use Rattle.meaning.specs.Lists.{each, before}
 use Rattle.meaning.specs.Names.{Name, same}
+use Rattle.meaning.specs.OrderLaws.{Every, every-middle}
 use Rattle.meaning.specs.Syntax.{Module}
 use Rattle.meaning.specs.Reached.{module-names}
 use Rattle.meaning.specs.Distinct.{Fresh}
@@ -93,3 +94,13 @@ module _ (text tape : List ℕ) (n : ℕ) (ms : List Module) (h : Heads) (s : Sp
   places-within j l =
       let x = module-at ms j (omega (arith, heads-number text tape n ms h s)) in
       omega (arith, ends-at j (x .self) (x .later) (x .here), entries-number j (x .self) (x .later) (x .here))
+
+  -- each module has few entries
+  pub places-few : Every (λ (m : Module). length (flat-module m) ≤ 32768) ms → (j : ℕ) → j < h .count
+      → getD (h .places) (j + 1) 0 - getD (h .places) j 0 ≤ 32768
+  places-few f j l =
+      let x = module-at ms j (omega (arith, heads-number text tape n ms h s)) in
+      let few : length (flat-module (x .self)) ≤ 32768 =
+      every-middle (λ (m : Module). length (flat-module m) ≤ 32768) (take j ms) (x .later) (x .self)
+      (subst (Every (λ (m : Module). length (flat-module m) ≤ 32768)) (split j (x .self) (x .later) (x .here)) f) in
+      omega (arith, few, begins-at j (x .self) (x .later) (x .here), ends-at j (x .self) (x .later) (x .here))

@@ -132,6 +132,7 @@ module _ (text : List ℕ) (t : ℕ) (w : List ℕ) (h : Heads) (left k : ℕ) (
             heads = ready .heads;
             ordered = ready .ordered;
             within = ready .within;
+            few-entries = ready .few-entries;
             below = ready .below;
             start = ready .start;
             space = omega (arith, ready .space);

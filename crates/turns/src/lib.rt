@@ -11,6 +11,7 @@ use modules::name_of_module;
 use modules::reached;
 ghost use mathlib.Core.Path.{_≡_};
 ghost use Prim.Native.Nat.{_+_, _≤_};
+ghost use Rattle.names.specs.Joint.{joint};
 ghost use Rattle.turns.specs.Turns.{Resumed, Given, Turned, AllTurned};
 
 // How a call ends: each normal form is kept, that of the latest module for number `last`; or the refusal's number with the words of the module evaluated then and of the culprit's name.
@@ -30,6 +31,7 @@ pub enum Ended {
 
 // Of `left` modules from number k on, those of the set, after `count` others, the latest of which is number `last`.
 fn evaluate_from(
+    library: &[u8],
     text: &[u8],
     work: &mut [u32],
     t: usize,
@@ -43,15 +45,15 @@ fn evaluate_from(
 ) -> Ended
     requires { ⌜ k + left ≡ h .count ⌝ }
     requires { ⌜ count ≤ k ⌝ }
-    requires { ⌜ Resumed (now text) t (now work) h k s ⌝ }
-    ensures { λ r. ⌜ Turned (now (text .entry)) t (now (work .entry)) h set k count last s r (now (work .exit)) ⌝ }
+    requires { ⌜ Resumed (joint (now library) (now text)) t (now work) h k s ⌝ }
+    ensures { λ r. ⌜ Turned (joint (now (library .entry)) (now (text .entry))) t (now (work .entry)) h set k count last s r (now (work .exit)) ⌝ }
 {
     if left == 0 {
         return Ended::Normalised { count, last };
     }
     if module_set::has(set, k) {
         let module = name_of_module(&work[0..t], h, k);
-        match evaluate(text, work, t, h, k, s) {
+        match evaluate(library, text, work, t, h, k, s) {
             Stepped::Refused(number, culprit) => {
                 return Ended::Refused {
                     number,
@@ -61,23 +63,54 @@ fn evaluate_from(
                 };
             }
             Stepped::Kept(r) => {
-                return evaluate_from(text, work, t, h, set, left - 1, k + 1, count + 1, k, r);
+                return evaluate_from(
+                    library,
+                    text,
+                    work,
+                    t,
+                    h,
+                    set,
+                    left - 1,
+                    k + 1,
+                    count + 1,
+                    k,
+                    r,
+                );
             }
         }
     }
-    evaluate_from(text, work, t, h, set, left - 1, k + 1, count, last, s)
+    evaluate_from(
+        library,
+        text,
+        work,
+        t,
+        h,
+        set,
+        left - 1,
+        k + 1,
+        count,
+        last,
+        s,
+    )
 }
 
 // Module k and the modules that it reaches. Before the first, the row behind those of all modules stands for the latest: it has nothing.
-pub fn evaluate_reached(text: &[u8], work: &mut [u32], t: usize, h: Heads, k: u32) -> Ended
-    requires { ⌜ Given (now text) t (now work) h ⌝ }
-    ensures { λ r. ⌜ AllTurned (now (text .entry)) t (now (work .entry)) h k r (now (work .exit)) ⌝ }
+pub fn evaluate_reached(
+    library: &[u8],
+    text: &[u8],
+    work: &mut [u32],
+    t: usize,
+    h: Heads,
+    k: u32,
+) -> Ended
+    requires { ⌜ Given (joint (now library) (now text)) t (now work) h ⌝ }
+    ensures { λ r. ⌜ AllTurned (joint (now (library .entry)) (now (text .entry))) t (now (work .entry)) h k r (now (work .exit)) ⌝ }
 {
-    let set = reached(text, &work[0..t], h, k);
+    let set = reached(library, text, &work[0..t], h, k);
     let table = table_start();
     let kept = kept_start();
     clear_forms(work, table, 65, kept);
     let s = first_state();
     let n = h.count;
-    evaluate_from(text, work, t, h, set, n, 0, 0, 64, s)
+    evaluate_from(library, text, work, t, h, set, n, 0, 0, 64, s)
 }

@@ -6,3 +6,11 @@ pub struct Token {
     pub start: usize,
     pub end: usize,
 }
+
+// The part of a text that declares a module, from the place of its first byte to the place after its last; nothing is from 0 to 0. It
+// is marked where that text is the library.
+pub struct Part {
+    pub marked: bool,
+    pub start: usize,
+    pub end: usize,
+}

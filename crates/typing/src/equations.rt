@@ -15,20 +15,29 @@ ghost use mathlib.Core.List.{[], _∷_};
 ghost use Prim.Native.Nat.{_+_, _*_, _^_, _≤_, _<_};
 ghost use lib.ListN.{length};
 ghost use lib.Seq.{sets};
+ghost use Rattle.names.specs.Joint.{joint};
 ghost use Rattle.typing.specs.Typing.{out};
 ghost use Rattle.typing.specs.Equations.{right-at, sides-at, passed, begins-at, sides-from, equation-at, equation-words, span, row-of, stored, turn-at, told, equations-from};
 
 // The right side, at i; the left one has the sort s.
-fn type_right(text: &[u8], work: &mut [u32], k: Known, s: u32, i: usize, q: usize) -> Answer
+fn type_right(
+    library: &[u8],
+    text: &[u8],
+    work: &mut [u32],
+    k: Known,
+    s: u32,
+    i: usize,
+    q: usize,
+) -> Answer
     requires { ⌜ (k .tape ≤ length (now work)) × (k .count ≤ 65536) × (k .hidden ≤ 65536) ⌝ }
-    ensures { λ r. ⌜ out r (now (work .exit)) ≡ right-at (now (text .entry)) k s i q (now (work .entry)) ⌝ }
+    ensures { λ r. ⌜ out r (now (work .exit)) ≡ right-at (joint (now (library .entry)) (now (text .entry))) k s i q (now (work .entry)) ⌝ }
 {
     let t = k.tape;
-    let a = type_term(text, work, k, i, q, t);
+    let a = type_term(library, text, work, k, i, q, t);
     match a {
         Answer::Ill => Answer::Ill,
         Answer::Sorted { sort, next, free } => {
-            if same_sort(text, &work[0..t], s, sort) {
+            if same_sort(library, text, &work[0..t], s, sort) {
                 return Answer::Sorted {
                     sort: s,
                     next,
@@ -41,15 +50,15 @@ fn type_right(text: &[u8], work: &mut [u32], k: Known, s: u32, i: usize, q: usiz
 }
 
 // The two sides at i.
-fn type_sides(text: &[u8], work: &mut [u32], k: Known, i: usize, q: usize) -> Answer
+fn type_sides(library: &[u8], text: &[u8], work: &mut [u32], k: Known, i: usize, q: usize) -> Answer
     requires { ⌜ (k .tape ≤ length (now work)) × (k .count ≤ 65536) × (k .hidden ≤ 65536) ⌝ }
-    ensures { λ r. ⌜ out r (now (work .exit)) ≡ sides-at (now (text .entry)) k i q (now (work .entry)) ⌝ }
+    ensures { λ r. ⌜ out r (now (work .exit)) ≡ sides-at (joint (now (library .entry)) (now (text .entry))) k i q (now (work .entry)) ⌝ }
 {
     let t = k.tape;
-    let a = type_term(text, work, k, i, q, t);
+    let a = type_term(library, text, work, k, i, q, t);
     match a {
         Answer::Ill => Answer::Ill,
-        Answer::Sorted { sort, next, free } => type_right(text, work, k, sort, next, free),
+        Answer::Sorted { sort, next, free } => type_right(library, text, work, k, sort, next, free),
     }
 }
 
@@ -69,6 +78,7 @@ fn begins_at(tape: &[u32], i: usize, end: usize) -> bool
 
 // The sides from i on, n of them kept so far: those whose entry has the role.
 fn type_marked(
+    library: &[u8],
     text: &[u8],
     work: &mut [u32],
     k: Known,
@@ -80,14 +90,14 @@ fn type_marked(
     n: u32,
 ) -> Passed
     requires { ⌜ (k .tape ≤ length (now work)) × (k .count ≤ 65536) × (k .hidden ≤ 65536) × (n + left ≤ 65536) ⌝ }
-    ensures { λ r. ⌜ passed r (now (work .exit)) ≡ sides-from (now (text .entry)) k role end left i q n (now (work .entry)) ⌝ }
+    ensures { λ r. ⌜ passed r (now (work .exit)) ≡ sides-from (joint (now (library .entry)) (now (text .entry))) k role end left i q n (now (work .entry)) ⌝ }
 {
     if left == 0 {
         return Passed::Wrong;
     }
     let t = k.tape;
     if begins_at(&work[0..t], i, end) {
-        let a = type_sides(text, work, k, i, q);
+        let a = type_sides(library, text, work, k, i, q);
         match a {
             Answer::Ill => Passed::Wrong,
             Answer::Sorted {
@@ -99,6 +109,7 @@ fn type_marked(
                     let mark = role_at(&work[0..t], next);
                     if mark == role {
                         return type_marked(
+                            library,
                             text,
                             work,
                             k,
@@ -110,7 +121,7 @@ fn type_marked(
                             n + 1,
                         );
                     }
-                    return type_marked(text, work, k, role, end, left - 1, next + 1, q, n);
+                    return type_marked(library, text, work, k, role, end, left - 1, next + 1, q, n);
                 }
                 Passed::Wrong
             }
@@ -126,6 +137,7 @@ fn type_marked(
 
 // The equation whose tag is at i, before the end: its conditions are counted.
 pub fn type_equation(
+    library: &[u8],
     text: &[u8],
     work: &mut [u32],
     k: Known,
@@ -134,17 +146,17 @@ pub fn type_equation(
     q: usize,
 ) -> Passed
     requires { ⌜ (k .tape ≤ length (now work)) × (k .tape ≤ 65536) × (i < k .tape) × (k .count ≤ 65536) × (k .hidden ≤ 65536) ⌝ }
-    ensures { λ r. ⌜ passed r (now (work .exit)) ≡ equation-at (now (text .entry)) k end i q (now (work .entry)) ⌝ }
+    ensures { λ r. ⌜ passed r (now (work .exit)) ≡ equation-at (joint (now (library .entry)) (now (text .entry))) k end i q (now (work .entry)) ⌝ }
 {
     let t = k.tape;
-    let c = type_marked(text, work, k, 24, end, t, i + 1, q, 0);
+    let c = type_marked(library, text, work, k, 24, end, t, i + 1, q, 0);
     match c {
         Passed::Wrong => Passed::Wrong,
         Passed::Counted {
             count: _,
             next: _,
             free,
-        } => { type_marked(text, work, k, 23, end, t, i + 1, free, 0) }
+        } => { type_marked(library, text, work, k, 23, end, t, i + 1, free, 0) }
     }
 }
 
@@ -228,6 +240,7 @@ fn store_row(
 
 // The equation whose tag is at i, with its row.
 fn type_next(
+    library: &[u8],
     text: &[u8],
     work: &mut [u32],
     k: Known,
@@ -237,10 +250,10 @@ fn type_next(
     q: usize,
 ) -> Passed
     requires { ⌜ (k .tape ≤ length (now work)) × (k .tape ≤ 65536) × (i < k .tape) × (k .count ≤ 65536) × (k .hidden ≤ 65536) × (m .rows < 2 ^ 32) ⌝ }
-    ensures { λ r. ⌜ passed r (now (work .exit)) ≡ turn-at (now (text .entry)) k m position i q (now (work .entry)) ⌝ }
+    ensures { λ r. ⌜ passed r (now (work .exit)) ≡ turn-at (joint (now (library .entry)) (now (text .entry))) k m position i q (now (work .entry)) ⌝ }
 {
     let end = m.end;
-    let r = type_equation(text, work, k, end, i, q);
+    let r = type_equation(library, text, work, k, end, i, q);
     match r {
         Passed::Wrong => Passed::Wrong,
         Passed::Counted { count, next, free } => {
@@ -252,6 +265,7 @@ fn type_next(
 
 // The equations of the module from i on; their nodes are written from q on. The first that is ill typed is told by its tag.
 pub fn type_equations(
+    library: &[u8],
     text: &[u8],
     work: &mut [u32],
     k: Known,
@@ -260,7 +274,7 @@ pub fn type_equations(
     q: usize,
 ) -> Equated
     requires { ⌜ (k .tape ≤ length (now work)) × (k .tape ≤ 65536) × (m .end ≤ k .tape) × (k .count ≤ 65536) × (k .hidden ≤ 65536) × (m .rows < 2 ^ 32) ⌝ }
-    ensures { λ r. ⌜ told r (now (work .exit)) ≡ equations-from (now (text .entry)) k m (k .tape) 0 i q (now (work .entry)) ⌝ }
+    ensures { λ r. ⌜ told r (now (work .exit)) ≡ equations-from (joint (now (library .entry)) (now (text .entry))) k m (k .tape) 0 i q (now (work .entry)) ⌝ }
 {
     let t = k.tape;
     let end = m.end;
@@ -271,7 +285,7 @@ pub fn type_equations(
     while 0 < left {
         if at < end {
             let tag = name_at(&work[0..t], at);
-            let r = type_next(text, work, k, m, position, at, free);
+            let r = type_next(library, text, work, k, m, position, at, free);
             match r {
                 Passed::Wrong => {
                     return Equated::Stop(tag);

@@ -10,6 +10,7 @@ ghost use lib.ListN.{length, getD, take};
 ghost use Rattle.meaning.specs.Lists.{before};
 ghost use Rattle.meaning.specs.Typing.{takes};
 ghost use Rattle.names.specs.Word.{name-of};
+ghost use Rattle.names.specs.Joint.{joint};
 ghost use Rattle.tables.specs.Rows.{sort-of, shape-of, item-of, row-at};
 ghost use Rattle.forms.specs.Memory.{part};
 ghost use Rattle.forms.specs.Forms.{items-at};
@@ -23,11 +24,19 @@ fn row_name(work: &[u32], b: u32, i: u32) -> u32
 }
 
 // Is row i of those from b on a variable called w? Its name decides most: the row is read only where it is w.
-fn is_such_variable(text: &[u8], work: &[u32], t: usize, b: u32, i: u32, w: u32) -> bool
+fn is_such_variable(
+    library: &[u8],
+    text: &[u8],
+    work: &[u32],
+    t: usize,
+    b: u32,
+    i: u32,
+    w: u32,
+) -> bool
     requires { ⌜ t ≤ length (now work) ⌝ }
-    ensures { λ r. ⌜ r ≡ variable-called (name-of (now (text .entry)) w) (item-of (now (text .entry)) (part (now (work .entry)) 0 t) (row-at (now (work .entry)) (b + i * 16))) ⌝ }
+    ensures { λ r. ⌜ r ≡ variable-called (name-of (joint (now (library .entry)) (now (text .entry))) w) (item-of (joint (now (library .entry)) (now (text .entry))) (part (now (work .entry)) 0 t) (row-at (now (work .entry)) (b + i * 16))) ⌝ }
 {
-    if same_word(text, w, row_name(work, b, i)) {
+    if same_word(library, text, w, row_name(work, b, i)) {
         let row = read_row(work, b, i);
         let kind = row.kind;
         return kind == 1;
@@ -49,9 +58,17 @@ fn inputs_of(kind: u32) -> usize
 }
 
 // Does an item of the kind and the sorts b take arguments of the first n sorts of a?
-fn takes(text: &[u8], tape: &[u32], kind: u32, b: [u32; 9], a: [u32; 9], n: usize) -> bool
+fn takes(
+    library: &[u8],
+    text: &[u8],
+    tape: &[u32],
+    kind: u32,
+    b: [u32; 9],
+    a: [u32; 9],
+    n: usize,
+) -> bool
     requires { ⌜ n ≤ 9 ⌝ }
-    ensures { λ r. ⌜ r ≡ takes (map (sort-of (now (text .entry)) (now (tape .entry))) (take n a)) (shape-of (now (text .entry)) (now (tape .entry)) kind b) ⌝ }
+    ensures { λ r. ⌜ r ≡ takes (map (sort-of (joint (now (library .entry)) (now (text .entry))) (now (tape .entry))) (take n a)) (shape-of (joint (now (library .entry)) (now (text .entry))) (now (tape .entry)) kind b) ⌝ }
 {
     if kind < 2 {
         return false;
@@ -60,11 +77,12 @@ fn takes(text: &[u8], tape: &[u32], kind: u32, b: [u32; 9], a: [u32; 9], n: usiz
     if inputs != n {
         return false;
     }
-    same_sorts(text, tape, a, b, n)
+    same_sorts(library, text, tape, a, b, n)
 }
 
 // Is row i of those from b on a function called w that takes the first n sorts?
 fn is_such_function(
+    library: &[u8],
     text: &[u8],
     work: &[u32],
     t: usize,
@@ -75,25 +93,33 @@ fn is_such_function(
     n: usize,
 ) -> bool
     requires { ⌜ (t ≤ length (now work)) × (n ≤ 9) ⌝ }
-    ensures { λ r. ⌜ r ≡ function-called (name-of (now (text .entry)) w) (map (sort-of (now (text .entry)) (part (now (work .entry)) 0 t)) (take n sorts)) (item-of (now (text .entry)) (part (now (work .entry)) 0 t) (row-at (now (work .entry)) (b + i * 16))) ⌝ }
+    ensures { λ r. ⌜ r ≡ function-called (name-of (joint (now (library .entry)) (now (text .entry))) w) (map (sort-of (joint (now (library .entry)) (now (text .entry))) (part (now (work .entry)) 0 t)) (take n sorts)) (item-of (joint (now (library .entry)) (now (text .entry))) (part (now (work .entry)) 0 t) (row-at (now (work .entry)) (b + i * 16))) ⌝ }
 {
-    if same_word(text, w, row_name(work, b, i)) {
+    if same_word(library, text, w, row_name(work, b, i)) {
         let row = read_row(work, b, i);
         let kind = row.kind;
         let own = row.sorts;
-        return takes(text, &work[0..t], kind, own, sorts, n);
+        return takes(library, text, &work[0..t], kind, own, sorts, n);
     }
     false
 }
 
 // The first of the n rows from b on that is a variable called w; n if none is.
-pub fn find_variable(text: &[u8], work: &[u32], t: usize, b: u32, n: u32, w: u32) -> u32
+pub fn find_variable(
+    library: &[u8],
+    text: &[u8],
+    work: &[u32],
+    t: usize,
+    b: u32,
+    n: u32,
+    w: u32,
+) -> u32
     requires { ⌜ t ≤ length (now work) ⌝ }
-    ensures { λ r. ⌜ r ≡ before (variable-called (name-of (now (text .entry)) w)) (items-at (now (text .entry)) (part (now (work .entry)) 0 t) (now (work .entry)) b n) ⌝ }
+    ensures { λ r. ⌜ r ≡ before (variable-called (name-of (joint (now (library .entry)) (now (text .entry))) w)) (items-at (joint (now (library .entry)) (now (text .entry))) (part (now (work .entry)) 0 t) (now (work .entry)) b n) ⌝ }
 {
     let mut i = 0;
     while i < n {
-        if is_such_variable(text, work, t, b, i, w) {
+        if is_such_variable(library, text, work, t, b, i, w) {
             return i;
         }
         i += 1;
@@ -103,6 +129,7 @@ pub fn find_variable(text: &[u8], work: &[u32], t: usize, b: u32, n: u32, w: u32
 
 // The first of the n rows from b on that is a function called w and takes the first `count` sorts; n if none is.
 pub fn find_function(
+    library: &[u8],
     text: &[u8],
     work: &[u32],
     t: usize,
@@ -113,11 +140,11 @@ pub fn find_function(
     count: usize,
 ) -> u32
     requires { ⌜ (t ≤ length (now work)) × (count ≤ 9) ⌝ }
-    ensures { λ r. ⌜ r ≡ before (function-called (name-of (now (text .entry)) w) (map (sort-of (now (text .entry)) (part (now (work .entry)) 0 t)) (take count sorts))) (items-at (now (text .entry)) (part (now (work .entry)) 0 t) (now (work .entry)) b n) ⌝ }
+    ensures { λ r. ⌜ r ≡ before (function-called (name-of (joint (now (library .entry)) (now (text .entry))) w) (map (sort-of (joint (now (library .entry)) (now (text .entry))) (part (now (work .entry)) 0 t)) (take count sorts))) (items-at (joint (now (library .entry)) (now (text .entry))) (part (now (work .entry)) 0 t) (now (work .entry)) b n) ⌝ }
 {
     let mut i = 0;
     while i < n {
-        if is_such_function(text, work, t, b, i, w, sorts, count) {
+        if is_such_function(library, text, work, t, b, i, w, sorts, count) {
             return i;
         }
         i += 1;

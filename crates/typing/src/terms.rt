@@ -10,6 +10,7 @@ use tables::rows::read_row;
 ghost use mathlib.Core.Path.{_≡_};
 ghost use Prim.Native.Nat.{_+_, _≤_, _<_};
 ghost use lib.ListN.{length};
+ghost use Rattle.names.specs.Joint.{joint};
 ghost use Rattle.typing.specs.Typing.{out, node-word, settled, variable-row, function-row, alone-at, applied-at, args-at, term-at};
 
 // The node of a row and a number of arguments.
@@ -51,31 +52,40 @@ fn settle(
 }
 
 // The row of the variable that the name at i is; `count` if it is none.
-fn variable_row(text: &[u8], work: &[u32], k: Known, i: usize) -> u32
+fn variable_row(library: &[u8], text: &[u8], work: &[u32], k: Known, i: usize) -> u32
     requires { ⌜ k .tape ≤ length (now work) ⌝ }
-    ensures { λ r. ⌜ r ≡ variable-row (now (text .entry)) k i (now (work .entry)) ⌝ }
+    ensures { λ r. ⌜ r ≡ variable-row (joint (now (library .entry)) (now (text .entry))) k i (now (work .entry)) ⌝ }
 {
     let t = k.tape;
     let b = k.base;
     let n = k.count;
     let a = name_at(&work[0..t], i);
-    find_variable(text, work, t, b, n, a)
+    find_variable(library, text, work, t, b, n, a)
 }
 
 // The row of the function that the name at i is with arguments of the first n sorts; `count` if it is none.
-fn function_row(text: &[u8], work: &[u32], k: Known, i: usize, sorts: [u32; 9], n: usize) -> u32
+fn function_row(
+    library: &[u8],
+    text: &[u8],
+    work: &[u32],
+    k: Known,
+    i: usize,
+    sorts: [u32; 9],
+    n: usize,
+) -> u32
     requires { ⌜ (k .tape ≤ length (now work)) × (n ≤ 9) ⌝ }
-    ensures { λ r. ⌜ r ≡ function-row (now (text .entry)) k i sorts n (now (work .entry)) ⌝ }
+    ensures { λ r. ⌜ r ≡ function-row (joint (now (library .entry)) (now (text .entry))) k i sorts n (now (work .entry)) ⌝ }
 {
     let t = k.tape;
     let b = k.base;
     let m = k.count;
     let a = name_at(&work[0..t], i);
-    find_function(text, work, t, b, m, a, sorts, n)
+    find_function(library, text, work, t, b, m, a, sorts, n)
 }
 
 // The name at i whose arguments have the first n sorts.
 fn type_applied(
+    library: &[u8],
     text: &[u8],
     work: &mut [u32],
     k: Known,
@@ -87,10 +97,10 @@ fn type_applied(
     free: usize,
 ) -> Answer
     requires { ⌜ (k .tape ≤ length (now work)) × (n ≤ 9) × (k .count ≤ 65536) × (k .hidden ≤ 65536) ⌝ }
-    ensures { λ r. ⌜ out r (now (work .exit)) ≡ applied-at (now (text .entry)) k i q n sorts next free (now (work .entry)) ⌝ }
+    ensures { λ r. ⌜ out r (now (work .exit)) ≡ applied-at (joint (now (library .entry)) (now (text .entry))) k i q n sorts next free (now (work .entry)) ⌝ }
 {
     let count = k.count;
-    let f = function_row(text, work, k, i, sorts, n);
+    let f = function_row(library, text, work, k, i, sorts, n);
     if f < count {
         return settle(work, k, q, f, n, next, free);
     }
@@ -98,20 +108,21 @@ fn type_applied(
 }
 
 // The name at i with no argument: a variable, or else a constant.
-fn type_alone(text: &[u8], work: &mut [u32], k: Known, i: usize, q: usize) -> Answer
+fn type_alone(library: &[u8], text: &[u8], work: &mut [u32], k: Known, i: usize, q: usize) -> Answer
     requires { ⌜ (k .tape ≤ length (now work)) × (i < k .tape) × (q < length (now work)) × (k .count ≤ 65536) × (k .hidden ≤ 65536) ⌝ }
-    ensures { λ r. ⌜ out r (now (work .exit)) ≡ alone-at (now (text .entry)) k i q (now (work .entry)) ⌝ }
+    ensures { λ r. ⌜ out r (now (work .exit)) ≡ alone-at (joint (now (library .entry)) (now (text .entry))) k i q (now (work .entry)) ⌝ }
 {
     let count = k.count;
-    let v = variable_row(text, work, k, i);
+    let v = variable_row(library, text, work, k, i);
     if v < count {
         return settle(work, k, q, v, 0, i + 1, q + 1);
     }
-    type_applied(text, work, k, i, q, 0, [0; 9], i + 1, q + 1)
+    type_applied(library, text, work, k, i, q, 0, [0; 9], i + 1, q + 1)
 }
 
 // The term at i, down to a depth; its nodes are written from q on.
 pub fn type_term(
+    library: &[u8],
     text: &[u8],
     work: &mut [u32],
     k: Known,
@@ -120,7 +131,7 @@ pub fn type_term(
     depth: usize,
 ) -> Answer
     requires { ⌜ (k .tape ≤ length (now work)) × (k .count ≤ 65536) × (k .hidden ≤ 65536) ⌝ }
-    ensures { λ r. ⌜ out r (now (work .exit)) ≡ term-at (now (text .entry)) k depth i q (now (work .entry)) ⌝ }
+    ensures { λ r. ⌜ out r (now (work .exit)) ≡ term-at (joint (now (library .entry)) (now (text .entry))) k depth i q (now (work .entry)) ⌝ }
 {
     if depth == 0 {
         return Answer::Ill;
@@ -130,10 +141,23 @@ pub fn type_term(
         if q < work.len() {
             let role = role_at(&work[0..t], i);
             if role == 20 {
-                return type_alone(text, work, k, i, q);
+                return type_alone(library, text, work, k, i, q);
             }
             if role == 21 {
-                return type_args(text, work, k, depth - 1, i, q, 9, i + 1, q + 1, 0, [0; 9]);
+                return type_args(
+                    library,
+                    text,
+                    work,
+                    k,
+                    depth - 1,
+                    i,
+                    q,
+                    9,
+                    i + 1,
+                    q + 1,
+                    0,
+                    [0; 9],
+                );
             }
             return Answer::Ill;
         }
@@ -144,6 +168,7 @@ pub fn type_term(
 
 // The arguments of the name at `head`: at most `left` more from i on, and n sorts of those before.
 fn type_args(
+    library: &[u8],
     text: &[u8],
     work: &mut [u32],
     k: Known,
@@ -157,24 +182,25 @@ fn type_args(
     sorts: [u32; 9],
 ) -> Answer
     requires { ⌜ (k .tape ≤ length (now work)) × (k .count ≤ 65536) × (k .hidden ≤ 65536) × (n + left ≤ 9) ⌝ }
-    ensures { λ r. ⌜ out r (now (work .exit)) ≡ args-at (now (text .entry)) k depth head place left i q n sorts (now (work .entry)) ⌝ }
+    ensures { λ r. ⌜ out r (now (work .exit)) ≡ args-at (joint (now (library .entry)) (now (text .entry))) k depth head place left i q n sorts (now (work .entry)) ⌝ }
 {
     let t = k.tape;
     if i < t {
         let role = role_at(&work[0..t], i);
         if role == 22 {
-            return type_applied(text, work, k, head, place, n, sorts, i + 1, q);
+            return type_applied(library, text, work, k, head, place, n, sorts, i + 1, q);
         }
         if left == 0 {
             return Answer::Ill;
         }
-        let a = type_term(text, work, k, i, q, depth);
+        let a = type_term(library, text, work, k, i, q, depth);
         match a {
             Answer::Ill => Answer::Ill,
             Answer::Sorted { sort, next, free } => {
                 let mut more = sorts;
                 more[n] = sort;
                 type_args(
+                    library,
                     text,
                     work,
                     k,

@@ -12,6 +12,7 @@ use translation::Mode;
 ghost use mathlib.Core.Path.{_≡_};
 ghost use Prim.Native.Nat.{_≤_};
 ghost use lib.ListN.{length, getD, set};
+ghost use Rattle.names.specs.Joint.{joint};
 ghost use Rattle.absorb.specs.Turns.{RoomWithin, Room};
 ghost use Rattle.uniting.specs.Rooms.{CopyRoom, NamesRoom, HiddenRoom, HiddenRoomWithin, UniteRoom};
 ghost use Rattle.uniting.specs.United.{empty-in, with-items, Copied, NamesUnited, VisibleUnited, ItemsUnited, HiddenUnited, HiddenUnitedWithin, United};
@@ -89,6 +90,7 @@ pub fn unite_parameters(work: &mut [u32], g: Form, f: Form) -> Form
 // The visible items of g, moved, absorbed into those of f, and noted from `notes` on. Where `drop` says so, those that stand in the mode's
 // parameter are left out.
 pub fn unite_visible(
+    library: &[u8],
     text: &[u8],
     work: &mut [u32],
     t: usize,
@@ -99,13 +101,14 @@ pub fn unite_visible(
     notes: u32,
 ) -> Form
     requires { ⌜ Room (length (now work)) t m (g .visible) (g .«visible_count») (f .visible) (f .«visible_count») notes ⌝ }
-    ensures { λ r. ⌜ VisibleUnited (now (text .entry)) t (now (work .entry)) m drop g f notes r (now (work .exit)) ⌝ }
+    ensures { λ r. ⌜ VisibleUnited (joint (now (library .entry)) (now (text .entry))) t (now (work .entry)) m drop g f notes r (now (work .exit)) ⌝ }
 {
     let source = g.visible;
     let rows = g.visible_count;
     let base = f.visible;
     let have = f.visible_count;
     let n = absorb_items(
+        library,
         text,
         work,
         t,
@@ -123,6 +126,7 @@ pub fn unite_visible(
 
 // The hidden items of g, moved, absorbed into those of f while these are less than `cap`, and noted from `notes` on.
 fn unite_hidden_items(
+    library: &[u8],
     text: &[u8],
     work: &mut [u32],
     t: usize,
@@ -134,13 +138,14 @@ fn unite_hidden_items(
 ) -> Form
     requires { ⌜ RoomWithin (length (now work)) t m (g .hidden) (g .«hidden_count») (f .hidden) cap notes ⌝ }
     requires { ⌜ f .«hidden_count» ≤ cap ⌝ }
-    ensures { λ r. ⌜ ItemsUnited (now (text .entry)) t (now (work .entry)) m g f notes cap r (now (work .exit)) ⌝ }
+    ensures { λ r. ⌜ ItemsUnited (joint (now (library .entry)) (now (text .entry))) t (now (work .entry)) m g f notes cap r (now (work .exit)) ⌝ }
 {
     let source = g.hidden;
     let rows = g.hidden_count;
     let base = f.hidden;
     let have = f.hidden_count;
     let n = absorb_within(
+        library,
         text,
         work,
         t,
@@ -160,6 +165,7 @@ fn unite_hidden_items(
 // The hidden items and the equations of g, moved, into those of f, whose visible items have taken up those of g: where each went is noted
 // from `notes` on. No more than `cap` hidden items: where these are all, not all may have come in, and the equations say nothing.
 pub fn unite_hidden_within(
+    library: &[u8],
     text: &[u8],
     work: &mut [u32],
     t: usize,
@@ -171,21 +177,22 @@ pub fn unite_hidden_within(
     cap: u32,
 ) -> Form
     requires { ⌜ HiddenRoomWithin (length (now work)) t m g f b notes cap ⌝ }
-    ensures { λ r. ⌜ HiddenUnitedWithin (now (text .entry)) t (now (work .entry)) m g f b notes cap r (now (work .exit)) ⌝ }
+    ensures { λ r. ⌜ HiddenUnitedWithin (joint (now (library .entry)) (now (text .entry))) t (now (work .entry)) m g f b notes cap r (now (work .exit)) ⌝ }
 {
     let hidden = b.hidden_notes;
-    let h = unite_hidden_items(text, work, t, m, g, f, hidden, cap);
+    let h = unite_hidden_items(library, text, work, t, m, g, f, hidden, cap);
     let o = Notes {
         visible: notes,
         hidden,
         equation_room: b.equation_room,
         node_room: b.node_room,
     };
-    absorb_equations(text, work, t, g, o, h)
+    absorb_equations(library, text, work, t, g, o, h)
 }
 
 // The same with room for all of them.
 pub fn unite_hidden(
+    library: &[u8],
     text: &[u8],
     work: &mut [u32],
     t: usize,
@@ -196,20 +203,29 @@ pub fn unite_hidden(
     notes: u32,
 ) -> Form
     requires { ⌜ HiddenRoom (length (now work)) t m g f b notes ⌝ }
-    ensures { λ r. ⌜ HiddenUnited (now (text .entry)) t (now (work .entry)) m g f b notes r (now (work .exit)) ⌝ }
+    ensures { λ r. ⌜ HiddenUnited (joint (now (library .entry)) (now (text .entry))) t (now (work .entry)) m g f b notes r (now (work .exit)) ⌝ }
 {
     let have = f.hidden_count;
     let more = g.hidden_count;
-    unite_hidden_within(text, work, t, m, g, f, b, notes, have + more)
+    unite_hidden_within(library, text, work, t, m, g, f, b, notes, have + more)
 }
 
 // All of g, moved, united with f, which lies in the block.
-pub fn unite(text: &[u8], work: &mut [u32], t: usize, m: Mode, g: Form, f: Form, b: Block) -> Form
+pub fn unite(
+    library: &[u8],
+    text: &[u8],
+    work: &mut [u32],
+    t: usize,
+    m: Mode,
+    g: Form,
+    f: Form,
+    b: Block,
+) -> Form
     requires { ⌜ UniteRoom (length (now work)) t m g f b ⌝ }
-    ensures { λ r. ⌜ United (now (text .entry)) t (now (work .entry)) m g f b r (now (work .exit)) ⌝ }
+    ensures { λ r. ⌜ United (joint (now (library .entry)) (now (text .entry))) t (now (work .entry)) m g f b r (now (work .exit)) ⌝ }
 {
     let notes = b.visible_notes;
     let named = unite_parameters(work, g, f);
-    let seen = unite_visible(text, work, t, m, false, g, named, notes);
-    unite_hidden(text, work, t, m, g, seen, b, notes)
+    let seen = unite_visible(library, text, work, t, m, false, g, named, notes);
+    unite_hidden(library, text, work, t, m, g, seen, b, notes)
 }

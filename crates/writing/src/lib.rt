@@ -11,31 +11,47 @@ ghost use mathlib.Core.List.{_++_};
 ghost use Prim.Native.Nat.{_-_};
 ghost use Rattle.meaning.specs.Names.{bytes};
 ghost use Rattle.meaning.specs.Written.{between-marks, type-text, section-text, declared-text, origin-text};
+ghost use Rattle.names.specs.Joint.{joint};
 ghost use Rattle.tables.specs.Entries.{name-at, names-from, arity-at, sort-place, declared-at};
 ghost use Rattle.tables.specs.Rows.{section-of, origin-of};
 ghost use Rattle.pen.specs.Pen.{pen, written, rows-text};
 ghost use Rattle.writing.specs.Parts.{marked-name, declared-function-text, variable-type-text, declared-variable-text, declared-sort-text, placed-text};
 
 // A section.
-pub fn put_section(out: &mut [u8], at: usize, limit: usize, text: &[u8], s: Section) -> usize
-    ensures { λ r. ⌜ pen r (now (out .exit)) ≡ written limit (section-text (section-of (now (text .entry)) s)) (pen at (now (out .entry))) ⌝ }
+pub fn put_section(
+    out: &mut [u8],
+    at: usize,
+    limit: usize,
+    library: &[u8],
+    text: &[u8],
+    s: Section,
+) -> usize
+    ensures { λ r. ⌜ pen r (now (out .exit)) ≡ written limit (section-text (section-of (joint (now (library .entry)) (now (text .entry))) s)) (pen at (now (out .entry))) ⌝ }
 {
     match s {
         Section::Export => pen::put_text(out, at, limit, b"export"),
         Section::Hidden => pen::put_text(out, at, limit, b"hidden"),
         Section::Parameter(p) => {
             let a = pen::put_text(out, at, limit, b"parameter ");
-            pen::put_name(out, a, limit, text, p)
+            pen::put_name(out, a, limit, library, text, p)
         }
     }
 }
 
 // The name at place i of the tape, after a mark.
-fn put_marked(out: &mut [u8], at: usize, limit: usize, text: &[u8], tape: &[u32], i: usize) -> usize
-    ensures { λ r. ⌜ pen r (now (out .exit)) ≡ written limit (marked-name (now (text .entry)) (now (tape .entry)) i) (pen at (now (out .entry))) ⌝ }
+fn put_marked(
+    out: &mut [u8],
+    at: usize,
+    limit: usize,
+    library: &[u8],
+    text: &[u8],
+    tape: &[u32],
+    i: usize,
+) -> usize
+    ensures { λ r. ⌜ pen r (now (out .exit)) ≡ written limit (marked-name (joint (now (library .entry)) (now (text .entry))) (now (tape .entry)) i) (pen at (now (out .entry))) ⌝ }
 {
     let a = pen::put_text(out, at, limit, b"#");
-    pen::put_name(out, a, limit, text, name_at(tape, i))
+    pen::put_name(out, a, limit, library, text, name_at(tape, i))
 }
 
 // The names at places first to end, each after a mark.
@@ -43,17 +59,18 @@ fn put_others(
     out: &mut [u8],
     at: usize,
     limit: usize,
+    library: &[u8],
     text: &[u8],
     tape: &[u32],
     first: usize,
     end: usize,
 ) -> usize
-    ensures { λ r. ⌜ pen r (now (out .exit)) ≡ written limit (rows-text (marked-name (now (text .entry)) (now (tape .entry))) first (end - first)) (pen at (now (out .entry))) ⌝ }
+    ensures { λ r. ⌜ pen r (now (out .exit)) ≡ written limit (rows-text (marked-name (joint (now (library .entry)) (now (text .entry))) (now (tape .entry))) first (end - first)) (pen at (now (out .entry))) ⌝ }
 {
     let mut to = at;
     let mut i = first;
     while i < end {
-        to = put_marked(out, to, limit, text, tape, i);
+        to = put_marked(out, to, limit, library, text, tape, i);
         i += 1;
     }
     to
@@ -64,16 +81,17 @@ pub fn put_names(
     out: &mut [u8],
     at: usize,
     limit: usize,
+    library: &[u8],
     text: &[u8],
     tape: &[u32],
     first: usize,
     end: usize,
 ) -> usize
-    ensures { λ r. ⌜ pen r (now (out .exit)) ≡ written limit (between-marks (bytes "#") (names-from (now (text .entry)) (now (tape .entry)) first (end - first))) (pen at (now (out .entry))) ⌝ }
+    ensures { λ r. ⌜ pen r (now (out .exit)) ≡ written limit (between-marks (bytes "#") (names-from (joint (now (library .entry)) (now (text .entry))) (now (tape .entry)) first (end - first))) (pen at (now (out .entry))) ⌝ }
 {
     if first < end {
-        let a = pen::put_name(out, at, limit, text, name_at(tape, first));
-        return put_others(out, a, limit, text, tape, first + 1, end);
+        let a = pen::put_name(out, at, limit, library, text, name_at(tape, first));
+        return put_others(out, a, limit, library, text, tape, first + 1, end);
     }
     at
 }
@@ -83,28 +101,37 @@ pub fn put_type(
     out: &mut [u8],
     at: usize,
     limit: usize,
+    library: &[u8],
     text: &[u8],
     tape: &[u32],
     first: usize,
     end: usize,
 ) -> usize
-    ensures { λ r. ⌜ pen r (now (out .exit)) ≡ written limit (type-text (names-from (now (text .entry)) (now (tape .entry)) first (end - first)) (name-at (now (text .entry)) (now (tape .entry)) end)) (pen at (now (out .entry))) ⌝ }
+    ensures { λ r. ⌜ pen r (now (out .exit)) ≡ written limit (type-text (names-from (joint (now (library .entry)) (now (text .entry))) (now (tape .entry)) first (end - first)) (name-at (joint (now (library .entry)) (now (text .entry))) (now (tape .entry)) end)) (pen at (now (out .entry))) ⌝ }
 {
     let a = pen::put_text(out, at, limit, b":");
-    let b = put_names(out, a, limit, text, tape, first, end);
+    let b = put_names(out, a, limit, library, text, tape, first, end);
     let c = pen::put_text(out, b, limit, b"->");
-    pen::put_name(out, c, limit, text, name_at(tape, end))
+    pen::put_name(out, c, limit, library, text, name_at(tape, end))
 }
 
 // The function that is declared at d.
-fn put_function(out: &mut [u8], at: usize, limit: usize, text: &[u8], tape: &[u32], d: u32) -> usize
-    ensures { λ r. ⌜ pen r (now (out .exit)) ≡ written limit (declared-function-text (now (text .entry)) (now (tape .entry)) d) (pen at (now (out .entry))) ⌝ }
+fn put_function(
+    out: &mut [u8],
+    at: usize,
+    limit: usize,
+    library: &[u8],
+    text: &[u8],
+    tape: &[u32],
+    d: u32,
+) -> usize
+    ensures { λ r. ⌜ pen r (now (out .exit)) ≡ written limit (declared-function-text (joint (now (library .entry)) (now (text .entry))) (now (tape .entry)) d) (pen at (now (out .entry))) ⌝ }
 {
     let first = d as usize + 1;
     let end = first + arity_at(tape, d) as usize;
     let a = pen::put_text(out, at, limit, b"function,");
-    let b = pen::put_name(out, a, limit, text, name_at(tape, d as usize));
-    put_type(out, b, limit, text, tape, first, end)
+    let b = pen::put_name(out, a, limit, library, text, name_at(tape, d as usize));
+    put_type(out, b, limit, library, text, tape, first, end)
 }
 
 // The type of the variable that is declared at d.
@@ -112,31 +139,55 @@ fn put_variable_type(
     out: &mut [u8],
     at: usize,
     limit: usize,
+    library: &[u8],
     text: &[u8],
     tape: &[u32],
     d: u32,
 ) -> usize
-    ensures { λ r. ⌜ pen r (now (out .exit)) ≡ written limit (variable-type-text (now (text .entry)) (now (tape .entry)) d) (pen at (now (out .entry))) ⌝ }
+    ensures { λ r. ⌜ pen r (now (out .exit)) ≡ written limit (variable-type-text (joint (now (library .entry)) (now (text .entry))) (now (tape .entry)) d) (pen at (now (out .entry))) ⌝ }
 {
     let a = pen::put_text(out, at, limit, b":->");
-    pen::put_name(out, a, limit, text, name_at(tape, sort_place(tape, d)))
+    pen::put_name(
+        out,
+        a,
+        limit,
+        library,
+        text,
+        name_at(tape, sort_place(tape, d)),
+    )
 }
 
 // The variable that is declared at d.
-fn put_variable(out: &mut [u8], at: usize, limit: usize, text: &[u8], tape: &[u32], d: u32) -> usize
-    ensures { λ r. ⌜ pen r (now (out .exit)) ≡ written limit (declared-variable-text (now (text .entry)) (now (tape .entry)) d) (pen at (now (out .entry))) ⌝ }
+fn put_variable(
+    out: &mut [u8],
+    at: usize,
+    limit: usize,
+    library: &[u8],
+    text: &[u8],
+    tape: &[u32],
+    d: u32,
+) -> usize
+    ensures { λ r. ⌜ pen r (now (out .exit)) ≡ written limit (declared-variable-text (joint (now (library .entry)) (now (text .entry))) (now (tape .entry)) d) (pen at (now (out .entry))) ⌝ }
 {
     let a = pen::put_text(out, at, limit, b"variable,");
-    let b = pen::put_name(out, a, limit, text, name_at(tape, d as usize));
-    put_variable_type(out, b, limit, text, tape, d)
+    let b = pen::put_name(out, a, limit, library, text, name_at(tape, d as usize));
+    put_variable_type(out, b, limit, library, text, tape, d)
 }
 
 // The sort that is declared at d.
-fn put_sort(out: &mut [u8], at: usize, limit: usize, text: &[u8], tape: &[u32], d: u32) -> usize
-    ensures { λ r. ⌜ pen r (now (out .exit)) ≡ written limit (declared-sort-text (now (text .entry)) (now (tape .entry)) d) (pen at (now (out .entry))) ⌝ }
+fn put_sort(
+    out: &mut [u8],
+    at: usize,
+    limit: usize,
+    library: &[u8],
+    text: &[u8],
+    tape: &[u32],
+    d: u32,
+) -> usize
+    ensures { λ r. ⌜ pen r (now (out .exit)) ≡ written limit (declared-sort-text (joint (now (library .entry)) (now (text .entry))) (now (tape .entry)) d) (pen at (now (out .entry))) ⌝ }
 {
     let a = pen::put_text(out, at, limit, b"sort,");
-    pen::put_name(out, a, limit, text, name_at(tape, d as usize))
+    pen::put_name(out, a, limit, library, text, name_at(tape, d as usize))
 }
 
 // What is declared at d.
@@ -144,20 +195,21 @@ pub fn put_declared(
     out: &mut [u8],
     at: usize,
     limit: usize,
+    library: &[u8],
     text: &[u8],
     tape: &[u32],
     d: u32,
 ) -> usize
-    ensures { λ r. ⌜ pen r (now (out .exit)) ≡ written limit (declared-text (declared-at (now (text .entry)) (now (tape .entry)) d)) (pen at (now (out .entry))) ⌝ }
+    ensures { λ r. ⌜ pen r (now (out .exit)) ≡ written limit (declared-text (declared-at (joint (now (library .entry)) (now (text .entry))) (now (tape .entry)) d)) (pen at (now (out .entry))) ⌝ }
 {
     let role = role_at(tape, d as usize);
     if is_function_role(role) {
-        return put_function(out, at, limit, text, tape, d);
+        return put_function(out, at, limit, library, text, tape, d);
     }
     if role == 17 {
-        return put_variable(out, at, limit, text, tape, d);
+        return put_variable(out, at, limit, library, text, tape, d);
     }
-    put_sort(out, at, limit, text, tape, d)
+    put_sort(out, at, limit, library, text, tape, d)
 }
 
 // A section, and what is declared at d.
@@ -165,16 +217,17 @@ fn put_placed(
     out: &mut [u8],
     at: usize,
     limit: usize,
+    library: &[u8],
     text: &[u8],
     tape: &[u32],
     s: Section,
     d: u32,
 ) -> usize
-    ensures { λ r. ⌜ pen r (now (out .exit)) ≡ written limit (placed-text (now (text .entry)) (now (tape .entry)) s d) (pen at (now (out .entry))) ⌝ }
+    ensures { λ r. ⌜ pen r (now (out .exit)) ≡ written limit (placed-text (joint (now (library .entry)) (now (text .entry))) (now (tape .entry)) s d) (pen at (now (out .entry))) ⌝ }
 {
-    let a = put_section(out, at, limit, text, s);
+    let a = put_section(out, at, limit, library, text, s);
     let b = pen::put_text(out, a, limit, b",");
-    let c = put_declared(out, b, limit, text, tape, d);
+    let c = put_declared(out, b, limit, library, text, tape, d);
     pen::put_text(out, c, limit, b"]")
 }
 
@@ -183,15 +236,16 @@ pub fn put_origin(
     out: &mut [u8],
     at: usize,
     limit: usize,
+    library: &[u8],
     text: &[u8],
     tape: &[u32],
     o: Origin,
 ) -> usize
-    ensures { λ r. ⌜ pen r (now (out .exit)) ≡ written limit (origin-text (origin-of (now (text .entry)) (now (tape .entry)) o)) (pen at (now (out .entry))) ⌝ }
+    ensures { λ r. ⌜ pen r (now (out .exit)) ≡ written limit (origin-text (origin-of (joint (now (library .entry)) (now (text .entry))) (now (tape .entry)) o)) (pen at (now (out .entry))) ⌝ }
 {
     let section = o.section;
     let a = pen::put_text(out, at, limit, b"[");
-    let b = pen::put_name(out, a, limit, text, o.home);
+    let b = pen::put_name(out, a, limit, library, text, o.home);
     let c = pen::put_text(out, b, limit, b",");
-    put_placed(out, c, limit, text, tape, section, o.place)
+    put_placed(out, c, limit, library, text, tape, section, o.place)
 }

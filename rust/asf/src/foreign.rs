@@ -1,7 +1,8 @@
 //! The calls of C, and what they are lent.
 
 use crate::refusal::Refusal;
-use crate::{Listing, NAME_BYTES, OUTPUT_BYTES};
+use crate::{Listing, Specification, NAME_BYTES, OUTPUT_BYTES};
+use std::ops::Range;
 
 // As in `c/asf.h`: a pointer is followed by the number of elements behind it.
 extern "C" {
@@ -9,6 +10,8 @@ extern "C" {
     fn asf_normalise(
         asked: *const u8,
         asked_length: usize,
+        library: *const u8,
+        library_length: usize,
         text: *const u8,
         text_length: usize,
         work: *mut u32,
@@ -19,6 +22,16 @@ extern "C" {
         values_length: usize,
         names: *mut u8,
         names_length: usize,
+    ) -> u32;
+    fn asf_fetch(
+        name: *const u8,
+        name_length: usize,
+        library: *const u8,
+        library_length: usize,
+        text: *const u8,
+        text_length: usize,
+        values: *mut usize,
+        values_length: usize,
     ) -> u32;
     fn asf_line(
         listing: *const u8,
@@ -43,7 +56,7 @@ impl Default for Memory {
 }
 
 impl Memory {
-    /// The working memory that the library needs, and room for a listing of [`OUTPUT_BYTES`].
+    /// The working memory that a call needs, and room for a listing of [`OUTPUT_BYTES`].
     pub fn new() -> Memory {
         Memory::with_output(OUTPUT_BYTES)
     }
@@ -58,16 +71,52 @@ impl Memory {
         }
     }
 
-    /// Normalises the asked module of a text.
-    pub fn normalise(&mut self, asked: &[u8], text: &[u8]) -> Result<Listing, Refusal> {
-        let mut values = [0; 6];
+    /// Normalises the asked module of a specification: a text, or a [`Specification`] that has a library too.
+    pub fn normalise<'t>(
+        &mut self,
+        asked: &[u8],
+        specification: impl Into<Specification<'t>>,
+    ) -> Result<Listing, Refusal> {
+        let mut values = [0; 7];
         let mut names = [0; 2 * NAME_BYTES];
+        let number = self.call(asked, specification.into(), &mut values, &mut names);
+        let [_, modules, at, module, name, listing, in_library] = values;
+        if number == 0 {
+            return Ok(Listing {
+                bytes: self.out[..listing].to_vec(),
+                modules: modules as u32,
+            });
+        }
+        Err(Refusal {
+            number,
+            modules: modules as u32,
+            module: match number {
+                // the asked name is told only where it has at most 40 bytes
+                6 | 19 => asked.to_vec(),
+                _ => names[..module].to_vec(),
+            },
+            name: names[NAME_BYTES..][..name].to_vec(),
+            at,
+            in_library: in_library != 0,
+        })
+    }
+
+    fn call(
+        &mut self,
+        asked: &[u8],
+        specification: Specification<'_>,
+        values: &mut [usize],
+        names: &mut [u8],
+    ) -> u32 {
+        let (library, text) = (specification.library(), specification.text());
         // SAFETY: each pointer comes from a slice and is followed by its length; what is lent for writing is borrowed as such, so that
-        // nothing overlaps it. The library asks nothing else of its callers.
-        let number = unsafe {
+        // nothing overlaps it. Nothing else is asked of callers.
+        unsafe {
             asf_normalise(
                 asked.as_ptr(),
                 asked.len(),
+                library.as_ptr(),
+                library.len(),
                 text.as_ptr(),
                 text.len(),
                 self.work.as_mut_ptr(),
@@ -79,25 +128,31 @@ impl Memory {
                 names.as_mut_ptr(),
                 names.len(),
             )
-        };
-        let [_, modules, at, module, name, listing] = values;
-        if number == 0 {
-            return Ok(Listing {
-                bytes: self.out[..listing].to_vec(),
-                modules: modules as u32,
-            });
         }
-        Err(Refusal {
-            number,
-            modules: modules as u32,
-            module: match number {
-                // the library tells the asked name only where it has at most 40 bytes
-                6 | 19 => asked.to_vec(),
-                _ => names[..module].to_vec(),
-            },
-            name: names[NAME_BYTES..][..name].to_vec(),
-            at,
-        })
+    }
+}
+
+/// Where the part of a specification stands that declares the module: whether in the library, and on which bytes there.
+pub fn part_at(name: &[u8], specification: Specification<'_>) -> Option<(bool, Range<usize>)> {
+    let (library, text) = (specification.library(), specification.text());
+    let mut values = [0; 3];
+    // SAFETY: as above.
+    let number = unsafe {
+        asf_fetch(
+            name.as_ptr(),
+            name.len(),
+            library.as_ptr(),
+            library.len(),
+            text.as_ptr(),
+            text.len(),
+            values.as_mut_ptr(),
+            values.len(),
+        )
+    };
+    let [in_library, place, length] = values;
+    match number {
+        0 => Some((in_library != 0, place..place + length)),
+        _ => None,
     }
 }
 

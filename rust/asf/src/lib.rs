@@ -1,15 +1,17 @@
 //! Normalising ASF specifications by the proved library: [`normalise`] gives a module's normal form as a [`Listing`], or a [`Refusal`].
-//! All that is unsafe here is three calls of C, in `foreign`.
+//! All that is unsafe here are the calls of C, in `foreign`.
 
 mod foreign;
 mod lines;
 mod refusal;
+mod specification;
 
 pub use foreign::Memory;
 pub use lines::{lines, visible, BadLine, Line, Lines};
 pub use refusal::Refusal;
+pub use specification::{fetch, Part, Specification};
 
-/// The most bytes of a text that is read.
+/// The most bytes of a text that is read, the library's as the customer's.
 pub const TEXT_BYTES: usize = 32_768;
 /// The most bytes of a name.
 pub const NAME_BYTES: usize = 40;
@@ -45,7 +47,11 @@ impl Listing {
     }
 }
 
-/// Normalises the asked module of a text. It lends working memory and output for this one call; [`Memory`] keeps them for more.
-pub fn normalise(asked: &[u8], text: &[u8]) -> Result<Listing, Refusal> {
-    Memory::new().normalise(asked, text)
+/// Normalises the asked module of a specification: a text, or a [`Specification`] that has a library too. It lends working memory and output
+/// for this one call; [`Memory`] keeps them for more.
+pub fn normalise<'t>(
+    asked: &[u8],
+    specification: impl Into<Specification<'t>>,
+) -> Result<Listing, Refusal> {
+    Memory::new().normalise(asked, specification)
 }

@@ -4,7 +4,7 @@ use std::error::Error;
 use std::fmt;
 
 /// The number, how many modules were evaluated (the refused one included), the module evaluated when refused, the culprit's name, and for
-/// 1 to 5 its place in the text. What a number does not tell is blank or 0.
+/// 1 to 5 its place in the text or in the library. What a number does not tell is blank or 0.
 #[derive(Clone, Debug, PartialEq, Eq)]
 pub struct Refusal {
     pub(crate) number: u32,
@@ -12,6 +12,7 @@ pub struct Refusal {
     pub(crate) module: Vec<u8>,
     pub(crate) name: Vec<u8>,
     pub(crate) at: usize,
+    pub(crate) in_library: bool,
 }
 
 impl Refusal {
@@ -35,9 +36,14 @@ impl Refusal {
         &self.name
     }
 
-    /// The culprit's place in the text, in bytes from 0; 0 from 6 up.
+    /// The culprit's place in the text or in the library, in bytes from 0; 0 from 6 up.
     pub fn at(&self) -> usize {
         self.at
+    }
+
+    /// Whether that place is one of the library.
+    pub fn in_library(&self) -> bool {
+        self.in_library
     }
 }
 
@@ -72,7 +78,12 @@ impl fmt::Display for Refusal {
     fn fmt(&self, f: &mut fmt::Formatter<'_>) -> fmt::Result {
         write!(f, "{}: {}", self.number, text(self.number))?;
         if self.number <= 5 {
-            return write!(f, ", at byte {}", self.at);
+            let of = if self.in_library {
+                " of the library"
+            } else {
+                ""
+            };
+            return write!(f, ", at byte {}{}", self.at, of);
         }
         if !self.module.is_empty() {
             write!(f, ", module {}", String::from_utf8_lossy(&self.module))?;

@@ -1,6 +1,7 @@
-//! The safe functions over the proved library: a listing and its lines, refusals and their texts, what is lent, and the test vectors.
+//! The safe functions over the proved library: a listing and its lines, refusals and their texts, two texts, what is lent, and the test vectors.
 
-use asf::{lines, normalise, visible, BadLine, Line, Memory, Refusal, NAME_BYTES};
+use asf::{fetch, lines, normalise, visible};
+use asf::{BadLine, Line, Memory, Part, Refusal, Specification, NAME_BYTES, TEXT_BYTES};
 use std::fs;
 use std::path::{Path, PathBuf};
 
@@ -23,8 +24,19 @@ equation=[e] {1}({2})=f({2})
 end=M2
 ";
 
-fn refused(asked: &[u8], text: &[u8]) -> Refusal {
-    normalise(asked, text).expect_err("a refusal")
+fn refused<'t>(asked: &[u8], specification: impl Into<Specification<'t>>) -> Refusal {
+    normalise(asked, specification).expect_err("a refusal")
+}
+
+/// L with M1 in the library.
+fn divided() -> Specification<'static> {
+    let (library, text) = L.split_at(module_of_l("M2"));
+    Specification::with_library(library, text)
+}
+
+fn module_of_l(name: &str) -> usize {
+    let text = std::str::from_utf8(L).expect("L is ASCII");
+    text.find(&format!("module {}", name)).expect("it is there")
 }
 
 #[test]
@@ -92,6 +104,56 @@ fn refusals() {
 }
 
 #[test]
+fn a_library_before_the_text() {
+    let listing = normalise(b"M2", divided()).expect("a listing");
+    assert_eq!(listing.bytes(), LISTING.as_bytes());
+    assert_eq!(listing.modules(), 2);
+    assert!(normalise(b"M1", divided()).is_ok());
+    let alone = normalise(b"M2", Specification::new(L));
+    assert_eq!(alone, normalise(b"M2", &L.to_vec()));
+    let other_order = Specification::with_library(divided().text(), divided().library());
+    let late = refused(b"M2", other_order);
+    assert_eq!((late.number(), late.modules()), (8, 1));
+    assert_eq!((late.module(), late.name()), (&b"M2"[..], &b"M1"[..]));
+    assert_eq!((late.at(), late.in_library()), (0, false));
+}
+
+#[test]
+fn places_in_either_text() {
+    let twice = refused(b"M2", Specification::with_library(L, L));
+    assert_eq!((twice.number(), twice.at()), (5, 7));
+    assert!(!twice.in_library());
+    let in_library = refused(b"M2", Specification::with_library(b"module M1 $", b""));
+    assert_eq!((in_library.number(), in_library.at()), (1, 10));
+    assert!(in_library.in_library());
+    let long = refused(
+        b"M2",
+        Specification::with_library(&[b' '; TEXT_BYTES + 1], b""),
+    );
+    assert_eq!((long.number(), long.at()), (4, TEXT_BYTES));
+    assert!(long.in_library());
+    let empty = refused(b"M1", Specification::with_library(L, b""));
+    assert_eq!(
+        (empty.number(), empty.at(), empty.in_library()),
+        (2, 0, false)
+    );
+}
+
+#[test]
+fn modules_are_fetched() {
+    let (m1, m2) = L.split_at(module_of_l("M2"));
+    let (m1, m2) = (&m1[..m1.len() - 1], &m2[..m2.len() - 1]);
+    let part = |bytes, in_library| Some(Part { bytes, in_library });
+    assert_eq!(fetch(b"M1", divided()), part(m1, true));
+    assert_eq!(fetch(b"M2", divided()), part(m2, false));
+    assert_eq!(fetch(b"M2", L), part(m2, false));
+    assert_eq!(fetch(b"M3", divided()), None);
+    assert_eq!(fetch(b"M1", b""), None);
+    let found = fetch(b"M1", L).expect("a part").bytes;
+    assert_eq!(found.as_ptr(), L.as_ptr());
+}
+
+#[test]
 fn their_texts() {
     let absent = refused(b"M3", L).to_string();
     assert_eq!(
@@ -100,6 +162,11 @@ fn their_texts() {
     );
     let empty = refused(b"M", b"").to_string();
     assert_eq!(empty, "2: this may not stand here, at byte 0");
+    let in_library = refused(b"M", Specification::with_library(b"module M", L)).to_string();
+    assert_eq!(
+        in_library,
+        "2: this may not stand here, at byte 8 of the library"
+    );
     let bad = lines(b"module").next().expect("a line or none");
     assert_eq!(
         bad.expect_err("no line").to_string(),
@@ -121,31 +188,55 @@ fn memory_is_kept_between_calls() {
     assert_eq!(refusal.module(), b"M2");
 }
 
-/// What `asfnorm` prints for an input whose first line is `normalise=NAME`; none for other inputs.
-fn printed(memory: &mut Memory, input: &[u8]) -> Option<Vec<u8>> {
+/// The asked name and the specification of an input of `asfnorm`; none where it has no proper first line, or where the library's length is
+/// beyond what it may be, whatever stands behind.
+fn question(input: &[u8]) -> Option<(&[u8], Specification<'_>)> {
     let rest = input.strip_prefix(b"normalise=")?;
     let length = rest.iter().position(|&byte| byte == b'\n')?;
+    let (asked, text) = (&rest[..length], &rest[length + 1..]);
     if length > NAME_BYTES {
         return None;
     }
-    Some(
-        match memory.normalise(&rest[..length], &rest[length + 1..]) {
-            Ok(listing) => {
-                let mut out = format!("answer=0\nmodules={}\n", listing.modules()).into_bytes();
-                out.extend_from_slice(listing.bytes());
-                out
-            }
-            Err(refusal) => format!(
-                "answer={}\nmodules={}\nmodule={}\nname={}\nat={}\n",
-                refusal.number(),
-                refusal.modules(),
-                String::from_utf8_lossy(refusal.module()),
-                String::from_utf8_lossy(refusal.name()),
-                refusal.at()
-            )
-            .into_bytes(),
-        },
-    )
+    match library_line(text) {
+        Some((length, _)) if length > TEXT_BYTES => None,
+        Some((length, behind)) if length <= behind.len() => {
+            let (library, text) = behind.split_at(length);
+            Some((asked, Specification::with_library(library, text)))
+        }
+        _ => Some((asked, Specification::new(text))),
+    }
+}
+
+/// The length that a line `library=N` tells, and what is behind it.
+fn library_line(text: &[u8]) -> Option<(usize, &[u8])> {
+    let rest = text.strip_prefix(b"library=")?;
+    let end = rest.iter().position(|&byte| byte == b'\n')?;
+    let digits = std::str::from_utf8(&rest[..end]).ok()?;
+    let length: usize = digits.parse().ok()?;
+    let exact = digits == length.to_string() && digits.len() <= 9;
+    exact.then(|| (length, &rest[end + 1..]))
+}
+
+/// What `asfnorm` prints for an input that asks something of the library.
+fn printed(memory: &mut Memory, input: &[u8]) -> Option<Vec<u8>> {
+    let (asked, specification) = question(input)?;
+    Some(match memory.normalise(asked, specification) {
+        Ok(listing) => {
+            let mut out = format!("answer=0\nmodules={}\n", listing.modules()).into_bytes();
+            out.extend_from_slice(listing.bytes());
+            out
+        }
+        Err(refusal) => format!(
+            "answer={}\nmodules={}\nmodule={}\nname={}\nat={}{}\n",
+            refusal.number(),
+            refusal.modules(),
+            String::from_utf8_lossy(refusal.module()),
+            String::from_utf8_lossy(refusal.name()),
+            if refusal.in_library() { "library:" } else { "" },
+            refusal.at()
+        )
+        .into_bytes(),
+    })
 }
 
 fn inputs(folder: &Path) -> Vec<PathBuf> {
@@ -161,7 +252,7 @@ fn the_vectors() {
     let vectors = Path::new(env!("CARGO_MANIFEST_DIR")).join("../reference/vectors");
     let mut memory = Memory::new();
     let mut count = 0;
-    for folder in ["appendix", "readings"] {
+    for folder in ["appendix", "readings", "one"] {
         for input in inputs(&vectors.join(folder)) {
             let expected = fs::read(input.with_extension("out")).expect("an output");
             let text = fs::read(&input).expect("an input");
@@ -171,7 +262,7 @@ fn the_vectors() {
             }
         }
     }
-    assert!(count > 150, "{} vectors", count);
+    assert!(count > 200, "{} vectors", count);
 }
 
 /// The help sheet's heading for each number: `### 7: there is no module of this name`.
@@ -194,8 +285,9 @@ fn the_help_sheet() {
     let mut told = 0;
     for example in sheet.split("```\nnormalise=").skip(1) {
         let example = example.split("\n```").next().expect("an end");
-        let (asked, text) = example.split_once('\n').expect("a first line");
-        if let Err(refusal) = normalise(asked.as_bytes(), format!("{}\n", text).as_bytes()) {
+        let input = format!("normalise={}\n", example);
+        let (asked, specification) = question(input.as_bytes()).expect("a first line");
+        if let Err(refusal) = normalise(asked, specification) {
             let heading = heading(refusal.number());
             assert!(refusal.to_string().starts_with(&heading), "{}", refusal);
             told += 1;

@@ -1,31 +1,66 @@
-//! From a seed to a case: which kind of text, which module is asked, how much output is lent.
+//! From a seed to a case: which kind of text, which module is asked, how the modules are divided between library and
+//! customer's text, how much output is lent.
 
 use crate::aims;
 use crate::damage;
 use crate::diamonds;
+use crate::division;
 use crate::draft::{self, Plan};
 use crate::names;
 use crate::random::Random;
 use crate::sizes;
 use crate::spelling::{self, Tokens};
 use reference::syntax::Specification;
-use reference::{normalise, Lent, Name, OUTPUT_BYTES};
+use reference::{normalise, Lent, Name, Texts, OUTPUT_BYTES};
 
 /// One question to an implementation, and the kind of text it came from.
 #[derive(Clone, Debug, Default)]
 pub struct Case {
     pub kind: &'static str,
     pub asked: Name,
+    /// Empty where there is none.
+    pub library: Vec<u8>,
     pub text: Vec<u8>,
     pub output: usize,
-    /// What a program like `asfnorm` gets before the text, where it is not the asked name's line.
+    /// What a program like `asfnorm` gets before the library's line, where it is not the asked name's line.
     pub first_line: Option<Vec<u8>>,
+    /// What it gets before the library, where it is not the line that tells the library's length.
+    pub library_line: Option<Vec<u8>>,
 }
 
-/// The case of a seed.
+impl Case {
+    pub fn texts(&self) -> Texts<'_> {
+        Texts {
+            library: &self.library,
+            customer: &self.text,
+        }
+    }
+}
+
+/// The case of a seed; about half of them have a library.
 pub fn case(seed: u64) -> Case {
-    let mut random = Random::new(seed);
-    let random = &mut random;
+    // numbers of its own, so that a seed's text is the same whether it is divided or not
+    let mut division = Random::new(!seed);
+    let random = &mut Random::new(seed);
+    let mut case = of_one_text(random);
+    if division.chance(50) {
+        division::divide(&mut case, &mut division);
+    }
+    division::odd_line(&mut case, &mut division);
+    short_output(&mut case, random);
+    bad_first_line(&mut case, random);
+    case
+}
+
+/// The case of a seed with all modules in the customer's text.
+pub fn undivided(seed: u64) -> Case {
+    let random = &mut Random::new(seed);
+    let mut case = of_one_text(random);
+    short_output(&mut case, random);
+    case
+}
+
+fn of_one_text(random: &mut Random) -> Case {
     let mut case = match random.below(100) {
         0..=13 => accepted(random),
         14..=23 => diamonds(random),
@@ -41,8 +76,6 @@ pub fn case(seed: u64) -> Case {
         _ => sized(random),
     };
     other_asked(&mut case, random);
-    short_output(&mut case, random);
-    bad_first_line(&mut case, random);
     case
 }
 
@@ -69,7 +102,7 @@ fn from_tokens(kind: &'static str, asked: Name, tokens: &Tokens, random: &mut Ra
         asked,
         text: spelling::lay_out(tokens, layout, random),
         output: OUTPUT_BYTES,
-        first_line: None,
+        ..Case::default()
     }
 }
 
@@ -142,7 +175,7 @@ fn sized(random: &mut Random) -> Case {
         asked: b"M".to_vec(),
         text: sizes::text(random),
         output: OUTPUT_BYTES,
-        first_line: None,
+        ..Case::default()
     };
     if random.chance(5) {
         damage::bytes(&mut case.text, random);
@@ -170,7 +203,7 @@ fn short_output(case: &mut Case, random: &mut Random) {
     if random.chance(92) {
         return;
     }
-    let answer = normalise(&case.asked, &case.text, Lent::output(OUTPUT_BYTES));
+    let answer = normalise(&case.asked, case.texts(), Lent::output(OUTPUT_BYTES));
     let length = answer.listing.len();
     case.output = match random.below(4) {
         0 => length,
@@ -179,7 +212,7 @@ fn short_output(case: &mut Case, random: &mut Random) {
     };
 }
 
-/// Now and then the program's first line is none: the library does not see it.
+/// Now and then the program's first line is none: the proved library does not see it.
 fn bad_first_line(case: &mut Case, random: &mut Random) {
     if random.chance(98) {
         return;

@@ -1,13 +1,14 @@
 //! The proved library behind the driver in C (`c/driver.c`), which runs as a process of its own: the library is compiled for x86-64, and
 //! this program may run elsewhere, beside an emulator.
 
+use reference::Texts;
 use std::io::{self, BufReader, BufWriter, Read, Write};
 use std::process::{Child, ChildStdin, ChildStdout, Command, Stdio};
 
 /// The words of working memory that the library needs (docs/MEMORY.md).
 pub const MEMORY_WORDS: usize = 1_048_576;
 /// The values and the bytes of names that an answer has (`c/asf.h`).
-pub const VALUES: usize = 6;
+pub const VALUES: usize = 7;
 pub const NAMES: usize = 80;
 /// What the driver fills lent memory with.
 pub const FILL: u8 = 0xa5;
@@ -28,8 +29,8 @@ pub struct Room {
     pub listing: usize,
 }
 
-/// What a call has left.
-#[derive(Debug, PartialEq, Eq)]
+/// What a call has left; names and listing are those of a normal form, a part of a text has none.
+#[derive(Debug, Default, PartialEq, Eq)]
 pub struct Reply {
     pub number: u32,
     pub broken: u32,
@@ -75,26 +76,26 @@ impl Driver {
         })
     }
 
-    pub fn normalise(&mut self, asked: &[u8], text: &[u8], room: Room) -> io::Result<Reply> {
-        self.send(&[
-            0,
-            asked.len(),
-            text.len(),
-            room.memory,
-            room.output,
-            room.values,
-            room.names,
-            room.listing,
-        ])?;
-        self.send_bytes(&[asked, text])?;
+    pub fn normalise(&mut self, asked: &[u8], texts: Texts, room: Room) -> io::Result<Reply> {
+        let rooms = [room.memory, room.output, room.values, room.names];
+        self.ask(0, asked, texts, &[&rooms[..], &[room.listing]].concat())?;
         Ok(Reply {
             number: self.word()?,
             broken: self.word()?,
-            values: (0..room.values)
-                .map(|_| self.long())
-                .collect::<io::Result<Vec<u64>>>()?,
+            values: self.longs(room.values)?,
             names: self.bytes(room.names)?,
             listing: self.bytes(room.listing.min(room.output))?,
+        })
+    }
+
+    /// Where the part stands that declares a module, with room for so many values.
+    pub fn fetch(&mut self, name: &[u8], texts: Texts, values: usize) -> io::Result<Reply> {
+        self.ask(3, name, texts, &[values])?;
+        Ok(Reply {
+            number: self.word()?,
+            broken: self.word()?,
+            values: self.longs(values)?,
+            ..Reply::default()
         })
     }
 
@@ -123,16 +124,22 @@ impl Driver {
     pub fn time(
         &mut self,
         asked: &[u8],
-        text: &[u8],
+        texts: Texts,
         output: usize,
         times: usize,
     ) -> io::Result<Times> {
-        self.send(&[2, times, asked.len(), text.len(), output])?;
-        self.send_bytes(&[asked, text])?;
+        self.ask(2, asked, texts, &[output, times])?;
         Ok(Times {
             number: self.word()?,
             least: self.long()?,
         })
+    }
+
+    /// A request about a module of a specification: the lengths of these come before what else it says.
+    fn ask(&mut self, kind: usize, name: &[u8], texts: Texts, more: &[usize]) -> io::Result<()> {
+        let lengths = [name.len(), texts.library.len(), texts.customer.len()];
+        self.send(&[&[kind], &lengths[..], more].concat())?;
+        self.send_bytes(&[name, texts.library, texts.customer])
     }
 
     fn send(&mut self, words: &[usize]) -> io::Result<()> {
@@ -160,6 +167,10 @@ impl Driver {
         let mut long = [0; 8];
         self.replies.read_exact(&mut long)?;
         Ok(u64::from_le_bytes(long))
+    }
+
+    fn longs(&mut self, count: usize) -> io::Result<Vec<u64>> {
+        (0..count).map(|_| self.long()).collect()
     }
 
     fn bytes(&mut self, length: usize) -> io::Result<Vec<u8>> {

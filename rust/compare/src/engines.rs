@@ -5,32 +5,40 @@ use reference::{asfnorm, normalise, Answer, Lent};
 use std::io::{self, Write};
 use std::process::{Command, Stdio};
 
-pub fn reference(asked: &[u8], text: &[u8], output: usize) -> Answer {
-    normalise(asked, text, Lent::output(output))
+pub fn reference(case: &Case) -> Answer {
+    normalise(&case.asked, case.texts(), Lent::output(case.output))
 }
 
-/// What two implementations say of a case, where they differ.
+/// What should be said of a case and what is, where the two differ.
 pub struct Difference {
-    pub reference: String,
-    pub other: String,
+    pub expected: String,
+    pub found: String,
 }
 
 /// The reference with one word of working memory too few.
-pub fn reference_with_short_memory(asked: &[u8], text: &[u8], output: usize) -> Answer {
+pub fn reference_with_short_memory(case: &Case) -> Answer {
     let lent = Lent {
         work: 0,
         work_needed: 1,
-        output,
+        output: case.output,
     };
-    normalise(asked, text, lent)
+    normalise(&case.asked, case.texts(), lent)
 }
 
 /// The standard input of `asfnorm` for a case.
 pub fn input(case: &Case) -> Vec<u8> {
-    match &case.first_line {
-        Some(line) => [&line[..], &case.text].concat(),
-        None => [b"normalise=", &case.asked[..], b"\n", &case.text].concat(),
-    }
+    let first_line = match &case.first_line {
+        Some(line) => line.clone(),
+        None => [b"normalise=", &case.asked[..], b"\n"].concat(),
+    };
+    let library_line = match &case.library_line {
+        Some(line) => line.clone(),
+        None if case.library.is_empty() => Vec::new(),
+        None => format!("library={}\n", case.library.len()).into_bytes(),
+    };
+    [&first_line, &library_line, &case.library, &case.text]
+        .map(|part| &part[..])
+        .concat()
 }
 
 /// Runs a program on a case as `asfnorm` is run, and compares what it prints with what the reference prints.
@@ -39,8 +47,8 @@ pub fn compare_program(case: &Case, program: &str) -> io::Result<Option<Differen
     let expected = asfnorm(&input);
     let found = run(program, input)?;
     Ok((expected != found).then(|| Difference {
-        reference: String::from_utf8_lossy(&expected).into_owned(),
-        other: String::from_utf8_lossy(&found).into_owned(),
+        expected: String::from_utf8_lossy(&expected).into_owned(),
+        found: String::from_utf8_lossy(&found).into_owned(),
     }))
 }
 

@@ -1,9 +1,11 @@
-//! Seeded specifications, good and bad, on which two implementations of document 01 are compared.
+//! Seeded specifications, good and bad, on which two implementations of documents 01 and 02 are compared.
 
 pub mod aims;
 pub mod cases;
 pub mod damage;
 pub mod diamonds;
+pub mod divided;
+pub mod division;
 pub mod draft;
 pub mod driver;
 pub mod engines;

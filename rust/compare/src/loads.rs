@@ -1,30 +1,48 @@
-//! The texts whose times are measured: small ones, a specification near every limit, and texts made to take long.
+//! The texts whose times are measured: small ones, a specification near every limit, and texts made to take long; and
+//! some of them with a library.
 
-use reference::TEXT_BYTES;
+use crate::division::divisions;
+use reference::{Texts, TEXT_BYTES};
 
-/// A text with a name for the table and the module that is asked.
+const L: &str = include_str!("../../reference/vectors/appendix/L.in");
+const NSTRINGS: &str = include_str!("../../reference/vectors/appendix/3.1-Nstrings.in");
+
+/// A specification with a name for the table and the module that is asked.
 pub struct Load {
     pub title: &'static str,
     pub asked: &'static str,
-    pub text: String,
+    library: Vec<u8>,
+    text: Vec<u8>,
+}
+
+impl Load {
+    pub fn texts(&self) -> Texts<'_> {
+        Texts {
+            library: &self.library,
+            customer: &self.text,
+        }
+    }
 }
 
 pub fn loads() -> Vec<Load> {
-    let vector = |title, asked, input: &'static str| {
-        let (_, text) = input.split_once('\n').expect("a first line");
-        load(title, asked, text.to_string())
-    };
+    let mut loads = undivided();
+    loads.extend([
+        divided("L, divided", "M2", of_vector(L)),
+        divided("Nstrings, divided", "Nstrings", of_vector(NSTRINGS)),
+        divided("near every limit, divided", "Top", near_every_limit()),
+        divided(
+            "64 modules, each imported 16 times, divided",
+            "m63",
+            imported_often(),
+        ),
+    ]);
+    loads
+}
+
+fn undivided() -> Vec<Load> {
     vec![
-        vector(
-            "L",
-            "M2",
-            include_str!("../../reference/vectors/appendix/L.in"),
-        ),
-        vector(
-            "Nstrings, section 3.1",
-            "Nstrings",
-            include_str!("../../reference/vectors/appendix/3.1-Nstrings.in"),
-        ),
+        load("L", "M2", of_vector(L)),
+        load("Nstrings, section 3.1", "Nstrings", of_vector(NSTRINGS)),
         load("near every limit", "Top", near_every_limit()),
         load(
             "one sort name, 16,000 times",
@@ -46,9 +64,32 @@ pub fn loads() -> Vec<Load> {
     ]
 }
 
+/// The text of an input, behind its first line.
+fn of_vector(input: &str) -> String {
+    let (_, text) = input.split_once('\n').expect("a first line");
+    text.to_string()
+}
+
 fn load(title: &'static str, asked: &'static str, text: String) -> Load {
     assert!(text.len() <= TEXT_BYTES, "{title}: {} bytes", text.len());
-    Load { title, asked, text }
+    Load {
+        title,
+        asked,
+        library: Vec::new(),
+        text: text.into_bytes(),
+    }
+}
+
+/// Half of the modules stand in the library.
+fn divided(title: &'static str, asked: &'static str, text: String) -> Load {
+    let divisions = divisions(text.as_bytes());
+    let half = divisions[divisions.len() / 2];
+    Load {
+        title,
+        asked,
+        library: half.library.to_vec(),
+        text: half.customer.to_vec(),
+    }
 }
 
 fn joined(count: usize, separator: &str, element: impl Fn(usize) -> String) -> String {
@@ -223,6 +264,8 @@ fn leaf(module: usize) -> String {
         )
     });
     format!(
-        "module Leaf{module} begin exports begin sorts Element{module}, Result{module} functions\n{functions} end\nimports {imports}\nfunctions {hidden}\nvariables x, y, z, u : -> Element{module}\nequations {equations} end Leaf{module}\n"
+        "module Leaf{module} begin exports begin sorts Element{module}, Result{module} functions\n{functions} end\n\
+         imports {imports}\nfunctions {hidden}\nvariables x, y, z, u : -> Element{module}\n\
+         equations {equations} end Leaf{module}\n"
     )
 }

@@ -1,6 +1,7 @@
 //! `compare`: tallies the answers over seeds, or looks for the first seed on which two implementations differ.
 
-use compare::cases::{case, Case};
+use compare::cases::{case, undivided, Case};
+use compare::divided;
 use compare::engines::{self, Difference};
 use compare::proved::Proved;
 use compare::shrink::shrink;
@@ -15,6 +16,7 @@ const USAGE: &str = "usage:
   compare tally COUNT [FIRST]            answers of the reference over seeds, by kind of text
   compare program PATH COUNT [FIRST]     a program like asfnorm against the reference
   compare proved COUNT FIRST DRIVER..    the proved library, behind its driver in C, against the reference
+  compare divided COUNT FIRST DRIVER..   the proved library on texts divided at each module against the same undivided
   compare time TIMES DRIVER..            times of the library and of the reference, as a table
   compare input SEED                     the standard input of asfnorm for a seed";
 
@@ -27,7 +29,16 @@ fn main() -> Result<ExitCode, Box<dyn Error>> {
         ["program", path, count] => against_program(path, count.parse()?, 0),
         ["program", path, count, first] => against_program(path, count.parse()?, first.parse()?),
         ["proved", count, first, _, ..] => {
-            against_proved(&arguments[3..], count.parse()?, first.parse()?)
+            let proved = Proved::new(&arguments[3..]);
+            search(count.parse()?, first.parse()?, case, |case| {
+                proved.compare(case)
+            })
+        }
+        ["divided", count, first, _, ..] => {
+            let proved = Proved::new(&arguments[3..]);
+            search(count.parse()?, first.parse()?, undivided, |case| {
+                divided::compare(&proved, case)
+            })
         }
         ["time", times, _, ..] => {
             timing::table(times.parse()?, &arguments[2..])?;
@@ -51,8 +62,11 @@ fn tally(count: u64, first: u64) -> Result<ExitCode, Box<dyn Error>> {
     let mut counts: BTreeMap<&str, [u64; 22]> = BTreeMap::new();
     for seed in first..first + count {
         let case = case(seed);
-        let answer = engines::reference(&case.asked, &case.text, case.output);
-        for kind in ["all", case.kind] {
+        let answer = engines::reference(&case);
+        let mut kinds = vec!["all", case.kind];
+        kinds.extend((!case.library.is_empty()).then_some("with a library"));
+        kinds.extend(answer.in_library.then_some("in the library"));
+        for kind in kinds {
             counts.entry(kind).or_default()[answer.number as usize] += 1;
         }
     }
@@ -72,13 +86,14 @@ fn tally(count: u64, first: u64) -> Result<ExitCode, Box<dyn Error>> {
 fn search(
     count: u64,
     first: u64,
+    case_of: fn(u64) -> Case,
     differ: impl Fn(&Case) -> Option<Difference>,
 ) -> Result<ExitCode, Box<dyn Error>> {
     for seed in first..first + count {
         if seed > first && (seed - first) % 10_000 == 0 {
             eprintln!("{} seeds from {first}: no difference so far", seed - first);
         }
-        let case = case(seed);
+        let case = case_of(seed);
         if differ(&case).is_some() {
             let smallest = shrink(&case, |smaller| differ(smaller).is_some());
             report(seed, &smallest, differ(&smallest))?;
@@ -94,25 +109,19 @@ fn report(seed: u64, case: &Case, difference: Option<Difference>) -> io::Result<
     println!("--- input, made smaller");
     io::stdout().write_all(&engines::input(case))?;
     if let Some(difference) = difference {
-        println!("\n--- reference\n{}", difference.reference);
-        println!("--- other\n{}", difference.other);
+        println!("\n--- expected\n{}", difference.expected);
+        println!("--- found\n{}", difference.found);
     }
     Ok(())
 }
 
 fn against_program(path: &str, count: u64, first: u64) -> Result<ExitCode, Box<dyn Error>> {
-    search(count, first, |case| {
+    search(count, first, case, |case| {
         engines::compare_program(case, path).unwrap_or_else(|error| {
             Some(Difference {
-                reference: String::new(),
-                other: format!("{path}: {error}"),
+                expected: String::new(),
+                found: format!("{path}: {error}"),
             })
         })
     })
-}
-
-/// The words of the command that starts the driver: itself, or an emulator and the driver.
-fn against_proved(command: &[String], count: u64, first: u64) -> Result<ExitCode, Box<dyn Error>> {
-    let proved = Proved::new(command);
-    search(count, first, |case| proved.compare(case))
 }

@@ -1,9 +1,10 @@
-//! The proved library held to the reference: the answer, every byte that is lent, and the listing read back. A driver that crashes differs.
+//! The proved library held to the reference: the answer, every byte that is lent, the listing read back, and modules fetched. A driver that
+//! crashes differs.
 
 use crate::cases::Case;
 use crate::driver::{Driver, Places, ReadBack, Reply, Room, FILL, MEMORY_WORDS, NAMES, VALUES};
 use crate::engines::{reference, reference_with_short_memory, Difference};
-use reference::{next_line, Answer, Step, NAME_BYTES};
+use reference::{fetch, next_line, parts, Answer, Name, Step, NAME_BYTES};
 use std::cell::RefCell;
 use std::io;
 
@@ -12,7 +13,7 @@ const BROKEN: [&str; 4] = [
     "the working memory is not zero",
     "the output is changed behind the listing",
     "bytes around what was lent are changed",
-    "the name or the text is changed",
+    "the name or a text is changed",
 ];
 
 /// Keeps a driver, and starts another where one has crashed.
@@ -29,7 +30,7 @@ impl Proved {
         }
     }
 
-    fn call<R>(&self, request: impl Fn(&mut Driver) -> io::Result<R>) -> io::Result<R> {
+    pub fn call<R>(&self, request: impl Fn(&mut Driver) -> io::Result<R>) -> io::Result<R> {
         let mut kept = self.driver.borrow_mut();
         if kept.is_none() {
             *kept = Some(Driver::start(&self.command)?);
@@ -41,14 +42,18 @@ impl Proved {
         reply
     }
 
-    /// With the working memory whole, and with too little; then the listing, whole and damaged.
+    /// With the working memory whole, and with too little; then the listing, whole and damaged; then some modules' texts.
     pub fn compare(&self, case: &Case) -> Option<Difference> {
-        let expected = reference(&case.asked, &case.text, case.output);
-        let short = reference_with_short_memory(&case.asked, &case.text, case.output);
+        let expected = reference(case);
+        let short = reference_with_short_memory(case);
         self.compare_answer(case, &expected, MEMORY_WORDS)
             .or_else(|| self.compare_answer(case, &short, short_memory(case)))
             .or_else(|| self.compare_reading(&expected.listing, 0))
             .or_else(|| self.compare_damaged(&expected.listing, case.text.len()))
+            .or_else(|| {
+                let mut names = some_names(case).into_iter();
+                names.find_map(|name| self.compare_fetching(case, &name))
+            })
     }
 
     fn compare_answer(&self, case: &Case, answer: &Answer, memory: usize) -> Option<Difference> {
@@ -60,7 +65,7 @@ impl Proved {
             names,
             listing: answer.listing.len(),
         };
-        let found = self.call(|driver| driver.normalise(&case.asked, &case.text, room));
+        let found = self.call(|driver| driver.normalise(&case.asked, case.texts(), room));
         differ(&expected_reply(answer, room), found, told)
     }
 
@@ -83,6 +88,25 @@ impl Proved {
         self.compare_reading(&damaged, 0)
             .or_else(|| self.compare_reading(listing, number % (listing.len() + 3)))
     }
+
+    fn compare_fetching(&self, case: &Case, name: &[u8]) -> Option<Difference> {
+        let (room, _) = rooms(case);
+        let found = self.call(|driver| driver.fetch(name, case.texts(), room));
+        differ(&expected_part(case, name, room), found, |reply| {
+            format!("{} fetched: {}", String::from_utf8_lossy(name), told(reply))
+        })
+    }
+}
+
+/// A module of each text, the asked one, one that is in neither, and the name that no module has.
+fn some_names(case: &Case) -> Vec<Name> {
+    let mut names = vec![case.asked.clone(), b"Absent'".to_vec(), Name::new()];
+    for text in [&case.library, &case.text] {
+        let parts = parts(text);
+        let some = parts.get(case.text.len() % parts.len().max(1));
+        names.extend(some.map(|part| part.name.to_vec()));
+    }
+    names
 }
 
 /// One word too few now and then, since that costs as much as enough; else fewer.
@@ -97,25 +121,25 @@ fn short_memory(case: &Case) -> usize {
 /// Mostly room for all values and names, now and then less or more.
 fn rooms(case: &Case) -> (usize, usize) {
     if case.text.len() % 8 == 0 {
-        (case.text.len() / 8 % 9, case.text.len() / 8 % 97)
+        (case.text.len() / 8 % 10, case.text.len() / 8 % 97)
     } else {
         (VALUES, NAMES)
     }
 }
 
-fn differ<R: PartialEq>(
+pub fn differ<R: PartialEq>(
     expected: &R,
     found: io::Result<R>,
     tell: impl Fn(&R) -> String,
 ) -> Option<Difference> {
-    let other = match found {
+    let found = match found {
         Ok(reply) if reply == *expected => return None,
         Ok(reply) => tell(&reply),
         Err(error) => format!("the driver ended: {error}"),
     };
     Some(Difference {
-        reference: tell(expected),
-        other,
+        expected: tell(expected),
+        found,
     })
 }
 
@@ -127,6 +151,7 @@ fn expected_reply(answer: &Answer, room: Room) -> Reply {
         answer.module.len() as u64,
         answer.name.len() as u64,
         answer.listing.len() as u64,
+        u64::from(answer.in_library),
     ];
     let mut names = answer.module.clone();
     names.resize(NAME_BYTES, 0);
@@ -135,10 +160,28 @@ fn expected_reply(answer: &Answer, room: Room) -> Reply {
     Reply {
         number: answer.number,
         broken: 0,
-        values: laid(&values, u64::from_le_bytes([FILL; 8]), room.values),
+        values: laid_values(&values, room.values),
         names: laid(&names, FILL, room.names),
         listing: answer.listing.clone(),
     }
+}
+
+/// 0 with whether it is the library's, its place and its length; or 1, and all that was lent is as it was.
+fn expected_part(case: &Case, name: &[u8], room: usize) -> Reply {
+    let found = fetch(name, case.texts());
+    let values = found.map(|found| {
+        let (place, length) = (found.part.place, found.part.bytes.len());
+        vec![u64::from(found.in_library), place as u64, length as u64]
+    });
+    Reply {
+        number: u32::from(found.is_none()),
+        values: laid_values(&values.unwrap_or_default(), room),
+        ..Reply::default()
+    }
+}
+
+fn laid_values(values: &[u64], room: usize) -> Vec<u64> {
+    laid(values, u64::from_le_bytes([FILL; 8]), room)
 }
 
 /// As many elements as there is room for; behind them what was there.
@@ -202,17 +245,20 @@ fn visible(listing: &[u8]) -> u64 {
     place as u64
 }
 
-fn told(reply: &Reply) -> String {
+/// What a reply says; of the output, what was written.
+pub fn told(reply: &Reply) -> String {
     let promises: Vec<&str> = (0..BROKEN.len())
         .filter(|bit| reply.broken & (1 << bit) != 0)
         .map(|bit| BROKEN[bit])
         .collect();
+    let written = reply.listing.iter().rposition(|&byte| byte != FILL);
+    let written = &reply.listing[..written.map_or(0, |last| last + 1)];
     format!(
         "number {} values {:?} names {:?} {}\n{}",
         reply.number,
         reply.values,
         String::from_utf8_lossy(&reply.names),
         promises.join(", "),
-        String::from_utf8_lossy(&reply.listing)
+        String::from_utf8_lossy(written)
     )
 }

@@ -4,20 +4,31 @@ use crate::cases::Case;
 use crate::spelling::plain;
 use reference::syntax::*;
 
-/// Takes parts out of the specification where the text is one, else bytes out of the text.
+/// Makes the customer's text smaller, then the library.
 pub fn shrink(case: &Case, differs: impl Fn(&Case) -> bool) -> Case {
     let with_text = |text: Vec<u8>| Case {
         text,
         ..case.clone()
     };
-    if let Ok(specification) = reference::read(&case.text) {
-        let still = |smaller: &Specification| differs(&with_text(plain(smaller)));
+    let case = with_text(smaller(&case.text, |text| differs(&with_text(text))));
+    let with_library = |library: Vec<u8>| Case {
+        library,
+        ..case.clone()
+    };
+    with_library(smaller(&case.library, |library| {
+        differs(&with_library(library))
+    }))
+}
+
+/// Takes parts out of a text that can be read, else bytes.
+fn smaller(text: &[u8], differs: impl Fn(Vec<u8>) -> bool) -> Vec<u8> {
+    if let Ok(specification) = reference::read(text) {
+        let still = |smaller: &Specification| differs(plain(smaller));
         if still(&specification) {
-            return with_text(plain(&fewer_parts(specification, still)));
+            return plain(&fewer_parts(specification, still));
         }
     }
-    let still = |text: &[u8]| differs(&with_text(text.to_vec()));
-    with_text(fewer_bytes(case.text.clone(), still))
+    fewer_bytes(text.to_vec(), |smaller| differs(smaller.to_vec()))
 }
 
 /// Two rounds: what a later part kept in place may go when that part is gone.

@@ -2,6 +2,7 @@
 
 use crate::names;
 use crate::random::Random;
+use reference::{normalise, Lent, Texts};
 
 /// A way to write a text of a wanted size.
 type Writer = fn(usize, &mut Random) -> String;
@@ -442,18 +443,20 @@ fn listing_bytes(size: usize, random: &mut Random) -> String {
 }
 
 fn listing_length(text: &str) -> usize {
-    let lent = reference::Lent::output(usize::MAX);
-    let answer = reference::normalise(b"M", text.as_bytes(), lent);
-    answer.listing.len()
+    let texts = Texts::alone(text.as_bytes());
+    normalise(b"M", texts, Lent::output(usize::MAX))
+        .listing
+        .len()
 }
 
 #[cfg(test)]
 mod tests {
     use super::*;
-    use reference::{normalise, Lent, OUTPUT_BYTES};
+    use reference::OUTPUT_BYTES;
 
     fn number(text: &str) -> u32 {
-        normalise(b"M", text.as_bytes(), Lent::output(OUTPUT_BYTES)).number
+        let texts = Texts::alone(text.as_bytes());
+        normalise(b"M", texts, Lent::output(OUTPUT_BYTES)).number
     }
 
     /// What is at its limit is accepted unless the writer put something wrong in; what is beyond never is.

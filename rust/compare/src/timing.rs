@@ -2,7 +2,7 @@
 
 use crate::driver::Driver;
 use crate::loads::{loads, Load};
-use reference::{normalise, Answer, Lent, OUTPUT_BYTES};
+use reference::{normalise, Answer, Lent, Texts, OUTPUT_BYTES};
 use std::io;
 
 /// The least time of so many calls for every load.
@@ -17,9 +17,9 @@ pub fn table(times: usize, command: &[String]) -> io::Result<()> {
 }
 
 fn row(load: &Load, times: usize, driver: &mut Driver) -> io::Result<String> {
-    let (asked, text) = (load.asked.as_bytes(), load.text.as_bytes());
-    let proved = driver.time(asked, text, OUTPUT_BYTES, times)?;
-    let (answer, reference) = least_time(asked, text, times);
+    let (asked, texts) = (load.asked.as_bytes(), load.texts());
+    let proved = driver.time(asked, texts, OUTPUT_BYTES, times)?;
+    let (answer, reference) = least_time(asked, texts, times);
     if proved.number != answer.number {
         let message = format!("{}: {} and {}", load.title, proved.number, answer.number);
         return Err(io::Error::new(io::ErrorKind::InvalidData, message));
@@ -28,19 +28,19 @@ fn row(load: &Load, times: usize, driver: &mut Driver) -> io::Result<String> {
     Ok(format!(
         "| {} | {} | {} | {proved:.3} | {reference:.3} | {:.2} |",
         load.title,
-        text.len(),
+        texts.library.len() + texts.customer.len(),
         answer.number,
         proved / reference
     ))
 }
 
 /// The least time of a call of the reference, in nanoseconds. What it allocates, it allocates within the call.
-fn least_time(asked: &[u8], text: &[u8], times: usize) -> (Answer, u64) {
-    let answer = normalise(asked, text, Lent::output(OUTPUT_BYTES));
+fn least_time(asked: &[u8], texts: Texts, times: usize) -> (Answer, u64) {
+    let answer = normalise(asked, texts, Lent::output(OUTPUT_BYTES));
     let mut least = u64::MAX;
     for _ in 0..times {
         let start = processor_time();
-        std::hint::black_box(normalise(asked, text, Lent::output(OUTPUT_BYTES)));
+        std::hint::black_box(normalise(asked, texts, Lent::output(OUTPUT_BYTES)));
         least = least.min(processor_time() - start);
     }
     (answer, least)

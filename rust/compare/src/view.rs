@@ -2,7 +2,7 @@
 
 use crate::spelling;
 use reference::syntax::*;
-use reference::{next_line, normalise, Lent, Step};
+use reference::{next_line, normalise, Lent, Step, Texts};
 
 #[derive(Clone, Debug, Default)]
 pub struct View {
@@ -14,7 +14,7 @@ pub struct View {
 /// The visible part of a module of a specification; none where it is refused.
 pub fn view(specification: &Specification, module: &Name) -> Option<View> {
     let text = spelling::plain(specification);
-    let answer = normalise(module, &text, Lent::output(usize::MAX));
+    let answer = normalise(module, Texts::alone(&text), Lent::output(usize::MAX));
     (answer.number == 0).then(|| read(&answer.listing))
 }
 

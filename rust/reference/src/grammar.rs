@@ -2,9 +2,8 @@
 
 use crate::lexis::{self, Lexeme, Offence, Token};
 use crate::syntax::*;
-use crate::{NAME_BYTES, TEXT_BYTES};
+use crate::{MODULES, NAME_BYTES, TEXT_BYTES};
 
-const MODULES: usize = 64;
 const EXPRESSIONS: usize = 16;
 const BINDINGS: usize = 4;
 const PAIRS: usize = 32;
@@ -15,10 +14,18 @@ const OPEN_BRACKETS: usize = 15;
 
 /// Reads a whole text, or tells its leftmost offence.
 pub fn read(text: &[u8]) -> Result<Specification, Offence> {
+    let mut specification = Specification::default();
+    read_behind(&mut specification, text)?;
+    Ok(specification)
+}
+
+/// Reads a whole text behind the modules that are there: their names are taken, and they count among the most that
+/// there may be.
+pub fn read_behind(specification: &mut Specification, text: &[u8]) -> Result<(), Offence> {
     if text.len() > TEXT_BYTES {
         return Err(size(TEXT_BYTES));
     }
-    Parser { text, place: 0 }.specification()
+    Parser { text, place: 0 }.modules(specification)
 }
 
 fn size(at: usize) -> Offence {
@@ -108,20 +115,18 @@ impl Parser<'_> {
         Ok(())
     }
 
-    fn specification(&mut self) -> Result<Specification, Offence> {
-        let mut specification = Specification {
-            modules: Vec::new(),
-        };
+    /// One or more modules up to the end of the text.
+    fn modules(&mut self, specification: &mut Specification) -> Result<(), Offence> {
         loop {
             self.full(
                 specification.modules.len(),
                 MODULES,
                 &[Token::Keyword("module")],
             )?;
-            let module = self.module(&specification)?;
+            let module = self.module(specification)?;
             specification.modules.push(module);
             if self.next_is(Token::EndOfText)? {
-                return Ok(specification);
+                return Ok(());
             }
         }
     }

@@ -1,5 +1,5 @@
-//! A second normaliser for ASF: document 01 with plain values and linear lookup, no thought of speed.
-//! The proved library is compared with it, so the two share nothing but the document.
+//! A second normaliser for ASF: document 01, with document 02's requests as they land, in plain values and linear lookup,
+//! no thought of speed. The proved library is compared with it, so the two share nothing but the documents.
 
 mod checks;
 mod clauses;
@@ -9,22 +9,44 @@ mod grammar;
 mod lexis;
 mod listing;
 mod own;
+mod parts;
 mod program;
 mod reader;
 pub mod syntax;
 
 pub use grammar::read;
 pub use lexis::Offence;
+pub use parts::{fetch, parts, Fetched, Part};
 pub use program::asfnorm;
 pub use reader::{next_line, Step};
 pub use syntax::Name;
 
-/// The longest text that is read ("The text", sizes).
+/// The longest text that is read ("The text", sizes), the library as the customer's.
 pub const TEXT_BYTES: usize = 32_768;
 /// The longest name ("The text", sizes).
 pub const NAME_BYTES: usize = 40;
+/// The most modules of a specification ("The text", sizes), over both texts (document 02, One).
+pub const MODULES: usize = 64;
 /// What the program `asfnorm` lends for its output ("The listing").
 pub const OUTPUT_BYTES: usize = 65_536;
+
+/// A specification as it is lent (document 02, One): our library, which is none where it is empty, and the customer's
+/// text. The library's modules count as standing before the customer's.
+#[derive(Clone, Copy, Debug, PartialEq, Eq)]
+pub struct Texts<'t> {
+    pub library: &'t [u8],
+    pub customer: &'t [u8],
+}
+
+impl<'t> Texts<'t> {
+    /// A text without a library.
+    pub fn alone(customer: &'t [u8]) -> Texts<'t> {
+        Texts {
+            library: &[],
+            customer,
+        }
+    }
+}
 
 /// The lengths of what a caller lends. The size that the working memory must have is the library's own ("The numbers
 /// that come back", 19), so it is told here rather than known.
@@ -46,7 +68,8 @@ impl Lent {
     }
 }
 
-/// What comes back ("The numbers that come back"); the listing is empty unless the number is 0.
+/// What comes back ("The numbers that come back"); the listing is empty unless the number is 0. A place is one of the
+/// customer's text, or of the library where the answer says so.
 #[derive(Clone, Debug, Default, PartialEq, Eq)]
 pub struct Answer {
     pub number: u32,
@@ -54,18 +77,20 @@ pub struct Answer {
     pub module: Name,
     pub name: Name,
     pub at: usize,
+    pub in_library: bool,
     pub listing: Vec<u8>,
 }
 
-/// Normalises the asked module of a text. The order of the questions: working memory, length of the text, the text
-/// itself, the asked name, the modules, the room for the listing.
-pub fn normalise(asked: &[u8], text: &[u8], lent: Lent) -> Answer {
+/// Normalises the asked module of a specification. The order of the questions: working memory, length of the library,
+/// the library itself, length of the customer's text, that text itself, the asked name, the modules, the room for the
+/// listing.
+pub fn normalise(asked: &[u8], texts: Texts, lent: Lent) -> Answer {
     if lent.work < lent.work_needed {
         return about_asked(19, asked);
     }
-    let specification = match grammar::read(text) {
+    let specification = match read_both(texts) {
         Ok(specification) => specification,
-        Err(offence) => return at_place(offence.number, offence.at),
+        Err(refused) => return refused,
     };
     let Some(index) = specification.index(asked) else {
         let mut answer = about_asked(6, asked);
@@ -78,6 +103,18 @@ pub fn normalise(asked: &[u8], text: &[u8], lent: Lent) -> Answer {
         asked,
         lent.output,
     )
+}
+
+/// Reads the library, if there is one, wholly before anything is asked of the customer's text.
+fn read_both(texts: Texts) -> Result<syntax::Specification, Answer> {
+    let mut specification = syntax::Specification::default();
+    if !texts.library.is_empty() {
+        grammar::read_behind(&mut specification, texts.library)
+            .map_err(|offence| at_place(offence, true))?;
+    }
+    grammar::read_behind(&mut specification, texts.customer)
+        .map_err(|offence| at_place(offence, false))?;
+    Ok(specification)
 }
 
 fn finish(
@@ -123,10 +160,11 @@ fn about_asked(number: u32, asked: &[u8]) -> Answer {
     }
 }
 
-fn at_place(number: u32, at: usize) -> Answer {
+fn at_place(offence: Offence, in_library: bool) -> Answer {
     Answer {
-        number,
-        at,
+        number: offence.number,
+        at: offence.at,
+        in_library,
         ..Answer::default()
     }
 }

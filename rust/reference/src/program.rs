@@ -1,26 +1,57 @@
-//! The program `asfnorm` as a function from its standard input to its output ("The listing").
+//! The program `asfnorm` as a function from its standard input to its output ("The listing"; document 02, One).
 
-use crate::{normalise, Answer, Lent, NAME_BYTES, OUTPUT_BYTES};
+use crate::{at_place, normalise, Answer, Lent, Offence, Texts};
+use crate::{NAME_BYTES, OUTPUT_BYTES, TEXT_BYTES};
 
 const FIRST: &[u8] = b"normalise=";
+const SECOND: &[u8] = b"library=";
+/// The most digits of the library's length.
+const DIGITS: usize = 9;
 
 /// What the program prints for an input.
 pub fn asfnorm(input: &[u8]) -> Vec<u8> {
-    let answer = match split(input) {
-        Some((asked, text)) => normalise(asked, text, Lent::output(OUTPUT_BYTES)),
-        None => Answer {
-            number: 2,
-            ..Answer::default()
-        },
-    };
-    printed(&answer)
+    printed(&answered(input))
 }
 
-/// The asked name and the text; none without a proper first line.
+fn answered(input: &[u8]) -> Answer {
+    let Some((asked, rest)) = split(input) else {
+        return at_place(Offence { number: 2, at: 0 }, false);
+    };
+    let texts = match library_line(rest) {
+        Some((length, _)) if length > TEXT_BYTES => {
+            let offence = Offence {
+                number: 4,
+                at: TEXT_BYTES,
+            };
+            return at_place(offence, true);
+        }
+        Some((length, behind)) if length <= behind.len() => Texts {
+            library: &behind[..length],
+            customer: &behind[length..],
+        },
+        _ => Texts::alone(rest),
+    };
+    normalise(asked, texts, Lent::output(OUTPUT_BYTES))
+}
+
+/// The asked name and what is behind its line; none without a proper first line.
 fn split(input: &[u8]) -> Option<(&[u8], &[u8])> {
     let rest = input.strip_prefix(FIRST)?;
     let length = rest.iter().position(|&byte| byte == b'\n')?;
     (length <= NAME_BYTES).then(|| (&rest[..length], &rest[length + 1..]))
+}
+
+/// The length that a library's line tells, and what is behind that line; none where it is no such line.
+fn library_line(rest: &[u8]) -> Option<(usize, &[u8])> {
+    let rest = rest.strip_prefix(SECOND)?;
+    let end = rest.iter().position(|&byte| byte == b'\n')?;
+    let digits = &rest[..end];
+    let leading_zero = end > 1 && digits[0] == b'0';
+    if leading_zero || end > DIGITS || !digits.iter().all(u8::is_ascii_digit) {
+        return None;
+    }
+    let length = std::str::from_utf8(digits).ok()?.parse().ok()?;
+    Some((length, &rest[end + 1..]))
 }
 
 fn printed(answer: &Answer) -> Vec<u8> {
@@ -35,6 +66,7 @@ fn printed(answer: &Answer) -> Vec<u8> {
         out.extend_from_slice(value);
         out.push(b'\n');
     }
-    out.extend_from_slice(format!("at={}\n", answer.at).as_bytes());
+    let mark = if answer.in_library { "library:" } else { "" };
+    out.extend_from_slice(format!("at={mark}{}\n", answer.at).as_bytes());
     out
 }

@@ -1,14 +1,15 @@
-//! What a text says, as a tree ("The text").
+//! What a specification says, as a tree ("The text").
 
 pub type Name = Vec<u8>;
 
-#[derive(Clone, Debug)]
+/// The modules of both texts in one sequence, the library's first.
+#[derive(Clone, Debug, Default)]
 pub struct Specification {
     pub modules: Vec<Module>,
 }
 
 impl Specification {
-    /// The place of a module in text order.
+    /// The place of a module in the sequence.
     pub fn index(&self, name: &[u8]) -> Option<usize> {
         self.modules.iter().position(|module| module.name == name)
     }

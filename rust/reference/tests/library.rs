@@ -1,9 +1,14 @@
-//! What document 01 says of the library and the program has no input for: lent lengths, long names, the reader.
+//! What documents 01 and 02 say of the library and the program has no input for: lent lengths, long names, the reader,
+//! fetching.
 
-use reference::{next_line, normalise, Lent, Step};
+use reference::{fetch, next_line, parts, Answer, Lent, Step, Texts};
 
 const TEXT: &[u8] = b"module M begin exports begin sorts A end end M";
 const LISTING: &[u8] = b"module=M\nsort=A\norigin=[M,export,sort,A]\nend=M\n";
+
+fn normalise(asked: &[u8], text: &[u8], lent: Lent) -> Answer {
+    reference::normalise(asked, Texts::alone(text), lent)
+}
 
 #[test]
 fn output_exact_and_one_byte_short() {
@@ -63,4 +68,60 @@ fn the_reader_steps_line_by_line() {
         next: 17,
     };
     assert_eq!(next_line(b"equation=[e] a=b\n", 0), equals);
+}
+
+/// The bytes of a module's part, and whether they are the library's.
+fn fetched<'t>(name: &str, library: &'t str, customer: &'t str) -> Option<(&'t str, bool)> {
+    let texts = Texts {
+        library: library.as_bytes(),
+        customer: customer.as_bytes(),
+    };
+    let found = fetch(name.as_bytes(), texts)?;
+    let text = if found.in_library { library } else { customer };
+    let part = &text[found.part.place..][..found.part.bytes.len()];
+    assert_eq!(part.as_bytes(), found.part.bytes);
+    Some((part, found.in_library))
+}
+
+#[test]
+fn a_module_is_fetched_from_the_text_that_declares_it() {
+    let library =
+        " -- ours --\nmodule B begin sorts A end B -- c --\nmodule C begin\nend -- c --\nC\n\n";
+    let customer = "module M begin imports B end M\tmodule N begin end N";
+    let of = |name| fetched(name, library, customer);
+    assert_eq!(of("B"), Some(("module B begin sorts A end B", true)));
+    assert_eq!(of("C"), Some(("module C begin\nend -- c --\nC", true)));
+    assert_eq!(of("M"), Some(("module M begin imports B end M", false)));
+    assert_eq!(of("N"), Some(("module N begin end N", false)));
+    assert_eq!(of("A"), None);
+    assert_eq!(of(""), None);
+    assert_eq!(fetched("B", "", customer), None);
+    assert_eq!(fetched("B", library, ""), of("B"));
+}
+
+/// A text that is refused has parts too: up to what is no token, and none behind what is no module.
+#[test]
+fn refused_texts_have_parts() {
+    let parts_of = |text: &str| {
+        let found = parts(text.as_bytes());
+        let bytes = |part: &reference::Part| String::from_utf8(part.bytes.to_vec()).unwrap();
+        found.iter().map(bytes).collect::<Vec<String>>()
+    };
+    assert_eq!(
+        parts_of("module M , module M $"),
+        ["module M ,", "module M"]
+    );
+    assert_eq!(parts_of("module module M"), ["module module M"]);
+    assert_eq!(parts_of("sorts module M"), [""; 0]);
+    assert_eq!(parts_of("--\nmodule M"), [""; 0]);
+    assert_eq!(parts_of("module M -- open"), ["module M"]);
+    assert_eq!(parts_of(&"module M ".repeat(65)).len(), 64);
+    assert_eq!(fetched("", "module \n", ""), Some(("module \n", true)));
+    assert_eq!(fetched("", "", "module $"), Some(("module ", false)));
+    assert_eq!(
+        fetched("M", "module M", "module M end"),
+        Some(("module M", true))
+    );
+    let long = format!("module M {}", ":".repeat(40_000));
+    assert_eq!(parts_of(&long), [&long[..9 + 32_768]]);
 }

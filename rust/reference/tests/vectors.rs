@@ -5,7 +5,7 @@ use std::env;
 use std::fs;
 use std::path::{Path, PathBuf};
 
-/// The folder with `appendix/` and `readings/`: from the environment, or beside this crate.
+/// The folder with `appendix/`, `readings/` and `one/`: from the environment, or beside this crate.
 fn folder() -> PathBuf {
     match env::var_os("ASF_VECTORS") {
         Some(path) => PathBuf::from(path),
@@ -51,4 +51,9 @@ fn appendix() {
 #[test]
 fn readings() {
     run("readings", 120);
+}
+
+#[test]
+fn one() {
+    run("one", 51);
 }

@@ -2,14 +2,15 @@
 -- Assumes nothing.
 use Rattle.absorb.proofs.Loops.{Absorbing, loops}
 use Prim.Native.Nat.{_-_}
+use Rattle.names.specs.Joint.{joint}
 use Rattle.absorb.proofs.absorb_within.Statement.{statement}
 use Rattle.absorb.proofs.absorb_within.Tie as tie
 
 abbrev Inv-loop : tie.InvT-loop
-Inv-loop text work₀ t m visible drop s ns d nd o cap n₀ k₀ work n k = Absorbing text work₀ t m visible drop s ns d nd o cap work n k
+Inv-loop library text work₀ t m visible drop s ns d nd o cap n₀ k₀ work n k = Absorbing (joint library text) work₀ t m visible drop s ns d nd o cap work n k
 
 abbrev μ-loop : tie.MeasureT-loop
-μ-loop text work₀ t m visible drop s ns d nd o cap n₀ k₀ work n k = ns - k
+μ-loop library text work₀ t m visible drop s ns d nd o cap n₀ k₀ work n k = ns - k
 
 pub absorb-within-spec : {M : Type 1} → statement M
 absorb-within-spec =

@@ -3,16 +3,17 @@
 use Rattle.absorb.proofs.Finds.{Finding, finds}
 use Prim.Native.Nat.{_-_}
 use Rattle.meaning.specs.Origins.{one-item}
+use Rattle.names.specs.Joint.{joint}
 use Rattle.tables.specs.Rows.{item-of}
 use Rattle.forms.specs.Memory.{part}
 use Rattle.absorb.proofs.find_item.Statement.{statement}
 use Rattle.absorb.proofs.find_item.Tie as tie
 
 abbrev Inv-loop : tie.InvT-loop
-Inv-loop text work t base n x i₀ i = Finding (one-item (item-of text (part work 0 t) x)) text (part work 0 t) work base n i
+Inv-loop library text work t base n x i₀ i = Finding (one-item (item-of (joint library text) (part work 0 t) x)) (joint library text) (part work 0 t) work base n i
 
 abbrev μ-loop : tie.MeasureT-loop
-μ-loop text work t base n x i₀ i = n - i
+μ-loop library text work t base n x i₀ i = n - i
 
 pub find-item-spec : {M : Type 1} → statement M
 find-item-spec =

@@ -1,5 +1,6 @@
 -- `asf::text_answer` meets its contract. Assumes nothing.
 use Rattle.asf.proofs.Cases.{cases}
+use Rattle.asf.specs.Meant.{tape-room, unread-answered, read-spoken}
 use borrow.Author.Needs.{needs}
 use Rattle.asf.proofs.text_answer.Statement.{statement}
 use Rattle.asf.proofs.text_answer.Tie as tie
@@ -13,14 +14,14 @@ text-answer-spec =
     (λ c. search needs)  -- sub-read
     (λ c. search needs)  -- part-read-start
     (λ c. search cases)  -- part-read-end
-    (λ c κs. search needs)  -- read-requires
-    (λ c. search needs)  -- enum-known-number
+    (λ c κs. search (tape-room, needs))  -- read-both-requires
+    (λ c. search needs)  -- enum-known
     (λ c κs. search needs)  -- unread-requires
-    (λ c. search needs)  -- enum-known-p
-    (λ c κs. search cases)  -- asked-answer-requires
+    (λ c. search needs)  -- enum-known-t
+    (λ c κs. search (read-spoken, needs))  -- asked-answer-requires
     (λ c. search needs)  -- same-length
     (λ c. search cases)  -- returns
     (λ c. search needs)  -- same-length-2
     (λ c. search needs)  -- same-length-3
-    (λ c. search needs)  -- returns-2
+    (λ c. search cases)  -- returns-2
     )

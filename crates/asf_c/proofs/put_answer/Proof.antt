@@ -12,6 +12,8 @@ put-answer-spec =
     (λ c. search needs)  -- cast-put-three-2
     (λ c κs. search needs)  -- put-three-requires
     (λ c κs. search needs)  -- put-three-requires-2
+    (λ c κs. search needs)  -- bit-requires
+    (λ c κs. search needs)  -- put-value-requires
     (λ c. search needs)  -- same-length
     (λ c. search cases)  -- returns
     )

@@ -1,5 +1,6 @@
 -- `binding::bound` meets its contract.
 -- Assumes nothing.
+use Rattle.binding.specs.WholeSteps.{hidden-step}
 use Rattle.binding.proofs.Cases.{whole}
 use borrow.Author.Needs.{needs}
 use Rattle.binding.proofs.bound.Statement.{statement}
@@ -10,7 +11,7 @@ bound-spec =
     tie.close
     (tie.spec
     (λ c κs. search needs)  -- bound-front-requires
-    (λ c κs. search whole)  -- bound-hidden-requires
+    (λ c κs. search (hidden-step, c .before .before .before .bound-front .ensures, c .before .before .before .before .before .before .before .before .pre, needs))  -- bound-hidden-requires
     (λ c κs. search needs)  -- checked-requires
     (λ c. search needs)  -- same-length
     (λ c. search whole)  -- returns

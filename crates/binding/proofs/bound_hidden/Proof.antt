@@ -1,5 +1,6 @@
 -- `binding::bound_hidden` meets its contract.
 -- Assumes nothing.
+use Rattle.binding.specs.HiddenSteps.{actual-hidden-room}
 use Rattle.binding.proofs.Cases.{hidden}
 use borrow.Author.Needs.{needs}
 use Rattle.binding.proofs.bound_hidden.Statement.{statement}
@@ -12,7 +13,7 @@ bound-hidden-spec =
     (λ c κs. search hidden)  -- unite-hidden-requires
     (λ c κs. search needs)  -- as-is-requires
     (λ c. search needs)  -- add-unite-hidden
-    (λ c κs. search hidden)  -- unite-hidden-requires-2
+    (λ c κs. search (actual-hidden-room, c .before .before .before .before .before .before .before .before .before .pre, c .before .before .before .before .unite-hidden .ensures, c .as-is .ensures))  -- unite-hidden-requires-2
     (λ c. search needs)  -- same-length
     (λ c. search hidden)  -- returns
     )

@@ -3,15 +3,16 @@
 use borrow.Author.Needs.{needs}
 use Prim.Native.Nat.{_-_}
 use Rattle.meaning.specs.Names.{Name, same}
+use Rattle.names.specs.Joint.{joint}
 use Rattle.modules.proofs.Cases.{numbers, Seeking}
 use Rattle.modules.proofs.find_asked.Statement.{statement}
 use Rattle.modules.proofs.find_asked.Tie as tie
 
 abbrev Inv-loop : tie.InvT-loop
-Inv-loop text tape h asked count k₀ k = Seeking (λ (w : Name). same w asked) text tape h count k
+Inv-loop library text tape h asked count k₀ k = Seeking (λ (w : Name). same w asked) (joint library text) tape h count k
 
 abbrev μ-loop : tie.MeasureT-loop
-μ-loop text tape h asked count k₀ k = count - k
+μ-loop library text tape h asked count k₀ k = count - k
 
 pub find-asked-spec : {M : Type 1} → statement M
 find-asked-spec =

@@ -4,15 +4,16 @@ use borrow.Author.Needs.{needs}
 use Prim.Native.Nat.{_-_}
 use Rattle.meaning.specs.Names.{same}
 use Rattle.names.specs.Word.{name-of}
+use Rattle.names.specs.Joint.{joint}
 use Rattle.modules.proofs.Cases.{numbers, Seeking}
 use Rattle.modules.proofs.find_number.Statement.{statement}
 use Rattle.modules.proofs.find_number.Tie as tie
 
 abbrev Inv-loop : tie.InvT-loop
-Inv-loop text tape h w count k₀ k = Seeking (same (name-of text w)) text tape h count k
+Inv-loop library text tape h w count k₀ k = Seeking (same (name-of (joint library text) w)) (joint library text) tape h count k
 
 abbrev μ-loop : tie.MeasureT-loop
-μ-loop text tape h w count k₀ k = count - k
+μ-loop library text tape h w count k₀ k = count - k
 
 pub find-number-spec : {M : Type 1} → statement M
 find-number-spec =

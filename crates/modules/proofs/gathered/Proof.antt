@@ -1,5 +1,6 @@
 -- `modules::gathered` meets its contract.
 -- Assumes nothing.
+use Rattle.names.specs.Joint.{joint}
 use borrow.Author.Needs.{needs}
 use Rattle.modules.specs.Modules.{named-set}
 use Rattle.modules.proofs.Cases.{sets, Gathering}
@@ -7,10 +8,10 @@ use Rattle.modules.proofs.gathered.Statement.{statement}
 use Rattle.modules.proofs.gathered.Tie as tie
 
 abbrev Inv-loop : tie.InvT-loop
-Inv-loop text tape h n set all₀ k₀ all k = Gathering (named-set text tape h) n set all k
+Inv-loop library text tape h n set all₀ k₀ all k = Gathering (named-set (joint library text) tape h) n set all k
 
 abbrev μ-loop : tie.MeasureT-loop
-μ-loop text tape h n set all₀ k₀ all k = k
+μ-loop library text tape h n set all₀ k₀ all k = k
 
 pub gathered-spec : {M : Type 1} → statement M
 gathered-spec =

@@ -2,6 +2,7 @@
 -- Assumes nothing.
 use mathlib.Core.Path.{_≡_}
 use Prim.Native.Nat.{_-_}
+use Rattle.names.specs.Joint.{joint}
 use Rattle.tables.proofs.Auto.{on, done}
 use borrow.Author.Needs.{needs}
 use Rattle.module_set.specs.ModuleSet.{holds}
@@ -11,11 +12,11 @@ use Rattle.modules.proofs.named_set.Statement.{statement}
 use Rattle.modules.proofs.named_set.Tie as tie
 
 abbrev Inv-loop : tie.InvT-loop
-Inv-loop text tape h k j₀ end set₀ j set =
-    named-set text tape h k ≡ with-named (declared text tape h) k (holds set) (picked names-module text tape j (end - j))
+Inv-loop library text tape h k j₀ end set₀ j set =
+    named-set (joint library text) tape h k ≡ with-named (declared (joint library text) tape h) k (holds set) (picked names-module (joint library text) tape j (end - j))
 
 abbrev μ-loop : tie.MeasureT-loop
-μ-loop text tape h k j₀ end set₀ j set = end - j
+μ-loop library text tape h k j₀ end set₀ j set = end - j
 
 pub named-set-spec : {M : Type 1} → statement M
 named-set-spec =

@@ -6,18 +6,19 @@ use lib.ListN.{take}
 use Rattle.tables.proofs.Auto.{on, done}
 use borrow.Author.Needs.{needs}
 use Rattle.meaning.specs.Evaluate.{names-right}
+use Rattle.names.specs.Joint.{joint}
 use Rattle.modules.specs.Modules.{names-module, declared, named-in, picked}
 use Rattle.modules.proofs.Cases.{scans}
 use Rattle.modules.proofs.names_right.Statement.{statement}
 use Rattle.modules.proofs.names_right.Tie as tie
 
 abbrev Inv-loop : tie.InvT-loop
-Inv-loop text tape h k j₀ end j =
-    names-right (declared text tape h) (take k (declared text tape h)) (named-in text tape h k)
-    ≡ names-right (declared text tape h) (take k (declared text tape h)) (picked names-module text tape j (end - j))
+Inv-loop library text tape h k j₀ end j =
+    names-right (declared (joint library text) tape h) (take k (declared (joint library text) tape h)) (named-in (joint library text) tape h k)
+    ≡ names-right (declared (joint library text) tape h) (take k (declared (joint library text) tape h)) (picked names-module (joint library text) tape j (end - j))
 
 abbrev μ-loop : tie.MeasureT-loop
-μ-loop text tape h k j₀ end j = end - j
+μ-loop library text tape h k j₀ end j = end - j
 
 pub names-right-spec : {M : Type 1} → statement M
 names-right-spec =

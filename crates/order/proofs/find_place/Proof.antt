@@ -1,14 +1,15 @@
 -- `order::find_place` meets its contract. Assumes nothing.
 use Prim.Native.Nat.{_-_}
+use Rattle.names.specs.Joint.{joint}
 use Rattle.order.proofs.Cases.{cases, Narrowed}
 use Rattle.order.proofs.find_place.Statement.{statement}
 use Rattle.order.proofs.find_place.Tie as tie
 
 abbrev Inv-loop : tie.InvT-loop
-Inv-loop text w b s p n x lo₀ hi₀ lo hi = Narrowed text w b s p n x lo hi
+Inv-loop library text w b s p n x lo₀ hi₀ lo hi = Narrowed (joint library text) w b s p n x lo hi
 
 abbrev μ-loop : tie.MeasureT-loop
-μ-loop text w b s p n x lo₀ hi₀ lo hi = hi - lo
+μ-loop library text w b s p n x lo₀ hi₀ lo hi = hi - lo
 
 pub find-place-spec : {M : Type 1} → statement M
 find-place-spec =

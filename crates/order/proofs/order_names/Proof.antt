@@ -1,14 +1,16 @@
 -- `order::order_names` meets its contract. Assumes nothing.
 use Prim.Native.Nat.{_-_}
-use Rattle.order.proofs.Cases.{cases, Begun}
+use Rattle.names.specs.Joint.{joint}
+use Rattle.order.proofs.Cases.{cases, Begun, fewer-apart, begun-room}
+use borrow.Author.Needs.{needs}
 use Rattle.order.proofs.order_names.Statement.{statement}
 use Rattle.order.proofs.order_names.Tie as tie
 
 abbrev Inv-loop : tie.InvT-loop
-Inv-loop text work₀ b s n p r₀ work r = Begun text work₀ work b s p n r
+Inv-loop library text work₀ b s n p r₀ work r = Begun (joint library text) work₀ work b s p n r
 
 abbrev μ-loop : tie.MeasureT-loop
-μ-loop text work₀ b s n p r₀ work r = n - r
+μ-loop library text work₀ b s n p r₀ work r = n - r
 
 pub order-names-spec : {M : Type 1} → statement M
 order-names-spec =
@@ -17,7 +19,7 @@ order-names-spec =
     Inv-loop
     μ-loop
     (λ c. search cases)  -- loop-holds
-    (λ c κs. search cases)  -- order-name-requires
+    (λ c κs. (search needs, (search (begun-room, needs), (search (fewer-apart, needs), search needs))))  -- order-name-requires
     (λ c. search cases)  -- add-r
     (λ c. search cases)  -- loop-less
     (λ c. search cases)  -- loop-again

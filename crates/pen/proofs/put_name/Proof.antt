@@ -10,11 +10,16 @@ put-name-spec =
     tie.close
     (tie.spec
     (λ c. search needs)  -- cast-start
-    (λ c. search needs)  -- cast-put-bytes
+    (λ c κs. search needs)  -- name-room-requires
     (λ c κs. search needs)  -- put-bytes-requires
+    (λ c. search needs)  -- sub-left
+    (λ c. search needs)  -- sub-put-bytes
+    (λ c κs. search needs)  -- put-bytes-requires-2
     (λ c. search needs)  -- same-length
     (λ c. search cases)  -- returns
-    (λ c κs. search needs)  -- put-bytes-requires-2
     (λ c. search needs)  -- same-length-2
     (λ c. search cases)  -- returns-2
+    (λ c κs. search needs)  -- put-bytes-requires-3
+    (λ c. search needs)  -- same-length-3
+    (λ c. search cases)  -- returns-3
     )

@@ -14,16 +14,16 @@ use Rattle.evaluating.proofs.evaluate.evaluate.Reads as evaluate-reads
 use Rattle.turns.proofs.+evaluate_from.{statement}
 use Rattle.turns.proofs.+evaluate_from.Tie.{close}
 
-abbrev μ-evaluate-from : Measures 2 evaluate-from-kinds.ps ℕ
-μ-evaluate-from κs a = a .1 .1 .1 .1 .1 .0
+abbrev μ-evaluate-from : Measures 3 evaluate-from-kinds.ps ℕ
+μ-evaluate-from κs a = a .1 .1 .1 .1 .1 .1 .0
 
-abbrev evaluate-from-at : ℕ → In 2 evaluate-from-kinds.ps
+abbrev evaluate-from-at : ℕ → In 3 evaluate-from-kinds.ps
 evaluate-from-at t =
-    and 2 evaluate-from-kinds.ps (is 2 evaluate-from-kinds.ps μ-evaluate-from t) evaluate-from.Pre
+    and 3 evaluate-from-kinds.ps (is 3 evaluate-from-kinds.ps μ-evaluate-from t) evaluate-from.Pre
 
-abbrev evaluate-from-below : ℕ → In 2 evaluate-from-kinds.ps
+abbrev evaluate-from-below : ℕ → In 3 evaluate-from-kinds.ps
 evaluate-from-below t =
-    and 2 evaluate-from-kinds.ps (falls 2 evaluate-from-kinds.ps _<_ μ-evaluate-from t) evaluate-from.Pre
+    and 3 evaluate-from-kinds.ps (falls 3 evaluate-from-kinds.ps _<_ μ-evaluate-from t) evaluate-from.Pre
 
 pub +evaluate-from-spec : {M : Type 1} → statement M
 +evaluate-from-spec = close μ-evaluate-from λ t. evaluate-from-lts.spec (
@@ -58,7 +58,7 @@ pub +evaluate-from-spec : {M : Type 1} → statement M
     let stepped = matched .before .before .before .before in
     let tested = stepped .before .before .before .before .before in
     let first = tested .before .before in
-    let start = first .before .before .before in (
+    let start = first .before .before .before .before in (
       search (start .pre .0, first .if1 .left, needs),
       (
         search (start .pre .1 .0, first .if1 .left, needs),
@@ -74,13 +74,13 @@ pub +evaluate-from-spec : {M : Type 1} → statement M
     let stepped = matched .before .before .before .before in
     let tested = stepped .before .before .before .before .before in
     let first = tested .before .before in
-    let start = first .before .before .before in
+    let start = first .before .before .before .before in
     kept-turned _ _ _ _ _ _ _ (start .pre .1 .0) (first .if1 .left) _ _ (stepped .evaluate .ensures) _ (matched .r .given .1) _ _ _ _ _ _
     (tested .before .has .ensures) (tested .if2 .taken) (c .before .before .evaluate-from .ensures))  -- returns-3
     (λ c. search cases)  -- sub-evaluate-from-2
     (λ c. search cases)  -- add-evaluate-from-3
     (λ c κs.
-    let start = c .before .before .before .before .before .before in
+    let start = c .before .before .before .before .before .before .before in
     let first = c .before .before .before in (
       search (start .pre .0, first .if1 .left, needs),
       (

@@ -11,11 +11,11 @@ unite-spec =
     (tie.spec
     (λ c κs. search (names-room, needs))  -- unite-parameters-requires
     (λ c κs. search (visible-room, needs))  -- unite-visible-requires
-    (λ c κs. hidden-room _ _ _ _ _ _ _ (c .before .before .before .before .before .before .before .before .before .before .before .pre) _ _
+    (λ c κs. hidden-room _ _ _ _ _ _ _ (c .before .before .before .before .before .before .before .before .before .before .before .before .pre) _ _
     (c .before .before .before .before .before .before .before .unite-parameters .ensures) _ _
     (c .before .before .before .unite-visible .ensures))  -- unite-hidden-requires
     (λ c. search needs)  -- same-length
-    (λ c. united _ _ _ _ _ _ _ (c .before .before .before .before .before .before .before .before .before .before .before .before .before .before .pre) _ _
+    (λ c. united _ _ _ _ _ _ _ (c .before .before .before .before .before .before .before .before .before .before .before .before .before .before .before .pre) _ _
     (c .before .before .before .before .before .before .before .before .before .before .unite-parameters .ensures) _ _
     (c .before .before .before .before .before .before .unite-visible .ensures) _ _ (c .before .before .unite-hidden .ensures))  -- returns
     )

@@ -1,6 +1,7 @@
 -- `writing::put_others` meets its contract.
 -- Assumes nothing.
 use Prim.Native.Nat.{_-_}
+use Rattle.names.specs.Joint.{joint}
 use Rattle.pen.proofs.Rows.{Writing}
 use Rattle.writing.specs.Parts.{marked-name}
 use Rattle.writing.proofs.Cases.{cases}
@@ -8,10 +9,10 @@ use Rattle.writing.proofs.put_others.Statement.{statement}
 use Rattle.writing.proofs.put_others.Tie as tie
 
 abbrev Inv-loop : tie.InvT-loop
-Inv-loop out₀ at limit text tape first end to₀ i₀ out to i = Writing limit (marked-name text tape) first end at out₀ i to out
+Inv-loop out₀ at limit library text tape first end to₀ i₀ out to i = Writing limit (marked-name (joint library text) tape) first end at out₀ i to out
 
 abbrev μ-loop : tie.MeasureT-loop
-μ-loop out₀ at limit text tape first end to₀ i₀ out to i = end - i
+μ-loop out₀ at limit library text tape first end to₀ i₀ out to i = end - i
 
 pub put-others-spec : {M : Type 1} → statement M
 put-others-spec =

@@ -3,16 +3,17 @@
 use Rattle.clauses.proofs.BindingCases.{bindings}
 use Rattle.clauses.proofs.PairWalks.{Checking}
 use Prim.Native.Nat.{_-_}
+use Rattle.names.specs.Joint.{joint}
 use Rattle.forms.specs.Memory.{part}
 use Rattle.clauses.specs.Fits.{pair-fits}
 use Rattle.clauses.proofs.bindings.wrong_pair.Statement.{statement}
 use Rattle.clauses.proofs.bindings.wrong_pair.Tie as tie
 
 abbrev Inv-loop : tie.InvT-loop
-Inv-loop text work t m actual pairs n k₀ k = Checking (pair-fits text (part work 0 t) work m actual) text (part work 0 t) pairs n k
+Inv-loop library text work t m actual pairs n k₀ k = Checking (pair-fits (joint library text) (part work 0 t) work m actual) (joint library text) (part work 0 t) pairs n k
 
 abbrev μ-loop : tie.MeasureT-loop
-μ-loop text work t m actual pairs n k₀ k = n - k
+μ-loop library text work t m actual pairs n k₀ k = n - k
 
 pub wrong-pair-spec : {M : Type 1} → statement M
 wrong-pair-spec =

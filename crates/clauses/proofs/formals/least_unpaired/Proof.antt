@@ -1,15 +1,16 @@
 -- `clauses::formals::least_unpaired` meets its contract.
 -- Assumes nothing.
+use Rattle.names.specs.Joint.{joint}
 use Rattle.clauses.proofs.FormalCases.{lasts, Lasting}
 use Rattle.forms.specs.Memory.{part}
 use Rattle.clauses.proofs.formals.least_unpaired.Statement.{statement}
 use Rattle.clauses.proofs.formals.least_unpaired.Tie as tie
 
 abbrev Inv-loop : tie.InvT-loop
-Inv-loop text work t m best₀ k₀ best k = Lasting text (part work 0 t) work m k best
+Inv-loop library text work t m best₀ k₀ best k = Lasting (joint library text) (part work 0 t) work m k best
 
 abbrev μ-loop : tie.MeasureT-loop
-μ-loop text work t m best₀ k₀ best k = k
+μ-loop library text work t m best₀ k₀ best k = k
 
 pub least-unpaired-spec : {M : Type 1} → statement M
 least-unpaired-spec =

@@ -2,14 +2,15 @@
 -- Assumes nothing.
 use Rattle.clauses.proofs.NoteCases.{notings, Noting}
 use Prim.Native.Nat.{_-_}
+use Rattle.names.specs.Joint.{joint}
 use Rattle.clauses.proofs.notes.note_formals.Statement.{statement}
 use Rattle.clauses.proofs.notes.note_formals.Tie as tie
 
 abbrev Inv-loop : tie.InvT-loop
-Inv-loop text work₀ t m y notes count k₀ work k = Noting text work₀ t m y notes work k
+Inv-loop library text work₀ t m y notes count k₀ work k = Noting (joint library text) work₀ t m y notes work k
 
 abbrev μ-loop : tie.MeasureT-loop
-μ-loop text work₀ t m y notes count k₀ work k = count - k
+μ-loop library text work₀ t m y notes count k₀ work k = count - k
 
 pub note-formals-spec : {M : Type 1} → statement M
 note-formals-spec =

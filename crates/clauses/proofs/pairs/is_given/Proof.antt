@@ -1,14 +1,15 @@
 -- `clauses::pairs::is_given` meets its contract.
 -- Assumes nothing.
+use Rattle.names.specs.Joint.{joint}
 use Rattle.clauses.proofs.PairWalks.{looks, Looking}
 use Rattle.clauses.proofs.pairs.is_given.Statement.{statement}
 use Rattle.clauses.proofs.pairs.is_given.Tie as tie
 
 abbrev Inv-loop : tie.InvT-loop
-Inv-loop text tape pairs k a left₀ left = Looking text tape pairs k a left
+Inv-loop library text tape pairs k a left₀ left = Looking (joint library text) tape pairs k a left
 
 abbrev μ-loop : tie.MeasureT-loop
-μ-loop text tape pairs k a left₀ left = left
+μ-loop library text tape pairs k a left₀ left = left
 
 pub is-given-spec : {M : Type 1} → statement M
 is-given-spec =

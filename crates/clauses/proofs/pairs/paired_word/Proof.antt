@@ -2,14 +2,15 @@
 -- Assumes nothing.
 use Rattle.clauses.proofs.PairWalks.{pairings, Pairing}
 use Prim.Native.Nat.{_-_}
+use Rattle.names.specs.Joint.{joint}
 use Rattle.clauses.proofs.pairs.paired_word.Statement.{statement}
 use Rattle.clauses.proofs.pairs.paired_word.Tie as tie
 
 abbrev Inv-loop : tie.InvT-loop
-Inv-loop text tape pairs a n k₀ k = Pairing text tape pairs a n k
+Inv-loop library text tape pairs a n k₀ k = Pairing (joint library text) tape pairs a n k
 
 abbrev μ-loop : tie.MeasureT-loop
-μ-loop text tape pairs a n k₀ k = n - k
+μ-loop library text tape pairs a n k₀ k = n - k
 
 pub paired-word-spec : {M : Type 1} → statement M
 paired-word-spec =

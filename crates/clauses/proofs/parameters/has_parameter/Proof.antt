@@ -2,14 +2,15 @@
 -- Assumes nothing.
 use Rattle.clauses.proofs.RowSearches.{seeks, Seeking}
 use Prim.Native.Nat.{_-_}
+use Rattle.names.specs.Joint.{joint}
 use Rattle.clauses.proofs.parameters.has_parameter.Statement.{statement}
 use Rattle.clauses.proofs.parameters.has_parameter.Tie as tie
 
 abbrev Inv-loop : tie.InvT-loop
-Inv-loop text work p parameters count i₀ i = Seeking text work parameters count p i
+Inv-loop library text work p parameters count i₀ i = Seeking (joint library text) work parameters count p i
 
 abbrev μ-loop : tie.MeasureT-loop
-μ-loop text work p parameters count i₀ i = count - i
+μ-loop library text work p parameters count i₀ i = count - i
 
 pub has-parameter-spec : {M : Type 1} → statement M
 has-parameter-spec =

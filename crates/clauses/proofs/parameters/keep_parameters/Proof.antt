@@ -2,14 +2,15 @@
 -- Assumes nothing.
 use Rattle.clauses.proofs.NameCases.{keepings, Keeping}
 use Prim.Native.Nat.{_-_}
+use Rattle.names.specs.Joint.{joint}
 use Rattle.clauses.proofs.parameters.keep_parameters.Statement.{statement}
 use Rattle.clauses.proofs.parameters.keep_parameters.Tie as tie
 
 abbrev Inv-loop : tie.InvT-loop
-Inv-loop text work₀ p names count place n₀ k₀ work n k = Keeping text work₀ names count p place work n k
+Inv-loop library text work₀ p names count place n₀ k₀ work n k = Keeping (joint library text) work₀ names count p place work n k
 
 abbrev μ-loop : tie.MeasureT-loop
-μ-loop text work₀ p names count place n₀ k₀ work n k = count - k
+μ-loop library text work₀ p names count place n₀ k₀ work n k = count - k
 
 pub keep-parameters-spec : {M : Type 1} → statement M
 keep-parameters-spec =

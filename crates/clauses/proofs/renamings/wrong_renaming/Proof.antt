@@ -3,6 +3,7 @@
 use Rattle.clauses.proofs.PairWalks.{renamings, Checking}
 use Prim.Native.Nat.{_-_}
 use Rattle.meaning.specs.Normal.{names-in}
+use Rattle.names.specs.Joint.{joint}
 use Rattle.forms.specs.Memory.{part}
 use Rattle.forms.specs.Forms.{items-at}
 use Rattle.clauses.specs.Pairs.{is-known}
@@ -10,11 +11,11 @@ use Rattle.clauses.proofs.renamings.wrong_renaming.Statement.{statement
 use Rattle.clauses.proofs.renamings.wrong_renaming.Tie as tie
 
 abbrev Inv-loop : tie.InvT-loop
-Inv-loop text work t pairs visible count n k₀ k =
-    Checking (is-known (names-in (items-at text (part work 0 t) work visible count))) text (part work 0 t) pairs n k
+Inv-loop library text work t pairs visible count n k₀ k =
+    Checking (is-known (names-in (items-at (joint library text) (part work 0 t) work visible count))) (joint library text) (part work 0 t) pairs n k
 
 abbrev μ-loop : tie.MeasureT-loop
-μ-loop text work t pairs visible count n k₀ k = n - k
+μ-loop library text work t pairs visible count n k₀ k = n - k
 
 pub wrong-renaming-spec : {M : Type 1} → statement M
 wrong-renaming-spec =

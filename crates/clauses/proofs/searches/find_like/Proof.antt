@@ -3,6 +3,7 @@
 use Rattle.clauses.proofs.RowSearches.{finds, Finding}
 use Prim.Native.Nat.{_-_}
 use Rattle.names.specs.Word.{name-of}
+use Rattle.names.specs.Joint.{joint}
 use Rattle.tables.specs.Rows.{shape-of}
 use Rattle.forms.specs.Memory.{part}
 use Rattle.clauses.specs.Searches.{like}
@@ -10,10 +11,10 @@ use Rattle.clauses.proofs.searches.find_like.Statement.{statement}
 use Rattle.clauses.proofs.searches.find_like.Tie as tie
 
 abbrev Inv-loop : tie.InvT-loop
-Inv-loop text work t b n a row i₀ i = Finding (like (name-of text a) (shape-of text (part work 0 t) (row .kind) (row .sorts))) text (part work 0 t) work b n i
+Inv-loop library text work t b n a row i₀ i = Finding (like (name-of (joint library text) a) (shape-of (joint library text) (part work 0 t) (row .kind) (row .sorts))) (joint library text) (part work 0 t) work b n i
 
 abbrev μ-loop : tie.MeasureT-loop
-μ-loop text work t b n a row i₀ i = n - i
+μ-loop library text work t b n a row i₀ i = n - i
 
 pub find-like-spec : {M : Type 1} → statement M
 find-like-spec =

@@ -2,15 +2,16 @@
 -- Assumes nothing.
 use Rattle.clauses.proofs.SortCases.{fittings, Fitting}
 use Prim.Native.Nat.{_-_}
+use Rattle.names.specs.Joint.{joint}
 use Rattle.forms.specs.Memory.{part}
 use Rattle.clauses.proofs.sorts.inputs_right.Statement.{statement}
 use Rattle.clauses.proofs.sorts.inputs_right.Tie as tie
 
 abbrev Inv-loop : tie.InvT-loop
-Inv-loop text work t m actual kind sorts end i₀ i = Fitting text (part work 0 t) work m actual kind sorts i
+Inv-loop library text work t m actual kind sorts end i₀ i = Fitting (joint library text) (part work 0 t) work m actual kind sorts i
 
 abbrev μ-loop : tie.MeasureT-loop
-μ-loop text work t m actual kind sorts end i₀ i = 9 - i
+μ-loop library text work t m actual kind sorts end i₀ i = 9 - i
 
 pub inputs-right-spec : {M : Type 1} → statement M
 inputs-right-spec =

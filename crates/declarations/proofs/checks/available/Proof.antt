@@ -3,6 +3,7 @@
 use borrow.Author.Needs.{needs}
 use mathlib.Core.Path.{_≡_}
 use Prim.Native.Nat.{_-_}
+use Rattle.names.specs.Joint.{joint}
 use Rattle.forms.specs.Memory.{part}
 use Rattle.declarations.specs.Scans.{walked}
 use Rattle.declarations.specs.Checked.{available-at}
@@ -11,10 +12,10 @@ use Rattle.declarations.proofs.checks.available.Statement.{statement}
 use Rattle.declarations.proofs.checks.available.Tie as tie
 
 abbrev Inv-loop : tie.InvT-loop
-Inv-loop text work t own end i₀ i = walked (available-at text (part work 0 t) work own) (own .from) (end - own .from) ≡ walked (available-at text (part work 0 t) work own) i (end - i)
+Inv-loop library text work t own end i₀ i = walked (available-at (joint library text) (part work 0 t) work own) (own .from) (end - own .from) ≡ walked (available-at (joint library text) (part work 0 t) work own) i (end - i)
 
 abbrev μ-loop : tie.MeasureT-loop
-μ-loop text work t own end i₀ i = end - i
+μ-loop library text work t own end i₀ i = end - i
 
 pub available-spec : {M : Type 1} → statement M
 available-spec =

@@ -3,6 +3,7 @@
 use borrow.Author.Needs.{needs}
 use mathlib.Core.Path.{_≡_}
 use Prim.Native.Nat.{_-_}
+use Rattle.names.specs.Joint.{joint}
 use Rattle.forms.specs.Memory.{part}
 use Rattle.declarations.specs.Scans.{found}
 use Rattle.declarations.specs.Checked.{lacks}
@@ -11,10 +12,10 @@ use Rattle.declarations.proofs.checks.lacks_one.Statement.{statement}
 use Rattle.declarations.proofs.checks.lacks_one.Tie as tie
 
 abbrev Inv-loop : tie.InvT-loop
-Inv-loop text work t own hidden i end j₀ j = found (lacks text (part work 0 t) work own hidden) i (end - i) ≡ found (lacks text (part work 0 t) work own hidden) j (end - j)
+Inv-loop library text work t own hidden i end j₀ j = found (lacks (joint library text) (part work 0 t) work own hidden) i (end - i) ≡ found (lacks (joint library text) (part work 0 t) work own hidden) j (end - j)
 
 abbrev μ-loop : tie.MeasureT-loop
-μ-loop text work t own hidden i end j₀ j = end - j
+μ-loop library text work t own hidden i end j₀ j = end - j
 
 pub lacks-one-spec : {M : Type 1} → statement M
 lacks-one-spec =

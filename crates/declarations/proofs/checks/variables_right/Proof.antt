@@ -3,6 +3,7 @@
 use borrow.Author.Needs.{needs}
 use mathlib.Core.Path.{_≡_}
 use Prim.Native.Nat.{_-_}
+use Rattle.names.specs.Joint.{joint}
 use Rattle.forms.specs.Memory.{part}
 use Rattle.declarations.specs.Scans.{walked}
 use Rattle.declarations.specs.Checked.{variable-at}
@@ -11,10 +12,10 @@ use Rattle.declarations.proofs.checks.variables_right.Statement.{statem
 use Rattle.declarations.proofs.checks.variables_right.Tie as tie
 
 abbrev Inv-loop : tie.InvT-loop
-Inv-loop text work t own b n end i₀ i = walked (variable-at text (part work 0 t) work own b n) (own .from) (end - own .from) ≡ walked (variable-at text (part work 0 t) work own b n) i (end - i)
+Inv-loop library text work t own b n end i₀ i = walked (variable-at (joint library text) (part work 0 t) work own b n) (own .from) (end - own .from) ≡ walked (variable-at (joint library text) (part work 0 t) work own b n) i (end - i)
 
 abbrev μ-loop : tie.MeasureT-loop
-μ-loop text work t own b n end i₀ i = end - i
+μ-loop library text work t own b n end i₀ i = end - i
 
 pub variables-right-spec : {M : Type 1} → statement M
 variables-right-spec =

@@ -3,6 +3,7 @@
 use borrow.Author.Needs.{needs}
 use mathlib.Core.Path.{_≡_}
 use Prim.Native.Nat.{_-_}
+use Rattle.names.specs.Joint.{joint}
 use Rattle.declarations.specs.Scans.{walked}
 use Rattle.declarations.specs.Once.{once-at}
 use Rattle.declarations.proofs.Cases.{cases}
@@ -10,10 +11,10 @@ use Rattle.declarations.proofs.once.declared_once.Statement.{statement}
 use Rattle.declarations.proofs.once.declared_once.Tie as tie
 
 abbrev Inv-loop : tie.InvT-loop
-Inv-loop text tape a e i₀ i = walked (once-at text tape a) a (e - a) ≡ walked (once-at text tape a) i (e - i)
+Inv-loop library text tape a e i₀ i = walked (once-at (joint library text) tape a) a (e - a) ≡ walked (once-at (joint library text) tape a) i (e - i)
 
 abbrev μ-loop : tie.MeasureT-loop
-μ-loop text tape a e i₀ i = e - i
+μ-loop library text tape a e i₀ i = e - i
 
 pub declared-once-spec : {M : Type 1} → statement M
 declared-once-spec =

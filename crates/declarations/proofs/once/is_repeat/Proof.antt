@@ -3,6 +3,7 @@
 use borrow.Author.Needs.{needs}
 use mathlib.Core.Path.{_≡_}
 use Prim.Native.Nat.{_-_}
+use Rattle.names.specs.Joint.{joint}
 use Rattle.declarations.specs.Scans.{found}
 use Rattle.declarations.specs.Once.{repeats}
 use Rattle.declarations.proofs.Cases.{cases}
@@ -10,10 +11,10 @@ use Rattle.declarations.proofs.once.is_repeat.Statement.{statement}
 use Rattle.declarations.proofs.once.is_repeat.Tie as tie
 
 abbrev Inv-loop : tie.InvT-loop
-Inv-loop text tape start i j₀ j = found (repeats text tape i) start (i - start) ≡ found (repeats text tape i) j (i - j)
+Inv-loop library text tape start i j₀ j = found (repeats (joint library text) tape i) start (i - start) ≡ found (repeats (joint library text) tape i) j (i - j)
 
 abbrev μ-loop : tie.MeasureT-loop
-μ-loop text tape start i j₀ j = i - j
+μ-loop library text tape start i j₀ j = i - j
 
 pub is-repeat-spec : {M : Type 1} → statement M
 is-repeat-spec =

@@ -1,16 +1,17 @@
 -- `declarations::rows::input_sorts` meets its contract.
 -- Assumes nothing.
 use Prim.Native.Nat.{_-_}
+use Rattle.names.specs.Joint.{joint}
 use Rattle.forms.specs.Memory.{part}
 use Rattle.declarations.proofs.Made.{making, Gathering}
 use Rattle.declarations.proofs.rows.input_sorts.Statement.{statement}
 use Rattle.declarations.proofs.rows.input_sorts.Tie as tie
 
 abbrev Inv-loop : tie.InvT-loop
-Inv-loop text work t own d n sorts₀ i₀ sorts i = Gathering text (part work 0 t) work own d n sorts i
+Inv-loop library text work t own d n sorts₀ i₀ sorts i = Gathering (joint library text) (part work 0 t) work own d n sorts i
 
 abbrev μ-loop : tie.MeasureT-loop
-μ-loop text work t own d n sorts₀ i₀ sorts i = n - i
+μ-loop library text work t own d n sorts₀ i₀ sorts i = n - i
 
 pub input-sorts-spec : {M : Type 1} → statement M
 input-sorts-spec =

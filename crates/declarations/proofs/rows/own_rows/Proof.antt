@@ -2,15 +2,16 @@
 -- Assumes nothing.
 use borrow.Author.Needs.{needs}
 use Prim.Native.Nat.{_-_}
+use Rattle.names.specs.Joint.{joint}
 use Rattle.declarations.proofs.Made.{making, Appending, append-put}
 use Rattle.declarations.proofs.rows.own_rows.Statement.{statement}
 use Rattle.declarations.proofs.rows.own_rows.Tie as tie
 
 abbrev Inv-loop : tie.InvT-loop
-Inv-loop text work₀ t own hidden base n end k₀ i₀ work k i = Appending text t own hidden base n work₀ work k i
+Inv-loop library text work₀ t own hidden base n end k₀ i₀ work k i = Appending (joint library text) t own hidden base n work₀ work k i
 
 abbrev μ-loop : tie.MeasureT-loop
-μ-loop text work₀ t own hidden base n end k₀ i₀ work k i = own .end - i
+μ-loop library text work₀ t own hidden base n end k₀ i₀ work k i = own .end - i
 
 pub own-rows-spec : {M : Type 1} → statement M
 own-rows-spec =

@@ -4,6 +4,7 @@ use borrow.Author.Needs.{needs}
 use mathlib.Core.Path.{_≡_}
 use Prim.Native.Nat.{_-_}
 use Rattle.names.specs.Word.{name-of}
+use Rattle.names.specs.Joint.{joint}
 use Rattle.declarations.specs.Scans.{found}
 use Rattle.declarations.specs.Sorts.{declares-at}
 use Rattle.declarations.proofs.Cases.{cases}
@@ -11,10 +12,10 @@ use Rattle.declarations.proofs.sorts.declares_one.Statement.{statement}
 use Rattle.declarations.proofs.sorts.declares_one.Tie as tie
 
 abbrev Inv-loop : tie.InvT-loop
-Inv-loop text tape w a e i₀ i = found (declares-at text tape (name-of text w)) a (e - a) ≡ found (declares-at text tape (name-of text w)) i (e - i)
+Inv-loop library text tape w a e i₀ i = found (declares-at (joint library text) tape (name-of (joint library text) w)) a (e - a) ≡ found (declares-at (joint library text) tape (name-of (joint library text) w)) i (e - i)
 
 abbrev μ-loop : tie.MeasureT-loop
-μ-loop text tape w a e i₀ i = e - i
+μ-loop library text tape w a e i₀ i = e - i
 
 pub declares-one-spec : {M : Type 1} → statement M
 declares-one-spec =

@@ -4,6 +4,7 @@ use borrow.Author.Needs.{needs}
 use mathlib.Core.Path.{_≡_}
 use Prim.Native.Nat.{_-_}
 use Rattle.names.specs.Word.{name-of}
+use Rattle.names.specs.Joint.{joint}
 use Rattle.declarations.specs.Scans.{first-of}
 use Rattle.declarations.specs.Sorts.{is-named}
 use Rattle.declarations.proofs.Cases.{cases}
@@ -11,10 +12,10 @@ use Rattle.declarations.proofs.sorts.first_named.Statement.{statement}
 use Rattle.declarations.proofs.sorts.first_named.Tie as tie
 
 abbrev Inv-loop : tie.InvT-loop
-Inv-loop text tape role w a e i₀ i = first-of (is-named text tape role (name-of text w)) a (e - a) ≡ first-of (is-named text tape role (name-of text w)) i (e - i)
+Inv-loop library text tape role w a e i₀ i = first-of (is-named (joint library text) tape role (name-of (joint library text) w)) a (e - a) ≡ first-of (is-named (joint library text) tape role (name-of (joint library text) w)) i (e - i)
 
 abbrev μ-loop : tie.MeasureT-loop
-μ-loop text tape role w a e i₀ i = e - i
+μ-loop library text tape role w a e i₀ i = e - i
 
 pub first-named-spec : {M : Type 1} → statement M
 first-named-spec =

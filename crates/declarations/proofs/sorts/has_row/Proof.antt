@@ -4,6 +4,7 @@ use borrow.Author.Needs.{needs}
 use mathlib.Core.Path.{_≡_}
 use Prim.Native.Nat.{_-_}
 use Rattle.names.specs.Word.{name-of}
+use Rattle.names.specs.Joint.{joint}
 use Rattle.declarations.specs.Scans.{found}
 use Rattle.declarations.specs.Sorts.{is-row}
 use Rattle.declarations.proofs.Cases.{cases}
@@ -11,10 +12,10 @@ use Rattle.declarations.proofs.sorts.has_row.Statement.{statement}
 use Rattle.declarations.proofs.sorts.has_row.Tie as tie
 
 abbrev Inv-loop : tie.InvT-loop
-Inv-loop text work b n kind w i₀ i = found (is-row text work b kind (name-of text w)) 0 n ≡ found (is-row text work b kind (name-of text w)) i (n - i)
+Inv-loop library text work b n kind w i₀ i = found (is-row (joint library text) work b kind (name-of (joint library text) w)) 0 n ≡ found (is-row (joint library text) work b kind (name-of (joint library text) w)) i (n - i)
 
 abbrev μ-loop : tie.MeasureT-loop
-μ-loop text work b n kind w i₀ i = n - i
+μ-loop library text work b n kind w i₀ i = n - i
 
 pub has-row-spec : {M : Type 1} → statement M
 has-row-spec =

@@ -14,16 +14,16 @@ use Rattle.tables.proofs.entries.role_at.Reads as role-at-reads
 use Rattle.importing.proofs.imports.+imports_from.{statement}
 use Rattle.importing.proofs.imports.+imports_from.Tie.{close}
 
-abbrev μ-imports-from : Measures 2 imports-from-kinds.ps ℕ
-μ-imports-from κs a = a .1 .1 .1 .1 .0
+abbrev μ-imports-from : Measures 3 imports-from-kinds.ps ℕ
+μ-imports-from κs a = a .1 .1 .1 .1 .1 .0
 
-abbrev imports-from-at : ℕ → In 2 imports-from-kinds.ps
+abbrev imports-from-at : ℕ → In 3 imports-from-kinds.ps
 imports-from-at t =
-    and 2 imports-from-kinds.ps (is 2 imports-from-kinds.ps μ-imports-from t) imports-from.Pre
+    and 3 imports-from-kinds.ps (is 3 imports-from-kinds.ps μ-imports-from t) imports-from.Pre
 
-abbrev imports-from-below : ℕ → In 2 imports-from-kinds.ps
+abbrev imports-from-below : ℕ → In 3 imports-from-kinds.ps
 imports-from-below t =
-    and 2 imports-from-kinds.ps (falls 2 imports-from-kinds.ps _<_ μ-imports-from t) imports-from.Pre
+    and 3 imports-from-kinds.ps (falls 3 imports-from-kinds.ps _<_ μ-imports-from t) imports-from.Pre
 
 pub +imports-from-spec : {M : Type 1} → statement M
 +imports-from-spec = close μ-imports-from λ t. imports-from-lts.spec (
@@ -49,10 +49,10 @@ pub +imports-from-spec : {M : Type 1} → statement M
     (λ c. search needs)  -- part-run-end-start
     (λ c. search needs)  -- part-run-end-end
     (λ c. search needs)  -- add-run-end
-    (λ c κs. imports-tape _ _ _ _ _ (c .before .before .before .before .before .before .before .before .before .pre .1))  -- run-end-requires
+    (λ c κs. imports-tape _ _ _ _ _ (c .before .before .before .before .before .before .before .before .before .before .pre .1))  -- run-end-requires
     (λ c κs. import-room _ _ _ _ _ _ (c .before .before .before .before .before .role-at .ensures)
     (c .before .before .before .before .if2 .taken)
-    (c .before .before .before .before .before .before .before .before .before .before .before .pre .1))  -- expression-requires
+    (c .before .before .before .before .before .before .before .before .before .before .before .before .pre .1))  -- expression-requires
     (λ c. search needs)  -- enum-known-r
     (λ c. search needs)  -- enum-known-r-2
     (λ c κs.
@@ -60,7 +60,7 @@ pub +imports-from-spec : {M : Type 1} → statement M
     let made = matched .before .before .before .before in
     let ended = made .before .before in
     let tested = ended .before .before .before in
-    let start = tested .before .before .before .before .before .before .before in
+    let start = tested .before .before .before .before .before .before .before .before in
     union-room _ _ _ _ _ _ _ (tested .before .role-at .ensures) (tested .if2 .taken) (start .pre .1) _ _ _ (ended .run-end .ensures)
     (made .expression .ensures) _ (matched .r2 .given .1))  -- united-with-requires
     (λ c. search needs)  -- sub-imports-from
@@ -69,7 +69,7 @@ pub +imports-from-spec : {M : Type 1} → statement M
     let made = matched .before .before .before .before in
     let ended = made .before .before in
     let tested = ended .before .before .before in
-    let start = tested .before .before .before .before .before .before .before in (
+    let start = tested .before .before .before .before .before .before .before .before in (
       search (start .pre .0, tested .before .before .before .before .if1 .left, needs),
       next-imports _ _ _ _ _ _ _ (tested .before .role-at .ensures) (tested .if2 .taken) (start .pre .1) _ _ _ (ended .run-end .ensures)
           (made .expression .ensures) _ (matched .r2 .given .1) _ _ (c .before .before .before .united-with .ensures),
@@ -82,7 +82,7 @@ pub +imports-from-spec : {M : Type 1} → statement M
     let made = matched .before .before .before .before in
     let ended = made .before .before in
     let tested = ended .before .before .before in
-    let start = tested .before .before .before .before .before .before .before in
+    let start = tested .before .before .before .before .before .before .before .before in
     imports-more _ _ _ _ _ _ _ (tested .before .role-at .ensures) (tested .if2 .taken) (start .pre .1) _ _ _ (ended .run-end .ensures)
     (made .expression .ensures) _ (matched .r2 .given .1) _ _ (c .before .before .before .before .before .before .united-with .ensures) _ _ _
     (tested .before .before .before .before .if1 .left) (c .before .before .imports-from .ensures))  -- returns-3

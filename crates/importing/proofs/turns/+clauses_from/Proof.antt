@@ -15,16 +15,16 @@ use Rattle.importing.proofs.turns.starts_clause.Reads as starts-clause-
 use Rattle.importing.proofs.turns.+clauses_from.{statement}
 use Rattle.importing.proofs.turns.+clauses_from.Tie.{close}
 
-abbrev μ-clauses-from : Measures 2 clauses-from-kinds.ps ℕ
-μ-clauses-from κs a = a .1 .1 .1 .1 .0
+abbrev μ-clauses-from : Measures 3 clauses-from-kinds.ps ℕ
+μ-clauses-from κs a = a .1 .1 .1 .1 .1 .0
 
-abbrev clauses-from-at : ℕ → In 2 clauses-from-kinds.ps
+abbrev clauses-from-at : ℕ → In 3 clauses-from-kinds.ps
 clauses-from-at t =
-    and 2 clauses-from-kinds.ps (is 2 clauses-from-kinds.ps μ-clauses-from t) clauses-from.Pre
+    and 3 clauses-from-kinds.ps (is 3 clauses-from-kinds.ps μ-clauses-from t) clauses-from.Pre
 
-abbrev clauses-from-below : ℕ → In 2 clauses-from-kinds.ps
+abbrev clauses-from-below : ℕ → In 3 clauses-from-kinds.ps
 clauses-from-below t =
-    and 2 clauses-from-kinds.ps (falls 2 clauses-from-kinds.ps _<_ μ-clauses-from t) clauses-from.Pre
+    and 3 clauses-from-kinds.ps (falls 3 clauses-from-kinds.ps _<_ μ-clauses-from t) clauses-from.Pre
 
 pub +clauses-from-spec : {M : Type 1} → statement M
 +clauses-from-spec = close μ-clauses-from λ t. clauses-from-lts.spec (
@@ -50,9 +50,9 @@ pub +clauses-from-spec : {M : Type 1} → statement M
     (λ c. search needs)  -- part-run-end-start
     (λ c. search needs)  -- part-run-end-end
     (λ c. search needs)  -- add-run-end
-    (λ c κs. tape-short _ _ _ _ _ _ (c .before .before .before .before .before .before .before .before .before .pre .1))  -- run-end-requires
+    (λ c κs. tape-short _ _ _ _ _ _ (c .before .before .before .before .before .before .before .before .before .before .pre .1))  -- run-end-requires
     (λ c κs. (
-      c .before .before .before .before .before .before .before .before .before .before .before .pre .1,
+      c .before .before .before .before .before .before .before .before .before .before .before .before .pre .1,
       end-positive _ _ _ _ _ (c .before .run-end .ensures),
     ))  -- clause-turn-requires
     (λ c. search needs)  -- enum-known-r
@@ -64,7 +64,7 @@ pub +clauses-from-spec : {M : Type 1} → statement M
     let made = matched .before .before .before .before in
     let ended = made .before .before in
     let tested = ended .before .before .before in
-    let start = tested .before .before .before .before .before .before .before in (
+    let start = tested .before .before .before .before .before .before .before .before in (
       search needs,
       next-room _ _ _ _ (start .args .left) _ _ _ _ _ _ _ (tested .before .starts-clause .ensures) (tested .if2 .taken) (ended .run-end .ensures)
           (start .pre .1) (made .clause-turn .ensures) _ (matched .r2 .given .1) _ (c .before .other .ensures),
@@ -77,7 +77,7 @@ pub +clauses-from-spec : {M : Type 1} → statement M
     let made = matched .before .before .before .before in
     let ended = made .before .before in
     let tested = ended .before .before .before in
-    let start = tested .before .before .before .before .before .before .before in
+    let start = tested .before .before .before .before .before .before .before .before in
     clauses-more _ _ _ _ _ _ _ _ _ _ _ _ (tested .before .starts-clause .ensures) (tested .if2 .taken) (ended .run-end .ensures)
     (start .pre .1) (made .clause-turn .ensures) _ (matched .r2 .given .1) _ _
     (tested .before .before .before .before .if1 .left) (c .before .before .clauses-from .ensures))  -- returns-3

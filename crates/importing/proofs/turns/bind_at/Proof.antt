@@ -15,7 +15,7 @@ bind-at-spec =
     (λ c κs. search needs)  -- name-at-requires
     (λ c κs. search needs)  -- named-form-requires
     (λ c. search needs)  -- add-bind
-    (λ c κs. bind-room _ _ _ _ _ _ _ _ _ (c .before .before .before .before .before .before .before .before .pre)
+    (λ c κs. bind-room _ _ _ _ _ _ _ _ _ (c .before .before .before .before .before .before .before .before .before .pre)
     (c .before .named-form .ensures))  -- bind-requires
     (λ c. search needs)  -- same-length
     (λ c. search cases)  -- returns

@@ -2,14 +2,15 @@
 -- Assumes nothing.
 use Rattle.joining.proofs.Turns.{Joining, turns}
 use Prim.Native.Nat.{_-_}
+use Rattle.names.specs.Joint.{joint}
 use Rattle.joining.proofs.equations.absorb_first.Statement.{statement}
 use Rattle.joining.proofs.equations.absorb_first.Tie as tie
 
 abbrev Inv-loop : tie.InvT-loop
-Inv-loop text work₀ t g n o h₀ k₀ work h k = Joining text t work₀ g n o h₀ work h k
+Inv-loop library text work₀ t g n o h₀ k₀ work h k = Joining (joint library text) t work₀ g n o h₀ work h k
 
 abbrev μ-loop : tie.MeasureT-loop
-μ-loop text work₀ t g n o h₀ k₀ work h k = n - k
+μ-loop library text work₀ t g n o h₀ k₀ work h k = n - k
 
 pub absorb-first-spec : {M : Type 1} → statement M
 absorb-first-spec =

@@ -2,14 +2,15 @@
 -- Assumes nothing.
 use Rattle.joining.proofs.Turns.{Seeking, turns}
 use Prim.Native.Nat.{_-_}
+use Rattle.names.specs.Joint.{joint}
 use Rattle.joining.proofs.equations.has_equation.Statement.{statement}
 use Rattle.joining.proofs.equations.has_equation.Tie as tie
 
 abbrev Inv-loop : tie.InvT-loop
-Inv-loop text work t f q n i₀ i = Seeking text t work f q n i
+Inv-loop library text work t f q n i₀ i = Seeking (joint library text) t work f q n i
 
 abbrev μ-loop : tie.MeasureT-loop
-μ-loop text work t f q n i₀ i = n - i
+μ-loop library text work t f q n i₀ i = n - i
 
 pub has-equation-spec : {M : Type 1} → statement M
 has-equation-spec =

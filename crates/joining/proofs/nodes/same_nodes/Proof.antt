@@ -2,15 +2,16 @@
 -- Assumes nothing.
 use Rattle.joining.proofs.Runs.{Running, run-again, run-other, run-end, runs}
 use Prim.Native.Nat.{_+_}
+use Rattle.names.specs.Joint.{joint}
 use borrow.Author.Needs.{needs}
 use Rattle.joining.proofs.nodes.same_nodes.Statement.{statement}
 use Rattle.joining.proofs.nodes.same_nodes.Tie as tie
 
 abbrev Inv-loop : tie.InvT-loop
-Inv-loop text work t visible hidden base a b c i₀ j₀ left₀ i j left = Running text t work visible hidden (base + a) (base + b) c i j left
+Inv-loop library text work t visible hidden base a b c i₀ j₀ left₀ i j left = Running (joint library text) t work visible hidden (base + a) (base + b) c i j left
 
 abbrev μ-loop : tie.MeasureT-loop
-μ-loop text work t visible hidden base a b c i₀ j₀ left₀ i j left = left
+μ-loop library text work t visible hidden base a b c i₀ j₀ left₀ i j left = left
 
 pub same-nodes-spec : {M : Type 1} → statement M
 same-nodes-spec =

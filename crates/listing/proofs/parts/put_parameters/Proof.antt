@@ -1,6 +1,7 @@
 -- `listing::parts::put_parameters` meets its contract.
 -- Assumes nothing.
 use Prim.Native.Nat.{_-_}
+use Rattle.names.specs.Joint.{joint}
 use Rattle.pen.proofs.Rows.{Writing}
 use Rattle.listing.specs.Lines.{parameter-row}
 use Rattle.listing.proofs.Cases.{cases}
@@ -8,10 +9,10 @@ use Rattle.listing.proofs.parts.put_parameters.Statement.{statement}
 use Rattle.listing.proofs.parts.put_parameters.Tie as tie
 
 abbrev Inv-loop : tie.InvT-loop
-Inv-loop out₀ at limit text tape work f count to₀ i₀ out to i = Writing limit (parameter-row text tape work f) 0 count at out₀ i to out
+Inv-loop out₀ at limit library text tape work f count to₀ i₀ out to i = Writing limit (parameter-row (joint library text) tape work f) 0 count at out₀ i to out
 
 abbrev μ-loop : tie.MeasureT-loop
-μ-loop out₀ at limit text tape work f count to₀ i₀ out to i = count - i
+μ-loop out₀ at limit library text tape work f count to₀ i₀ out to i = count - i
 
 pub put-parameters-spec : {M : Type 1} → statement M
 put-parameters-spec =

@@ -1,6 +1,7 @@
 -- `listing::parts::put_standing` meets its contract.
 -- Assumes nothing.
 use Prim.Native.Nat.{_-_}
+use Rattle.names.specs.Joint.{joint}
 use Rattle.pen.proofs.Rows.{Writing}
 use Rattle.tables.specs.Rows.{section-of}
 use Rattle.listing.specs.Lines.{standing-row, standing-text}
@@ -9,11 +10,11 @@ use Rattle.listing.proofs.parts.put_standing.Statement.{statement}
 use Rattle.listing.proofs.parts.put_standing.Tie as tie
 
 abbrev Inv-loop : tie.InvT-loop
-Inv-loop out₀ at limit text tape work base count section sort function to₀ i₀ out to i =
-    Writing limit (standing-row text tape work base (section-of text section) sort function) 0 count at out₀ i to out
+Inv-loop out₀ at limit library text tape work base count section sort function to₀ i₀ out to i =
+    Writing limit (standing-row (joint library text) tape work base (section-of (joint library text) section) sort function) 0 count at out₀ i to out
 
 abbrev μ-loop : tie.MeasureT-loop
-μ-loop out₀ at limit text tape work base count section sort function to₀ i₀ out to i = count - i
+μ-loop out₀ at limit library text tape work base count section sort function to₀ i₀ out to i = count - i
 
 pub put-standing-spec : {M : Type 1} → statement M
 unfolding standing-text

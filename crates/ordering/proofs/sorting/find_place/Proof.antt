@@ -1,14 +1,15 @@
 -- `ordering::sorting::find_place` meets its contract. Assumes nothing.
 use Prim.Native.Nat.{_-_}
+use Rattle.names.specs.Joint.{joint}
 use Rattle.ordering.proofs.SortCases.{cases, Narrowed}
 use Rattle.ordering.proofs.sorting.find_place.Statement.{statement}
 use Rattle.ordering.proofs.sorting.find_place.Tie as tie
 
 abbrev Inv-loop : tie.InvT-loop
-Inv-loop text tape low work table p m x lo₀ hi₀ lo hi = Narrowed text tape low work table p m x lo hi
+Inv-loop library text tape low work table p m x lo₀ hi₀ lo hi = Narrowed (joint library text) tape low work table p m x lo hi
 
 abbrev μ-loop : tie.MeasureT-loop
-μ-loop text tape low work table p m x lo₀ hi₀ lo hi = hi - lo
+μ-loop library text tape low work table p m x lo₀ hi₀ lo hi = hi - lo
 
 pub find-place-spec : {M : Type 1} → statement M
 find-place-spec =

@@ -1,14 +1,15 @@
 -- `ordering::sorting::order_rows` meets its contract. Assumes nothing.
 use Prim.Native.Nat.{_-_}
+use Rattle.names.specs.Joint.{joint}
 use Rattle.ordering.proofs.SortCases.{cases, Begun}
 use Rattle.ordering.proofs.sorting.order_rows.Statement.{statement}
 use Rattle.ordering.proofs.sorting.order_rows.Tie as tie
 
 abbrev Inv-loop : tie.InvT-loop
-Inv-loop text work₀ t table n p m₀ r₀ work m r = Begun text t work₀ work table p n r m
+Inv-loop library text work₀ t table n p m₀ r₀ work m r = Begun (joint library text) t work₀ work table p n r m
 
 abbrev μ-loop : tie.MeasureT-loop
-μ-loop text work₀ t table n p m₀ r₀ work m r = n - r
+μ-loop library text work₀ t table n p m₀ r₀ work m r = n - r
 
 pub order-rows-spec : {M : Type 1} → statement M
 order-rows-spec =

@@ -14,12 +14,12 @@ own-items-spec =
     (λ c κs.
     let second = c .before .before .before in
     let first = second .before .before .before .before in
-    search (whole-ready-behind, whole-hidden, first .before .before .before .before .pre, first .own-parameters .ensures, second .join-visible .ensures, needs))  -- own-rows-requires
+    search (whole-ready-behind, whole-hidden, first .before .before .before .before .before .pre, first .own-parameters .ensures, second .join-visible .ensures, needs))  -- own-rows-requires
     (λ c. search needs)  -- sub-hidden-count
     (λ c. search needs)  -- same-length
     (λ c.
     let third = c .before .before in
     let second = third .before .before .before .before in
     let first = second .before .before .before .before in
-    search (whole-made, first .before .before .before .before .pre, first .own-parameters .ensures, second .join-visible .ensures, third .own-rows .ensures, needs))  -- returns
+    search (whole-made, first .before .before .before .before .before .pre, first .own-parameters .ensures, second .join-visible .ensures, third .own-rows .ensures, needs))  -- returns
     )

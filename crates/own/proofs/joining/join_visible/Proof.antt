@@ -2,15 +2,16 @@
 -- Assumes nothing.
 use borrow.Author.Needs.{needs}
 use Prim.Native.Nat.{_-_}
+use Rattle.names.specs.Joint.{joint}
 use Rattle.own.proofs.Joins.{joins, Joining, joining-on}
 use Rattle.own.proofs.joining.join_visible.Statement.{statement}
 use Rattle.own.proofs.joining.join_visible.Tie as tie
 
 abbrev Inv-loop : tie.InvT-loop
-Inv-loop text work₀ t own base n end k₀ i₀ work k i = Joining text t own base n work₀ work k i
+Inv-loop library text work₀ t own base n end k₀ i₀ work k i = Joining (joint library text) t own base n work₀ work k i
 
 abbrev μ-loop : tie.MeasureT-loop
-μ-loop text work₀ t own base n end k₀ i₀ work k i = own .end - i
+μ-loop library text work₀ t own base n end k₀ i₀ work k i = own .end - i
 
 pub join-visible-spec : {M : Type 1} → statement M
 join-visible-spec =

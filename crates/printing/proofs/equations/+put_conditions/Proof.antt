@@ -12,23 +12,23 @@ use Rattle.printing.proofs.equations.put_sides.Reads as put-sides-reads
 use Rattle.printing.proofs.equations.+put_conditions.{statement}
 use Rattle.printing.proofs.equations.+put_conditions.Tie.{close}
 
-abbrev μ-put-conditions : Measures 3 put-conditions-kinds.ps ℕ
-μ-put-conditions κs a = a .1 .1 .1 .1 .1 .1 .1 .0
+abbrev μ-put-conditions : Measures 4 put-conditions-kinds.ps ℕ
+μ-put-conditions κs a = a .1 .1 .1 .1 .1 .1 .1 .1 .0
 
-abbrev put-conditions-at : ℕ → In 3 put-conditions-kinds.ps
+abbrev put-conditions-at : ℕ → In 4 put-conditions-kinds.ps
 put-conditions-at t =
     and
-    3
+    4
     put-conditions-kinds.ps
-    (is 3 put-conditions-kinds.ps μ-put-conditions t)
+    (is 4 put-conditions-kinds.ps μ-put-conditions t)
     put-conditions.Pre
 
-abbrev put-conditions-below : ℕ → In 3 put-conditions-kinds.ps
+abbrev put-conditions-below : ℕ → In 4 put-conditions-kinds.ps
 put-conditions-below t =
     and
-    3
+    4
     put-conditions-kinds.ps
-    (falls 3 put-conditions-kinds.ps _<_ μ-put-conditions t)
+    (falls 4 put-conditions-kinds.ps _<_ μ-put-conditions t)
     put-conditions.Pre
 
 pub +put-conditions-spec : {M : Type 1} → statement M

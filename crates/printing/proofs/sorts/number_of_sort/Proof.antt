@@ -1,15 +1,16 @@
 -- `printing::sorts::number_of_sort` meets its contract.
 -- Assumes nothing.
 use Prim.Native.Nat.{_-_}
+use Rattle.names.specs.Joint.{joint}
 use Rattle.printing.proofs.Cases.{cases, Numbering}
 use Rattle.printing.proofs.sorts.number_of_sort.Statement.{statement}
 use Rattle.printing.proofs.sorts.number_of_sort.Tie as tie
 
 abbrev Inv-loop : tie.InvT-loop
-Inv-loop text tape work base count d i₀ i = Numbering text tape work base count d i
+Inv-loop library text tape work base count d i₀ i = Numbering (joint library text) tape work base count d i
 
 abbrev μ-loop : tie.MeasureT-loop
-μ-loop text tape work base count d i₀ i = count - i
+μ-loop library text tape work base count d i₀ i = count - i
 
 pub number-of-sort-spec : {M : Type 1} → statement M
 number-of-sort-spec =

@@ -1,6 +1,7 @@
 -- `printing::sorts::put_others` meets its contract.
 -- Assumes nothing.
 use Prim.Native.Nat.{_-_}
+use Rattle.names.specs.Joint.{joint}
 use Rattle.pen.proofs.Rows.{Writing}
 use Rattle.printing.specs.Sorts.{marked-sort}
 use Rattle.printing.proofs.Cases.{cases}
@@ -9,10 +10,10 @@ use Rattle.printing.proofs.sorts.put_others.Statement.{statement}
 use Rattle.printing.proofs.sorts.put_others.Tie as tie
 
 abbrev Inv-loop : tie.InvT-loop
-Inv-loop out₀ at limit text tape work base count sorts end to₀ i₀ out to i = Writing limit (marked-sort text tape work base count sorts) 1 end at out₀ i to out
+Inv-loop out₀ at limit library text tape work base count sorts end to₀ i₀ out to i = Writing limit (marked-sort (joint library text) tape work base count sorts) 1 end at out₀ i to out
 
 abbrev μ-loop : tie.MeasureT-loop
-μ-loop out₀ at limit text tape work base count sorts end to₀ i₀ out to i = end - i
+μ-loop out₀ at limit library text tape work base count sorts end to₀ i₀ out to i = end - i
 
 pub put-others-spec : {M : Type 1} → statement M
 put-others-spec =

@@ -14,6 +14,6 @@ put-sorts-spec =
     (λ c κs. search needs)  -- put-sort-requires
     (λ c κs. search needs)  -- put-others-requires
     (λ c. search needs)  -- same-length
-    (λ c. search cases)  -- returns
+    (λ c. search (cases, c .before .before .before .before .before .before .before .before .before .before .before .before .before .before .before .good .1 .1 .1 .1 .1 .1 .1 .1 .1 .1 .0))  -- returns
     (λ c. search cases)  -- returns-2
     )

@@ -16,30 +16,30 @@ use Rattle.tables.proofs.entries.word_at.Reads as word-at-reads
 use Rattle.printing.proofs.terms.+put_arguments+put_term.{statement}
 use Rattle.printing.proofs.terms.+put_arguments+put_term.Tie.{close}
 
-abbrev μ-put-arguments : Measures 3 put-arguments-kinds.ps ℕ
-μ-put-arguments κs a = a .1 .1 .1 .1 .1 .1 .0 * 20 + a .1 .1 .1 .1 .1 .1 .1 .0 + 1
+abbrev μ-put-arguments : Measures 4 put-arguments-kinds.ps ℕ
+μ-put-arguments κs a = a .1 .1 .1 .1 .1 .1 .1 .0 * 20 + a .1 .1 .1 .1 .1 .1 .1 .1 .0 + 1
 
-abbrev μ-put-term : Measures 3 put-term-kinds.ps ℕ
-μ-put-term κs a = a .1 .1 .1 .1 .1 .1 .0 * 20
+abbrev μ-put-term : Measures 4 put-term-kinds.ps ℕ
+μ-put-term κs a = a .1 .1 .1 .1 .1 .1 .1 .0 * 20
 
-abbrev put-arguments-at : ℕ → In 3 put-arguments-kinds.ps
+abbrev put-arguments-at : ℕ → In 4 put-arguments-kinds.ps
 put-arguments-at t =
-    and 3 put-arguments-kinds.ps (is 3 put-arguments-kinds.ps μ-put-arguments t) put-arguments.Pre
+    and 4 put-arguments-kinds.ps (is 4 put-arguments-kinds.ps μ-put-arguments t) put-arguments.Pre
 
-abbrev put-arguments-below : ℕ → In 3 put-arguments-kinds.ps
+abbrev put-arguments-below : ℕ → In 4 put-arguments-kinds.ps
 put-arguments-below t =
     and
-    3
+    4
     put-arguments-kinds.ps
-    (falls 3 put-arguments-kinds.ps _<_ μ-put-arguments t)
+    (falls 4 put-arguments-kinds.ps _<_ μ-put-arguments t)
     put-arguments.Pre
 
-abbrev put-term-at : ℕ → In 3 put-term-kinds.ps
-put-term-at t = and 3 put-term-kinds.ps (is 3 put-term-kinds.ps μ-put-term t) put-term.Pre
+abbrev put-term-at : ℕ → In 4 put-term-kinds.ps
+put-term-at t = and 4 put-term-kinds.ps (is 4 put-term-kinds.ps μ-put-term t) put-term.Pre
 
-abbrev put-term-below : ℕ → In 3 put-term-kinds.ps
+abbrev put-term-below : ℕ → In 4 put-term-kinds.ps
 put-term-below t =
-    and 3 put-term-kinds.ps (falls 3 put-term-kinds.ps _<_ μ-put-term t) put-term.Pre
+    and 4 put-term-kinds.ps (falls 4 put-term-kinds.ps _<_ μ-put-term t) put-term.Pre
 
 pub +put-arguments+put-term-spec : {M : Type 1} → statement M
 +put-arguments+put-term-spec = close μ-put-arguments μ-put-term (λ t. put-arguments-lts.spec (

@@ -13,11 +13,15 @@ fresh-name-spec =
     (λ c. search needs)  -- enum-known-at-2
     (λ c κs. search needs)  -- next-word-requires
     (λ c κs. search needs)  -- is-taken-requires
+    (λ c κs. search needs)  -- is-known-requires
     (λ c κs. search needs)  -- read-name-requires
     (λ c κs. search needs)  -- twice-requires
     (λ c. search needs)  -- same-length
     (λ c. search cases)  -- returns
-    (λ c. search cases)  -- returns-2
+    (λ c κs. search needs)  -- twice-requires-2
     (λ c. search needs)  -- same-length-2
+    (λ c. search cases)  -- returns-2
     (λ c. search cases)  -- returns-3
+    (λ c. search needs)  -- same-length-3
+    (λ c. search cases)  -- returns-4
     )

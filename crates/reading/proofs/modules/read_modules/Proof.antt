@@ -3,15 +3,17 @@
 use Rattle.entries.specs.Model.{modules}
 use borrow.Author.Needs.{needs}
 use Rattle.entries.proofs.Lists.{Comes, sized}
+use Rattle.reading.specs.Known.{named-so}
 use Rattle.reading.proofs.Cases.{rounds}
 use Rattle.reading.proofs.modules.read_modules.Statement.{statement}
 use Rattle.reading.proofs.modules.read_modules.Tie as tie
 
 abbrev Inv-loop : tie.InvT-loop
-Inv-loop text tape₀ here₀ left₀ tape here left = Comes (modules text 64) (modules text left) here₀ tape₀ here tape
+Inv-loop text library heads limit tape₀ here₀ left₀ tape here left =
+    Comes (modules text limit (named-so library heads)) (modules text left (named-so library heads)) here₀ tape₀ here tape
 
 abbrev μ-loop : tie.MeasureT-loop
-μ-loop text tape₀ here₀ left₀ tape here left = left
+μ-loop text library heads limit tape₀ here₀ left₀ tape here left = left
 
 pub read-modules-spec : {M : Type 1} → statement M
 read-modules-spec =

@@ -1,15 +1,16 @@
 -- `tables::declarations::same_names` meets its contract.
 -- Assumes nothing.
+use Rattle.names.specs.Joint.{joint}
 use Rattle.tables.proofs.Told.{Comparing, compare-none, compare-on, compare-off, compare-end}
 use borrow.Author.Needs.{needs}
 use Rattle.tables.proofs.declarations.same_names.Statement.{statement}
 use Rattle.tables.proofs.declarations.same_names.Tie as tie
 
 abbrev Inv-loop : tie.InvT-loop
-Inv-loop text tape d e c i₀ j₀ left₀ i j left = Comparing text tape d e c i j left
+Inv-loop library text tape d e c i₀ j₀ left₀ i j left = Comparing (joint library text) tape d e c i j left
 
 abbrev μ-loop : tie.MeasureT-loop
-μ-loop text tape d e c i₀ j₀ left₀ i j left = left
+μ-loop library text tape d e c i₀ j₀ left₀ i j left = left
 
 pub same-names-spec : {M : Type 1} → statement M
 same-names-spec =

@@ -4,15 +4,16 @@ use Rattle.tables.proofs.Auto.{on, done}
 use Rattle.tables.proofs.Alike.{AgreeFrom, agree-nine, agree-on, agree-off, agree-all}
 use mathlib.Core.Path.{_≡_}
 use Prim.Native.Nat.{_-_}
+use Rattle.names.specs.Joint.{joint}
 use borrow.Author.Needs.{needs}
 use Rattle.tables.proofs.sorts.same_sorts.Statement.{statement}
 use Rattle.tables.proofs.sorts.same_sorts.Tie as tie
 
 abbrev Inv-loop : tie.InvT-loop
-Inv-loop text tape n a b i₀ i = AgreeFrom text tape a b n 0 ≡ AgreeFrom text tape a b n i
+Inv-loop library text tape n a b i₀ i = AgreeFrom (joint library text) tape a b n 0 ≡ AgreeFrom (joint library text) tape a b n i
 
 abbrev μ-loop : tie.MeasureT-loop
-μ-loop text tape n a b i₀ i = n - i
+μ-loop library text tape n a b i₀ i = n - i
 
 pub same-sorts-spec : {M : Type 1} → statement M
 same-sorts-spec =

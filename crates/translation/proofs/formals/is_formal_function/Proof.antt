@@ -3,6 +3,7 @@
 use Rattle.translation.proofs.FormalItems.{asks, Asking}
 use Prim.Native.Nat.{_-_}
 use Rattle.names.specs.Word.{name-of}
+use Rattle.names.specs.Joint.{joint}
 use Rattle.tables.specs.Rows.{shape-of}
 use Rattle.forms.specs.Memory.{part}
 use Rattle.translation.specs.Moved.{formal-function}
@@ -10,11 +11,11 @@ use Rattle.translation.proofs.formals.is_formal_function.Statement.{sta
 use Rattle.translation.proofs.formals.is_formal_function.Tie as tie
 
 abbrev Inv-loop : tie.InvT-loop
-Inv-loop text work t row visible count p i₀ i =
-    Asking (formal-function (name-of text p) (name-of text (row .name)) (shape-of text (part work 0 t) (row .kind) (row .sorts))) text (part work 0 t) work visible count i
+Inv-loop library text work t row visible count p i₀ i =
+    Asking (formal-function (name-of (joint library text) p) (name-of (joint library text) (row .name)) (shape-of (joint library text) (part work 0 t) (row .kind) (row .sorts))) (joint library text) (part work 0 t) work visible count i
 
 abbrev μ-loop : tie.MeasureT-loop
-μ-loop text work t row visible count p i₀ i = count - i
+μ-loop library text work t row visible count p i₀ i = count - i
 
 pub is-formal-function-spec : {M : Type 1} → statement M
 is-formal-function-spec =
@@ -29,7 +30,7 @@ is-formal-function-spec =
     (λ c. search asks)  -- part-is-such-function-end
     (λ c κs. search asks)  -- is-such-function-requires
     (λ c. search asks)  -- returns
-    (λ c. search asks)  -- add-i
+    (λ c. search (asks, c .before .before .before .before .before .before .before .before .before .good .1 .1 .1 .1 .0))  -- add-i
     (λ c. search asks)  -- loop-less
     (λ c. search asks)  -- loop-again
     (λ c. search asks)  -- returns-2

@@ -3,16 +3,17 @@
 use Rattle.translation.proofs.FormalItems.{asks, Asking}
 use Prim.Native.Nat.{_-_}
 use Rattle.names.specs.Word.{name-of}
+use Rattle.names.specs.Joint.{joint}
 use Rattle.forms.specs.Memory.{part}
 use Rattle.translation.specs.Moved.{formal-sort}
 use Rattle.translation.proofs.formals.is_formal_sort.Statement.{statement}
 use Rattle.translation.proofs.formals.is_formal_sort.Tie as tie
 
 abbrev Inv-loop : tie.InvT-loop
-Inv-loop text work t w visible count p i₀ i = Asking (formal-sort (name-of text p) (name-of text w)) text (part work 0 t) work visible count i
+Inv-loop library text work t w visible count p i₀ i = Asking (formal-sort (name-of (joint library text) p) (name-of (joint library text) w)) (joint library text) (part work 0 t) work visible count i
 
 abbrev μ-loop : tie.MeasureT-loop
-μ-loop text work t w visible count p i₀ i = count - i
+μ-loop library text work t w visible count p i₀ i = count - i
 
 pub is-formal-sort-spec : {M : Type 1} → statement M
 is-formal-sort-spec =

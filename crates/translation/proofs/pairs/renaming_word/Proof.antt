@@ -1,15 +1,16 @@
 -- `translation::pairs::renaming_word` meets its contract.
 -- Assumes nothing.
+use Rattle.names.specs.Joint.{joint}
 use Rattle.translation.proofs.NewNames.{Pairing, pairs-start, pairs-end, pairs-stop, pairs-again, pairs-found}
 use borrow.Author.Needs.{needs}
 use Rattle.translation.proofs.pairs.renaming_word.Statement.{statement}
 use Rattle.translation.proofs.pairs.renaming_word.Tie as tie
 
 abbrev Inv-loop : tie.InvT-loop
-Inv-loop text tape pairs w i₀ left₀ i left = Pairing text tape pairs w i left
+Inv-loop library text tape pairs w i₀ left₀ i left = Pairing (joint library text) tape pairs w i left
 
 abbrev μ-loop : tie.MeasureT-loop
-μ-loop text tape pairs w i₀ left₀ i left = left
+μ-loop library text tape pairs w i₀ left₀ i left = left
 
 pub renaming-word-spec : {M : Type 1} → statement M
 renaming-word-spec =

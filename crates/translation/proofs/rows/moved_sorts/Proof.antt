@@ -2,16 +2,17 @@
 -- Assumes nothing.
 use Rattle.translation.proofs.MovedRows.{Moving, moving-start, moving-again, moving-end}
 use Prim.Native.Nat.{_-_}
+use Rattle.names.specs.Joint.{joint}
 use Rattle.forms.specs.Memory.{part}
 use borrow.Author.Needs.{needs}
 use Rattle.translation.proofs.rows.moved_sorts.Statement.{statement}
 use Rattle.translation.proofs.rows.moved_sorts.Tie as tie
 
 abbrev Inv-loop : tie.InvT-loop
-Inv-loop text work t m kind sorts n moved₀ i₀ moved i = Moving text (part work 0 t) work m sorts moved i
+Inv-loop library text work t m kind sorts n moved₀ i₀ moved i = Moving (joint library text) (part work 0 t) work m sorts moved i
 
 abbrev μ-loop : tie.MeasureT-loop
-μ-loop text work t m kind sorts n moved₀ i₀ moved i = n - i
+μ-loop library text work t m kind sorts n moved₀ i₀ moved i = n - i
 
 pub moved-sorts-spec : {M : Type 1} → statement M
 moved-sorts-spec =

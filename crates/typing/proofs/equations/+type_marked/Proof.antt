@@ -13,16 +13,16 @@ use Rattle.typing.proofs.equations.type_sides.Reads as type-sides-reads
 use Rattle.typing.proofs.equations.+type_marked.{statement}
 use Rattle.typing.proofs.equations.+type_marked.Tie.{close}
 
-abbrev μ-type-marked : Measures 2 type-marked-kinds.ps ℕ
-μ-type-marked κs a = a .1 .1 .1 .1 .1 .0
+abbrev μ-type-marked : Measures 3 type-marked-kinds.ps ℕ
+μ-type-marked κs a = a .1 .1 .1 .1 .1 .1 .0
 
-abbrev type-marked-at : ℕ → In 2 type-marked-kinds.ps
+abbrev type-marked-at : ℕ → In 3 type-marked-kinds.ps
 type-marked-at t =
-    and 2 type-marked-kinds.ps (is 2 type-marked-kinds.ps μ-type-marked t) type-marked.Pre
+    and 3 type-marked-kinds.ps (is 3 type-marked-kinds.ps μ-type-marked t) type-marked.Pre
 
-abbrev type-marked-below : ℕ → In 2 type-marked-kinds.ps
+abbrev type-marked-below : ℕ → In 3 type-marked-kinds.ps
 type-marked-below t =
-    and 2 type-marked-kinds.ps (falls 2 type-marked-kinds.ps _<_ μ-type-marked t) type-marked.Pre
+    and 3 type-marked-kinds.ps (falls 3 type-marked-kinds.ps _<_ μ-type-marked t) type-marked.Pre
 
 pub +type-marked-spec : {M : Type 1} → statement M
 +type-marked-spec = close μ-type-marked λ t. type-marked-lts.spec (

@@ -1,14 +1,15 @@
 -- `typing::equations::type_equations` meets its contract.
 -- Assumes nothing.
+use Rattle.names.specs.Joint.{joint}
 use Rattle.typing.proofs.Passes.{Onward, onward}
 use Rattle.typing.proofs.equations.type_equations.Statement.{statement}
 use Rattle.typing.proofs.equations.type_equations.Tie as tie
 
 abbrev Inv-loop : tie.InvT-loop
-Inv-loop text work₀ k m i q t end left₀ position₀ at₀ free₀ work left position at free = Onward text k m i q work₀ left position at free work
+Inv-loop library text work₀ k m i q t end left₀ position₀ at₀ free₀ work left position at free = Onward (joint library text) k m i q work₀ left position at free work
 
 abbrev μ-loop : tie.MeasureT-loop
-μ-loop text work₀ k m i q t end left₀ position₀ at₀ free₀ work left position at free = left
+μ-loop library text work₀ k m i q t end left₀ position₀ at₀ free₀ work left position at free = left
 
 pub type-equations-spec : {M : Type 1} → statement M
 type-equations-spec =

@@ -4,6 +4,7 @@ use mathlib.Core.List.{map}
 use Prim.Native.Nat.{_-_}
 use lib.ListN.{take}
 use Rattle.names.specs.Word.{name-of}
+use Rattle.names.specs.Joint.{joint}
 use Rattle.tables.specs.Rows.{sort-of}
 use Rattle.forms.specs.Memory.{part}
 use Rattle.typing.specs.Known.{function-called}
@@ -12,11 +13,11 @@ use Rattle.typing.proofs.find.find_function.Statement.{statement}
 use Rattle.typing.proofs.find.find_function.Tie as tie
 
 abbrev Inv-loop : tie.InvT-loop
-Inv-loop text work t b n w sorts count i₀ i =
-    Seeking (function-called (name-of text w) (map (sort-of text (part work 0 t)) (take count sorts))) text (part work 0 t) work b n i
+Inv-loop library text work t b n w sorts count i₀ i =
+    Seeking (function-called (name-of (joint library text) w) (map (sort-of (joint library text) (part work 0 t)) (take count sorts))) (joint library text) (part work 0 t) work b n i
 
 abbrev μ-loop : tie.MeasureT-loop
-μ-loop text work t b n w sorts count i₀ i = n - i
+μ-loop library text work t b n w sorts count i₀ i = n - i
 
 pub find-function-spec : {M : Type 1} → statement M
 find-function-spec =

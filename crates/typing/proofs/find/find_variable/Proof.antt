@@ -2,6 +2,7 @@
 -- Assumes nothing.
 use Prim.Native.Nat.{_-_}
 use Rattle.names.specs.Word.{name-of}
+use Rattle.names.specs.Joint.{joint}
 use Rattle.forms.specs.Memory.{part}
 use Rattle.typing.specs.Known.{variable-called}
 use Rattle.typing.proofs.Seeks.{Seeking, seeks}
@@ -9,10 +10,10 @@ use Rattle.typing.proofs.find.find_variable.Statement.{statement}
 use Rattle.typing.proofs.find.find_variable.Tie as tie
 
 abbrev Inv-loop : tie.InvT-loop
-Inv-loop text work t b n w i₀ i = Seeking (variable-called (name-of text w)) text (part work 0 t) work b n i
+Inv-loop library text work t b n w i₀ i = Seeking (variable-called (name-of (joint library text) w)) (joint library text) (part work 0 t) work b n i
 
 abbrev μ-loop : tie.MeasureT-loop
-μ-loop text work t b n w i₀ i = n - i
+μ-loop library text work t b n w i₀ i = n - i
 
 pub find-variable-spec : {M : Type 1} → statement M
 find-variable-spec =

@@ -16,25 +16,25 @@ use Rattle.typing.proofs.terms.type_applied.Reads as type-applied-reads
 use Rattle.typing.proofs.terms.+type_args+type_term.{statement}
 use Rattle.typing.proofs.terms.+type_args+type_term.Tie.{close}
 
-abbrev μ-type-args : Measures 2 type-args-kinds.ps ℕ
-μ-type-args κs a = a .1 .1 .1 .0 * 20 + a .1 .1 .1 .1 .1 .1 .0 + 1
+abbrev μ-type-args : Measures 3 type-args-kinds.ps ℕ
+μ-type-args κs a = a .1 .1 .1 .1 .0 * 20 + a .1 .1 .1 .1 .1 .1 .1 .0 + 1
 
-abbrev μ-type-term : Measures 2 type-term-kinds.ps ℕ
-μ-type-term κs a = a .1 .1 .1 .1 .1 .0 * 20
+abbrev μ-type-term : Measures 3 type-term-kinds.ps ℕ
+μ-type-term κs a = a .1 .1 .1 .1 .1 .1 .0 * 20
 
-abbrev type-args-at : ℕ → In 2 type-args-kinds.ps
-type-args-at t = and 2 type-args-kinds.ps (is 2 type-args-kinds.ps μ-type-args t) type-args.Pre
+abbrev type-args-at : ℕ → In 3 type-args-kinds.ps
+type-args-at t = and 3 type-args-kinds.ps (is 3 type-args-kinds.ps μ-type-args t) type-args.Pre
 
-abbrev type-args-below : ℕ → In 2 type-args-kinds.ps
+abbrev type-args-below : ℕ → In 3 type-args-kinds.ps
 type-args-below t =
-    and 2 type-args-kinds.ps (falls 2 type-args-kinds.ps _<_ μ-type-args t) type-args.Pre
+    and 3 type-args-kinds.ps (falls 3 type-args-kinds.ps _<_ μ-type-args t) type-args.Pre
 
-abbrev type-term-at : ℕ → In 2 type-term-kinds.ps
-type-term-at t = and 2 type-term-kinds.ps (is 2 type-term-kinds.ps μ-type-term t) type-term.Pre
+abbrev type-term-at : ℕ → In 3 type-term-kinds.ps
+type-term-at t = and 3 type-term-kinds.ps (is 3 type-term-kinds.ps μ-type-term t) type-term.Pre
 
-abbrev type-term-below : ℕ → In 2 type-term-kinds.ps
+abbrev type-term-below : ℕ → In 3 type-term-kinds.ps
 type-term-below t =
-    and 2 type-term-kinds.ps (falls 2 type-term-kinds.ps _<_ μ-type-term t) type-term.Pre
+    and 3 type-term-kinds.ps (falls 3 type-term-kinds.ps _<_ μ-type-term t) type-term.Pre
 
 pub +type-args+type-term-spec : {M : Type 1} → statement M
 +type-args+type-term-spec = close μ-type-args μ-type-term (λ t. type-args-lts.spec (

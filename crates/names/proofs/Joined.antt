@@ -1,0 +1,200 @@
+-- Laws of names of two texts, in the code's terms: t is the text, l the library behind it, w a word, k how many bytes its name may have.
+use mathlib.Core.Path.{_≡_, refl, sym, ap, _∙_}
+use mathlib.Core.Bool.{Bool, true, false, false≢true}
+use mathlib.Core.List.{List}
+use Prim.Native.Nat.{ℕ, _+_, _-_, _*_, _/_, _%_, _<_, _≤_, min}
+use native.Mathlib.Omega.{arith}
+use lib.Dec.{eqb, leb}
+use lib.ListN.{length, getD, take, drop, List·getD-append, List·getD-eq-default}
+use lib.Seq.{getD-append-add, getD-take, getD-drop, take-length}
+use borrow.Author.Needs.{needs}
+use borrow.Author.Tests.{le-leb, lt-leb, leb-true}
+use mir.Syntax.{w32}
+use mir.Val.{Fits}
+use Rattle.meaning.specs.Lists.{pick}
+use Rattle.meaning.specs.Names.{same, not-after}
+use Rattle.names.specs.Word.{name-of, compared}
+use Rattle.names.specs.Joint.{joint, have-room, both-behind, joint-length, name-in-library, name-in-text}
+use Rattle.names.proofs.Auto.{told}
+use Rattle.names.proofs.Compared.{same-words, not-after-told, same-lengths, same-on, same-off, same-end, compared-long, compared-short, compared-end, compared-less, compared-more, compared-on}
+use Rattle.names.proofs.Places.{size-of, name-between, name-size}
+
+-- ---- wherever they lie, byte by byte
+
+module _ (l t : List ℕ) where
+  pub byte-left : (i : ℕ) → i < length t → getD t i 0 ≡ getD (joint l t) i 0
+  unfolding joint
+  byte-left i h = sym (List·getD-append t l 0 i h)
+
+  pub byte-right : (i r : ℕ) → length t ≤ i → r ≡ getD l (i - length t) 0 → r ≡ getD (joint l t) i 0
+  unfolding joint
+  byte-right i r h e =
+      let place : length t + (i - length t) ≡ i = omega arith in
+      e ∙ sym (getD-append-add t l (i - length t) 0) ∙ ap (λ (j : ℕ). getD (joint l t) j 0) place
+
+  module _ (w k : ℕ) (e : k ≡ min (w % 64) 40) where
+    pub joined-size : (s r : ℕ) → s ≡ min (w / 64) (length t + length l) → r ≡ min k (length t + length l - s) → r ≡ length (name-of (joint l t) w)
+    joined-size s r f g = omega (arith, size-of (joint l t) w, joint-length l t)
+
+    pub joined-byte : (i r : ℕ) → i < k → r ≡ getD (joint l t) (w / 64 + i) 0 → r ≡ getD (name-of (joint l t) w) i 0
+    unfolding name-of
+    joined-byte i r h f =
+        let short : i < min (w % 64) 40 = omega arith in
+        f ∙ sym (getD-drop (w / 64) (joint l t) i 0) ∙ sym (getD-take (min (w % 64) 40) (drop (w / 64) (joint l t)) i 0 short)
+
+    pub joined-past : (i : ℕ) → k ≤ i → 0 ≡ getD (name-of (joint l t) w) i 0
+    joined-past i h = sym (List·getD-eq-default (name-of (joint l t) w) 0 (omega (arith, size-of (joint l t) w)))
+
+-- two names, of n and m bytes, byte by byte: p and q are their bytes at i
+module _ (a b : List ℕ) (i n m : ℕ) (e : n ≡ length a) (f : m ≡ length b) where
+  pub across-long : i < n → m ≤ i → compared (drop i a) (drop i b) ≡ 2
+  across-long h k = compared-long a b i (omega arith) (omega arith)
+
+  pub across-short : n ≤ i → i < m → compared (drop i a) (drop i b) ≡ 0
+  across-short h k = compared-short a b i (omega arith) (omega arith)
+
+  pub across-end : n ≤ i → m ≤ i → compared (drop i a) (drop i b) ≡ 1
+  across-end h k = compared-end a b i (omega arith) (omega arith)
+
+  module _ (h : i < n) (k : i < m) (p q : ℕ) (x : p ≡ getD a i 0) (y : q ≡ getD b i 0) where
+    pub across-less : p < q → compared (drop i a) (drop i b) ≡ 0
+    across-less z = compared-less a b i (omega arith) (omega arith) (omega arith)
+
+    pub across-more : q < p → compared (drop i a) (drop i b) ≡ 2
+    across-more z = compared-more a b i (omega arith) (omega arith) (omega arith)
+
+    pub across-on : q ≤ p → p ≤ q → compared (drop i a) (drop i b) ≡ compared (drop (i + 1) a) (drop (i + 1) b)
+    across-on z v = compared-on a b i (omega arith) (omega arith) (omega arith) (omega arith)
+
+-- a name of n bytes and the bytes b
+module _ (a b : List ℕ) (n : ℕ) (e : n ≡ length a) where
+  pub called-not : (n ≡ length b → ⊥) → false ≡ same a b
+  called-not h = same-lengths a b (λ q. h (e ∙ q))
+
+  module _ (i : ℕ) (f : n ≡ length b) where
+    pub called-off : (p : ℕ) → i < n → p ≡ getD a i 0 → (p ≡ getD b i 0 → ⊥) → same (drop i a) (drop i b) ≡ false
+    called-off p h x z = same-off a b i (omega arith) (omega arith) (λ q. z (x ∙ q))
+
+    pub called-on : (p : ℕ) → i < n → p ≡ getD a i 0 → p ≡ getD b i 0 → same (drop i a) (drop i b) ≡ same (drop (i + 1) a) (drop (i + 1) b)
+    called-on p h x z = same-on a b i (omega arith) (omega arith) (sym x ∙ z)
+
+    pub called-end : n ≤ i → same (drop i a) (drop i b) ≡ true
+    called-end h = same-end a b i (omega arith) (omega arith)
+
+same-told : (x y : List ℕ) (k : ℕ) → k ≡ compared x y → eqb k 1 ≡ same x y
+unfolding compared pick
+same-told x y k h = rw h (go (same x y) (not-after x y))
+  where
+    go : (s n : Bool) → eqb (pick s 1 (pick n 0 2)) 1 ≡ s
+    go true n = refl
+    go false true = refl
+    go false false = refl
+
+-- ---- where they stand
+
+first-true : (p q : Bool) → pick p q false ≡ true → p ≡ true
+unfolding pick
+first-true true q h = refl
+first-true false q h = h
+
+second-true : (p q : Bool) → pick p q false ≡ true → q ≡ true
+unfolding pick
+second-true true q h = h
+second-true false q h = absurd (false≢true h)
+
+module _ (n a b : ℕ) where
+  pub room-both : (r : Bool) → a / 64 + 40 ≤ n → r ≡ leb (b / 64 + 40) n → r ≡ have-room n a b
+  unfolding have-room pick
+  room-both r h e = rw (le-leb (a / 64 + 40) n h) e
+
+  pub room-not : n < a / 64 + 40 → false ≡ have-room n a b
+  unfolding have-room pick
+  room-not h = rw (lt-leb (a / 64 + 40) n h)
+
+  pub behind-both : (r : Bool) → n ≤ a / 64 → r ≡ leb n (b / 64) → r ≡ both-behind n a b
+  unfolding both-behind pick
+  behind-both r h e = rw (le-leb n (a / 64) h) e
+
+  pub behind-not : a / 64 < n → false ≡ both-behind n a b
+  unfolding both-behind pick
+  behind-not h = rw (lt-leb n (a / 64) h)
+
+  -- what the two tests tell of each of the names
+  module _ (q : Bool) (y : q ≡ true) where
+    pub first-within : q ≡ have-room n a b → (k : ℕ) → k ≡ min (a % 64) 40 → a / 64 + k ≤ n
+    unfolding have-room
+    first-within e k f = omega (arith, leb-true (a / 64 + 40) n (first-true _ _ (sym e ∙ y)))
+
+    pub second-within : q ≡ have-room n a b → (k : ℕ) → k ≡ min (b % 64) 40 → b / 64 + k ≤ n
+    unfolding have-room
+    second-within e k f = omega (arith, leb-true (b / 64 + 40) n (second-true _ _ (sym e ∙ y)))
+
+    pub first-behind : q ≡ both-behind n a b → n * 64 ≤ a
+    unfolding both-behind
+    first-behind e = omega (arith, leb-true n (a / 64) (first-true _ _ (sym e ∙ y)))
+
+    pub behind-fits : q ≡ both-behind n a b → Fits w32 a → Fits w32 n
+    behind-fits e h = omega (arith, h, first-behind e)
+
+    pub moved-fits : q ≡ both-behind n a b → Fits w32 a → Fits w32 (n * 64)
+    moved-fits e h = omega (arith, h, first-behind e)
+
+    pub second-behind : q ≡ both-behind n a b → n * 64 ≤ b
+    unfolding both-behind
+    second-behind e = omega (arith, leb-true n (b / 64) (second-true _ _ (sym e ∙ y)))
+
+module _ (l t : List ℕ) where
+  text-part : (w k : ℕ) → k ≡ min (w % 64) 40 → w / 64 + k ≤ length t → take (w / 64 + k - w / 64) (drop (w / 64) t) ≡ name-of (joint l t) w
+  unfolding name-of
+  text-part w k e h =
+      let size : w / 64 + k - w / 64 ≡ min (w % 64) 40 = omega arith in
+      rw size (sym (name-in-text l t w (omega arith)))
+
+  library-name : (w : ℕ) → length t * 64 ≤ w → name-of l (w - length t * 64) ≡ name-of (joint l t) w
+  library-name w h = sym (name-in-library l t w (omega arith))
+
+  module _ (a b : ℕ) (q : Bool) (y : q ≡ true) where
+    module _ (e : q ≡ have-room (length t) a b) (j k : ℕ) (f : j ≡ min (a % 64) 40) (g : k ≡ min (b % 64) 40) where
+      first-part : take (a / 64 + j - a / 64) (drop (a / 64) t) ≡ name-of (joint l t) a
+      first-part = text-part a j f (first-within (length t) a b q y e j f)
+
+      second-part : take (b / 64 + k - b / 64) (drop (b / 64) t) ≡ name-of (joint l t) b
+      second-part = text-part b k g (second-within (length t) a b q y e k g)
+
+      pub here-compared : (r : ℕ) → r ≡ compared (take (a / 64 + j - a / 64) (drop (a / 64) t)) (take (b / 64 + k - b / 64) (drop (b / 64) t))
+          → r ≡ compared (name-of (joint l t) a) (name-of (joint l t) b)
+      here-compared r h = rw (first-part, second-part) at h
+
+      pub here-same : (r : Bool) → r ≡ same (take (a / 64 + j - a / 64) (drop (a / 64) t)) (take (b / 64 + k - b / 64) (drop (b / 64) t))
+          → r ≡ same (name-of (joint l t) a) (name-of (joint l t) b)
+      here-same r h = rw (first-part, second-part) at h
+
+    pub there-compared : q ≡ both-behind (length t) a b → (r : ℕ) → r ≡ compared (name-of l (a - length t * 64)) (name-of l (b - length t * 64))
+        → r ≡ compared (name-of (joint l t) a) (name-of (joint l t) b)
+    there-compared e r h =
+        rw (library-name a (first-behind (length t) a b q y e), library-name b (second-behind (length t) a b q y e)) at h
+
+  -- the texts handed on as parts that are all of them
+  whole : (s : List ℕ) → take (length s - 0) (drop 0 s) ≡ s
+  whole s = let n : length s - 0 ≡ length s = omega arith in rw n (take-length s)
+
+  module _ (a b r : ℕ)
+      (e : r ≡ compared (name-of (joint (take (length l - 0) (drop 0 l)) (take (length t - 0) (drop 0 t))) a)
+      (name-of (joint (take (length l - 0) (drop 0 l)) (take (length t - 0) (drop 0 t))) b)) where
+    pub elsewhere-compared : r ≡ compared (name-of (joint l t) a) (name-of (joint l t) b)
+    elsewhere-compared = rw (whole l, whole t) at e
+
+    pub elsewhere-same : eqb r 1 ≡ same (name-of (joint l t) a) (name-of (joint l t) b)
+    elsewhere-same = same-told (name-of (joint l t) a) (name-of (joint l t) b) r elsewhere-compared
+
+-- ---- a name of each
+
+-- s is where the name v of the library starts, and k its length
+pub between : (text library : List ℕ) (v w s room k : ℕ) (r : Bool) → s ≡ min (v / 64) (length library) → room ≡ min (v % 64) 40
+    → k ≡ min room (length library - s) → r ≡ same (name-of text w) (take (s + k - s) (drop s library))
+    → r ≡ same (name-of text w) (name-of library v)
+between text library v w s room k r e f g h =
+    h ∙ ap (same (name-of text w)) (name-between library v s e k (name-size library v s e room k f g))
+
+-- what the answers for these functions hand to `search`
+pub ruleset cases = (byte-left, byte-right, joined-size, joined-byte, joined-past, across-long, across-short, across-end, across-less, across-more, across-on, called-not, called-off, called-on, called-end, room-both, room-not, behind-both, behind-not, first-within, second-within, first-behind, behind-fits, moved-fits, second-behind, here-compared, here-same, there-compared, elsewhere-compared, elsewhere-same, between, same-words, not-after-told, told, needs)

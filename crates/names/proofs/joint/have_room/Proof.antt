@@ -1,0 +1,16 @@
+use Rattle.names.proofs.Joined.{cases}
+use borrow.Author.Needs.{needs}
+use Rattle.names.proofs.joint.have_room.Statement.{statement}
+use Rattle.names.proofs.joint.have_room.Tie as tie
+
+pub have-room-spec : {M : Type 1} → statement M
+have-room-spec =
+    tie.close
+    (tie.spec
+    (λ c. search needs)  -- cast-if1
+    (λ c. search needs)  -- add-if1
+    (λ c. search needs)  -- cast-result
+    (λ c. search needs)  -- add-result
+    (λ c. search cases)  -- returns
+    (λ c. search cases)  -- returns-2
+    )

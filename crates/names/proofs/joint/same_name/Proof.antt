@@ -1,0 +1,34 @@
+use Rattle.names.proofs.Joined.{cases}
+use borrow.Author.Needs.{needs}
+use Rattle.names.proofs.joint.same_name.Statement.{statement}
+use Rattle.names.proofs.joint.same_name.Tie as tie
+
+pub same-name-spec : {M : Type 1} → statement M
+same-name-spec =
+    tie.close
+    (tie.spec
+    (λ c. search cases)  -- returns
+    (λ c κs. search needs)  -- have-room-requires
+    (λ c. search needs)  -- cast-x
+    (λ c. search needs)  -- cast-y
+    (λ c κs. search needs)  -- name-room-requires
+    (λ c. search needs)  -- add-n
+    (λ c κs. search needs)  -- name-room-requires-2
+    (λ c. search needs)  -- add-m
+    (λ c. search needs)  -- sub-same-bytes
+    (λ c. search needs)  -- part-same-bytes-start
+    (λ c. search cases)  -- part-same-bytes-end
+    (λ c. search needs)  -- sub-same-bytes-2
+    (λ c. search needs)  -- part-same-bytes-start-2
+    (λ c. search cases)  -- part-same-bytes-end-2
+    (λ c κs. search needs)  -- same-bytes-requires
+    (λ c. search cases)  -- returns-2
+    (λ c. search needs)  -- sub-compare-elsewhere
+    (λ c. search needs)  -- part-compare-elsewhere-start
+    (λ c. search needs)  -- part-compare-elsewhere-end
+    (λ c. search needs)  -- sub-compare-elsewhere-2
+    (λ c. search needs)  -- part-compare-elsewhere-start-2
+    (λ c. search needs)  -- part-compare-elsewhere-end-2
+    (λ c κs. search needs)  -- compare-elsewhere-requires
+    (λ c. search cases)  -- returns-3
+    )

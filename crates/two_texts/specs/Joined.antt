@@ -1,0 +1,62 @@
+-- Entries of two texts on one tape: those of the library are what they were, and those of the customer's text are so once they are moved.
+use mathlib.Core.Path.{_≡_, refl, sym, ap, _∙_}
+use Prim.Native.Nat.{ℕ, _+_, _-_, _*_, _/_, _%_, _^_, _<_, _≤_, min}
+use native.Mathlib.Omega.{arith}
+use mathlib.Core.List.{List, [], _∷_, _++_, map, append-assoc}
+use lib.ListN.{length, take, drop, length-append}
+use lib.Seq.{take-append-add, take-append-le, length-take-le}
+use Rattle.meaning.specs.OrderLaws.{Every}
+use Rattle.meaning.specs.Lists.{each}
+use Rattle.meaning.specs.Syntax.{Module}
+use Rattle.names.specs.Word.{name-of}
+use Rattle.names.specs.Joint.{joint, name-in-library, name-in-text}
+use Rattle.tape.specs.Tape.{Entry, entry, spelled, flat-module, flat-modules}
+use Rattle.meant.specs.Matches.{Lies}
+use Rattle.two_texts.specs.Both.{shifted}
+
+-- a place of a text that is read, and how far it is moved
+low : (e l by : ℕ) → e / 32 / 64 ≤ l → l ≤ 32768 → by ≤ 67108864 → e + by < 2 ^ 32
+low e l by h k b = omega arith
+
+small : (a : ℕ) → a < 2 ^ 32 → a % 2 ^ 32 ≡ a
+small a h = omega arith
+
+module _ (library text : List ℕ) where
+  pub in-library : (e : ℕ) → Lies library e → spelled (joint library text) e ≡ spelled library e
+  unfolding spelled
+  in-library e h = ap (entry (e % 32)) (name-in-library library text (e / 32) h)
+
+  pub all-in-library : (es : List ℕ) → Every (Lies library) es → map (spelled (joint library text)) es ≡ map (spelled library) es
+  all-in-library [] h = refl
+  all-in-library (e ∷ es) h = λ i. in-library e (h .0) i ∷ all-in-library es (h .1) i
+
+  -- an entry moved by the library's length: its role, and its word
+  role-kept : (e l : ℕ) → (e + l * 2048) % 32 ≡ e % 32
+  role-kept e l = omega arith
+
+  word-moved : (e l : ℕ) → (e + l * 2048) / 32 ≡ e / 32 + l * 64
+  word-moved e l = omega arith
+
+  in-text : (e : ℕ) → Lies text e → length library ≤ 32768 → length text ≤ 32768
+      → spelled (joint library text) (shifted (length library * 2048) e) ≡ spelled text e
+  unfolding spelled shifted
+  in-text e h l k =
+      let w = e / 32 in
+      let n = length library in
+      let bound : e / 32 / 64 ≤ length text = omega (arith, h) in
+      let fits : e + n * 2048 < 2 ^ 32 = low e (length text) (n * 2048) bound k (omega arith) in
+      let plain : (e + n * 2048) % 2 ^ 32 ≡ e + n * 2048 = small (e + n * 2048) fits in
+      let behind : n ≤ (w + n * 64) / 64 = omega arith in
+      let back : w + n * 64 - n * 64 ≡ w = omega arith in
+      rw (plain, role-kept e n, word-moved e n)
+      (ap (entry (e % 32)) (name-in-text library text (w + n * 64) behind ∙ ap (name-of text) back))
+
+  pub all-in-text : (es : List ℕ) → Every (Lies text) es → length library ≤ 32768 → length text ≤ 32768
+      → map (spelled (joint library text)) (map (shifted (length library * 2048)) es) ≡ map (spelled text) es
+  all-in-text [] h l k = refl
+  all-in-text (e ∷ es) h l k = λ i. in-text e (h .0) l k i ∷ all-in-text es (h .1) l k i
+
+pub flat-both : (ls ms : List Module) → flat-modules ls ++ flat-modules ms ≡ flat-modules (ls ++ ms)
+unfolding flat-modules each
+flat-both [] ms = refl
+flat-both (l ∷ ls) ms = append-assoc (flat-module l) (flat-modules ls) (flat-modules ms) ∙ ap (λ (es : List Entry). flat-module l ++ es) (flat-both ls ms)
