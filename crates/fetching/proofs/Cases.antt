@@ -1,7 +1,7 @@
 -- One law for each way through the code.
 use mathlib.Core.Path.{_≡_, refl, sym, ap, subst, _∙_}
-use mathlib.Core.Bool.{Bool, true, false}
-use mathlib.Core.List.{List, []}
+use mathlib.Core.Bool.{Bool, true, false, false≢true}
+use mathlib.Core.List.{List}
 use Prim.Native.Nat.{ℕ, zero, suc, _-_, _<_, _≤_}
 use native.Mathlib.Nat.{not-suc-le-zero}
 use native.Mathlib.Numerals.{sub-one}
@@ -11,12 +11,13 @@ use lib.ListN.{length, take, drop}
 use borrow.Author.Needs.{needs}
 use borrow.Author.Tests.{eq-eqb, ne-eqb}
 use Rattle.types.specs.declared.Token.{Token}
+use Rattle.types.specs.declared.Part.{Part}
 use Rattle.meaning.specs.Laws.{by-cases}
 use Rattle.meaning.specs.Lists.{pick}
 use Rattle.meaning.specs.Names.{Name, slice, same}
 use Rattle.meaning.specs.Numbers.{text-size}
-use Rattle.meaning.specs.Tokens.{token-at}
-use Rattle.meaning.specs.Texts.{two-texts, ends-part, part-end, part-from, part-of, fetched}
+use Rattle.meaning.specs.Tokens.{module-key, token-at}
+use Rattle.meaning.specs.Texts.{two-texts, ends-part, part-end, part, no-part, part-from, part-of, fetched, part-bytes}
 use Rattle.tokens.proofs.Bounds.{token-after, token-forward, token-within}
 
 -- ---- where a part ends
@@ -78,25 +79,25 @@ part-forward s (suc n) i =
 -- ---- the part of a module
 
 -- what is left to be looked at is from i on, where at most l modules stand
-pub record Looking (s w : List ℕ) (i l : ℕ) : Type 0 where
+pub record Looking (s : List ℕ) (b : Bool) (w : Name) (i l : ℕ) : Type 0 where
   pub within : i ≤ length s
-  pub same-part : part-of s w ≡ part-from s w l i
+  pub same-part : part-of s b w ≡ part-from s b w l i
 
-pub looking-first : (s w : List ℕ) → Looking s w 0 64
+pub looking-first : (s : List ℕ) (b : Bool) (w : Name) → Looking s b w 0 64
 unfolding part-of
-looking-first s w = record { within = omega arith; same-part = refl }
+looking-first s b w = record { within = omega arith; same-part = refl }
 
-module _ (s w : List ℕ) (l i : ℕ) (v : Looking s w i l) where
+module _ (s : List ℕ) (b : Bool) (w : Name) (l i : ℕ) (v : Looking s b w i l) where
   module _ (z : 0 < l) (t : Token) (f : t ≡ token-at s i) where
-    pub not-there : (t .kind ≡ 137 → ⊥) → [] ≡ part-of s w
+    pub not-there : (r : Part) → (t .kind ≡ 137 → ⊥) → r ≡ no-part → r ≡ part-of s b w
     unfolding part-from pick
-    not-there n = sym (v .same-part ∙ go l z)
+    not-there r n x = x ∙ sym (v .same-part ∙ go l z)
       where
-        go : (l : ℕ) → 0 < l → part-from s w l i ≡ []
+        go : (l : ℕ) → 0 < l → part-from s b w l i ≡ no-part
         go zero z = absurd (not-suc-le-zero z)
         go (suc k) z = rw (← f, ne-eqb (t .kind) 137 n)
 
-    module _ (k : t .kind ≡ 137) (u : Token) (g : u ≡ token-at s (t .end)) (e : ℕ) (h : e ≡ part-end s 32768 (u .end)) where
+    module _ (k : t .kind ≡ 137) (u : Token) (g : u ≡ token-at s (t .end)) where
       first-within : t .end ≤ length s
       first-within = token-within s i t f (v .within)
 
@@ -106,47 +107,121 @@ module _ (s w : List ℕ) (l i : ℕ) (v : Looking s w i l) where
       pub name-within : u .end ≤ length s
       name-within = token-within s (t .end) u g first-within
 
-      pub part-ends : e ≤ length s
-      part-ends = rw h (part-within s 32768 (u .end) name-within)
+      module _ (e : ℕ) (h : e ≡ part-end s 32768 (u .end)) (q : Bool) (x : q ≡ same w (take (u .end - u .start) (drop (u .start) s))) where
+        pub found : q ≡ true → _≡_ {A = Part} (record { marked = b; start = t .start; end = e }) (part-of s b w)
+        unfolding part part-from pick text-size
+        found y = sym (v .same-part ∙ go l z)
+          where
+            go : (l : ℕ) → 0 < l → part-from s b w l i ≡ part b (t .start) e
+            go zero z = absurd (not-suc-le-zero z)
+            go (suc n) z = rw (← f, eq-eqb (t .kind) 137 k, ← g, ← h, ← x, y)
 
-      pub part-starts : t .start ≤ e
-      part-starts =
-          omega (arith, h, part-forward s 32768 (u .end), token-forward s i t f, token-after s (t .end) u g, name-forward)
+        pub looking-on : q ≡ false → Looking s b w e (l - 1)
+        unfolding part-from pick text-size
+        looking-on y = record { within = rw h (part-within s 32768 (u .end) name-within); same-part = v .same-part ∙ go l z }
+          where
+            go : (l : ℕ) → 0 < l → part-from s b w l i ≡ part-from s b w (l - 1) e
+            go zero z = absurd (not-suc-le-zero z)
+            go (suc n) z = rw (sub-one, ← f, eq-eqb (t .kind) 137 k, ← g, ← h, ← x, y)
 
-      pub found : (b : Bool) → b ≡ same w (take (u .end - u .start) (drop (u .start) s)) → b ≡ true
-          → take (e - t .start) (drop (t .start) s) ≡ part-of s w
-      unfolding part-from pick text-size
-      found b q y = sym (v .same-part ∙ go l z)
-        where
-          go : (l : ℕ) → 0 < l → part-from s w l i ≡ take (e - t .start) (drop (t .start) s)
-          go zero z = absurd (not-suc-le-zero z)
-          go (suc n) z = rw (← f, eq-eqb (t .kind) 137 k, ← g, ← h, ← q, y)
-
-      pub looking-on : (b : Bool) → b ≡ same w (take (u .end - u .start) (drop (u .start) s)) → b ≡ false → Looking s w e (l - 1)
-      unfolding part-from pick text-size
-      looking-on b q y = record { within = part-ends; same-part = v .same-part ∙ go l z }
-        where
-          go : (l : ℕ) → 0 < l → part-from s w l i ≡ part-from s w (l - 1) e
-          go zero z = absurd (not-suc-le-zero z)
-          go (suc n) z = rw (sub-one, ← f, eq-eqb (t .kind) 137 k, ← g, ← h, ← q, y)
-
-  pub none-left : l ≤ 0 → [] ≡ part-of s w
+  pub none-left : (r : Part) → l ≤ 0 → r ≡ no-part → r ≡ part-of s b w
   unfolding part-from
-  none-left z = sym (v .same-part ∙ go l z)
+  none-left r z x = x ∙ sym (v .same-part ∙ go l z)
     where
-      go : (l : ℕ) → l ≤ 0 → part-from s w l i ≡ []
+      go : (l : ℕ) → l ≤ 0 → part-from s b w l i ≡ no-part
       go zero z = refl
       go (suc n) z = absurd (not-suc-le-zero z)
 
+pub nothing : _≡_ {A = Part} (record { marked = false; start = 0; end = 0 }) no-part
+unfolding part
+nothing = refl
+
 -- ---- of either text
 
-module _ (library text w l : List ℕ) (e : l ≡ part-of library w) where
-  pub of-text : (r : List ℕ) → length l ≡ 0 → r ≡ part-of text w → r ≡ fetched (two-texts library text) w
+module _ (library text : List ℕ) (w : Name) (l : Part) (e : l ≡ part-of library true w) where
+  pub of-library : l .marked ≡ true → l ≡ fetched (two-texts library text) w
   unfolding fetched two-texts pick
-  of-text r z q = rw (← e, eq-eqb (length l) 0 z) q
+  of-library y = rw (← e, y)
 
-  pub of-library : (length l ≡ 0 → ⊥) → l ≡ fetched (two-texts library text) w
+  pub of-text : (r : Part) → l .marked ≡ false → r ≡ part-of text false w → r ≡ fetched (two-texts library text) w
   unfolding fetched two-texts pick
-  of-library z = rw (← e, ne-eqb (length l) 0 z)
+  of-text r y q = rw (← e, y) q
 
-pub ruleset cases = (ends-module, ends-text, ends-bad, part-on, part-stop, part-spent, looking-first, not-there, name-forward, name-within, part-ends, part-starts, found, looking-on, none-left, of-text, of-library, needs)
+-- ---- a part lies within its text
+
+record Within (s : List ℕ) (p : Part) : Type 0 where
+  pub forward : p .start ≤ p .end
+  pub inside : p .end ≤ length s
+
+none-within : (s : List ℕ) → Within s no-part
+unfolding part
+none-within s = record { forward = omega arith; inside = omega arith }
+
+from-within : (s : List ℕ) (b : Bool) (w : Name) (n i : ℕ) → i ≤ length s → Within s (part-from s b w n i)
+unfolding part-from part
+from-within s b w zero i h = none-within s
+from-within s b w (suc n) i h =
+    let t = token-at s i in
+    let u = token-at s (t .end) in
+    let e = part-end s text-size (u .end) in
+    let past = token-within s (t .end) u refl (token-within s i t refl h) in
+    let ends = part-within s text-size (u .end) past in
+    let starts : t .start ≤ e = omega (arith, part-forward s text-size (u .end), token-forward s i t refl, token-after s (t .end) u refl, token-forward s (t .end) u refl) in
+    by-cases (Within s) (eqb (t .kind) module-key) _ _
+    (λ y. by-cases (Within s) (same w (slice s (u .start) (u .end))) _ _ (λ z. record { forward = starts; inside = ends }) (λ z. from-within s b w n e ends))
+    (λ y. none-within s)
+
+unmarked : (s : List ℕ) (w : Name) (n i : ℕ) → part-from s false w n i .marked ≡ false
+unfolding part-from part
+unmarked s w zero i = refl
+unmarked s w (suc n) i =
+    let t = token-at s i in
+    let u = token-at s (t .end) in
+    by-cases (λ (p : Part). p .marked ≡ false) (eqb (t .kind) module-key) _ _
+    (λ y. by-cases (λ (p : Part). p .marked ≡ false) (same w (slice s (u .start) (u .end))) _ _ (λ z. refl)
+    (λ z. unmarked s w n (part-end s text-size (u .end)))) (λ y. refl)
+
+module _ (library text : List ℕ) (w : Name) (p : Part) (e : p ≡ fetched (two-texts library text) w) where
+  chosen : (b : Bool) → part-of library true w .marked ≡ b → p ≡ pick b (part-of library true w) (part-of text false w)
+  unfolding fetched two-texts
+  chosen b y = e ∙ rw y
+
+  lies-in-library : p .marked ≡ true → Within library p
+  unfolding part-of pick
+  lies-in-library y = go (part-of library true w .marked) refl
+    where
+      go : (b : Bool) → part-of library true w .marked ≡ b → Within library p
+      go true q = subst (Within library) (sym (chosen true q)) (from-within library true w 64 0 (omega arith))
+      go false q = absurd (false≢true (sym (ap (λ (r : Part). r .marked) (chosen false q) ∙ unmarked text w 64 0) ∙ y))
+
+  lies-in-text : p .marked ≡ false → Within text p
+  unfolding part-of pick
+  lies-in-text y = go (part-of library true w .marked) refl
+    where
+      go : (b : Bool) → part-of library true w .marked ≡ b → Within text p
+      go true q = absurd (false≢true (sym y ∙ ap (λ (r : Part). r .marked) (chosen true q) ∙ q))
+      go false q = subst (Within text) (sym (chosen false q)) (from-within text false w 64 0 (omega arith))
+
+  module _ (y : p .marked ≡ true) where
+    pub library-forward : p .start ≤ p .end
+    library-forward = lies-in-library y .forward
+
+    pub library-ends : p .end ≤ length library
+    library-ends = lies-in-library y .inside
+
+    pub library-bytes : take (p .end - p .start) (drop (p .start) library) ≡ part-bytes (two-texts library text) (fetched (two-texts library text) w)
+    unfolding part-bytes two-texts pick
+    library-bytes = rw (← e, y)
+
+  module _ (y : p .marked ≡ false) where
+    pub text-forward : p .start ≤ p .end
+    text-forward = lies-in-text y .forward
+
+    pub text-ends : p .end ≤ length text
+    text-ends = lies-in-text y .inside
+
+    pub text-bytes : take (p .end - p .start) (drop (p .start) text) ≡ part-bytes (two-texts library text) (fetched (two-texts library text) w)
+    unfolding part-bytes two-texts pick
+    text-bytes = rw (← e, y)
+
+pub ruleset cases = (ends-module, ends-text, ends-bad, part-on, part-stop, part-spent, looking-first, not-there, name-forward, name-within, found, looking-on, none-left, nothing, of-library, of-text, library-forward, library-ends, library-bytes, text-forward, text-ends, text-bytes, needs)

@@ -1,6 +1,7 @@
 // A module's text: the part of whichever of the two lent texts declares it. Nothing is copied.
+use types::Part;
 ghost use mathlib.Core.Path.{_≡_};
-ghost use Rattle.meaning.specs.Texts.{two-texts, ends-part, part-end, part-of, fetched};
+ghost use Rattle.meaning.specs.Texts.{two-texts, ends-part, part-end, no-part, part-of, fetched, part-bytes};
 
 // Does no module go on at a token of this kind?
 fn ends_part(kind: u8) -> bool
@@ -33,9 +34,19 @@ fn part_end(text: &[u8], at: usize) -> usize
     i
 }
 
-// The part of the text that declares the module; nothing where none is called so.
-fn part_of<'a>(text: &'a [u8], name: &[u8]) -> &'a [u8]
-    ensures { λ r. ⌜ now r ≡ part-of (now (text .entry)) (now (name .entry)) ⌝ }
+fn no_part() -> Part
+    ensures { λ r. ⌜ r ≡ no-part ⌝ }
+{
+    Part {
+        marked: false,
+        start: 0,
+        end: 0,
+    }
+}
+
+// The part of the text that declares the module, marked so; none where none is called so.
+fn part_of(text: &[u8], marked: bool, name: &[u8]) -> Part
+    ensures { λ r. ⌜ r ≡ part-of (now (text .entry)) marked (now (name .entry)) ⌝ }
 {
     let mut i = 0;
     let mut left: usize = 64;
@@ -47,26 +58,41 @@ fn part_of<'a>(text: &'a [u8], name: &[u8]) -> &'a [u8]
             let u = tokens::next_token(text, t.end);
             let from = u.start;
             let to = u.end;
-            let e = part_end(text, to);
+            let end = part_end(text, to);
             if names::same_bytes(name, &text[from..to]) {
-                return &text[start..e];
+                return Part { marked, start, end };
             }
-            i = e;
+            i = end;
             left -= 1;
         } else {
-            return &text[0..0];
+            return no_part();
         }
     }
-    &text[0..0]
+    no_part()
 }
 
-// Of the library or of the customer's text.
-pub fn fetch<'a>(library: &'a [u8], text: &'a [u8], name: &[u8]) -> &'a [u8]
-    ensures { λ r. ⌜ now r ≡ fetched (two-texts (now (library .entry)) (now (text .entry))) (now (name .entry)) ⌝ }
+// Where the module's text stands: in the library, and then it is marked, or in the customer's text.
+pub fn find(library: &[u8], text: &[u8], name: &[u8]) -> Part
+    ensures { λ r. ⌜ r ≡ fetched (two-texts (now (library .entry)) (now (text .entry))) (now (name .entry)) ⌝ }
 {
-    let l = part_of(library, name);
-    if l.len() == 0 {
-        return part_of(text, name);
+    let l = part_of(library, true, name);
+    let marked = l.marked;
+    if marked {
+        return l;
     }
-    l
+    part_of(text, false, name)
+}
+
+// The module's text itself; nothing where there is none.
+pub fn fetch<'a>(library: &'a [u8], text: &'a [u8], name: &[u8]) -> &'a [u8]
+    ensures { λ r. ⌜ now r ≡ part-bytes (two-texts (now (library .entry)) (now (text .entry))) (fetched (two-texts (now (library .entry)) (now (text .entry))) (now (name .entry))) ⌝ }
+{
+    let p = find(library, text, name);
+    let marked = p.marked;
+    let start = p.start;
+    let end = p.end;
+    if marked {
+        return &library[start..end];
+    }
+    &text[start..end]
 }

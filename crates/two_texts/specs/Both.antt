@@ -1,4 +1,5 @@
--- What two texts say on one tape: the library's entries, and behind them the customer's, whose places are moved by the library's length.
+-- What two texts say on one tape: the library's entries, whose places are moved by the length of the customer's text, and behind them the
+-- customer's.
 use mathlib.Core.Path.{_≡_}
 use Prim.Native.Nat.{ℕ, _+_, _%_, _^_, _≤_}
 use mathlib.Core.List.{List, _++_, map}

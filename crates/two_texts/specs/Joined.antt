@@ -1,4 +1,4 @@
--- Entries of two texts on one tape: those of the library are what they were, and those of the customer's text are so once they are moved.
+-- Entries of two texts on one tape: those of the customer's text are what they were, and those of the library are so once they are moved.
 use mathlib.Core.Path.{_≡_, refl, sym, ap, _∙_}
 use Prim.Native.Nat.{ℕ, _+_, _-_, _*_, _/_, _%_, _^_, _<_, _≤_, min}
 use native.Mathlib.Omega.{arith}
@@ -22,39 +22,39 @@ small : (a : ℕ) → a < 2 ^ 32 → a % 2 ^ 32 ≡ a
 small a h = omega arith
 
 module _ (library text : List ℕ) where
-  pub in-library : (e : ℕ) → Lies library e → spelled (joint library text) e ≡ spelled library e
+  pub in-text : (e : ℕ) → Lies text e → spelled (joint library text) e ≡ spelled text e
   unfolding spelled
-  in-library e h = ap (entry (e % 32)) (name-in-library library text (e / 32) h)
+  in-text e h = ap (entry (e % 32)) (name-in-text library text (e / 32) h)
 
-  pub all-in-library : (es : List ℕ) → Every (Lies library) es → map (spelled (joint library text)) es ≡ map (spelled library) es
-  all-in-library [] h = refl
-  all-in-library (e ∷ es) h = λ i. in-library e (h .0) i ∷ all-in-library es (h .1) i
+  pub all-in-text : (es : List ℕ) → Every (Lies text) es → map (spelled (joint library text)) es ≡ map (spelled text) es
+  all-in-text [] h = refl
+  all-in-text (e ∷ es) h = λ i. in-text e (h .0) i ∷ all-in-text es (h .1) i
 
-  -- an entry moved by the library's length: its role, and its word
+  -- an entry moved by the text's length: its role, and its word
   role-kept : (e l : ℕ) → (e + l * 2048) % 32 ≡ e % 32
   role-kept e l = omega arith
 
   word-moved : (e l : ℕ) → (e + l * 2048) / 32 ≡ e / 32 + l * 64
   word-moved e l = omega arith
 
-  in-text : (e : ℕ) → Lies text e → length library ≤ 32768 → length text ≤ 32768
-      → spelled (joint library text) (shifted (length library * 2048) e) ≡ spelled text e
+  in-library : (e : ℕ) → Lies library e → length text ≤ 32768 → length library ≤ 32768
+      → spelled (joint library text) (shifted (length text * 2048) e) ≡ spelled library e
   unfolding spelled shifted
-  in-text e h l k =
+  in-library e h l k =
       let w = e / 32 in
-      let n = length library in
-      let bound : e / 32 / 64 ≤ length text = omega (arith, h) in
-      let fits : e + n * 2048 < 2 ^ 32 = low e (length text) (n * 2048) bound k (omega arith) in
+      let n = length text in
+      let bound : e / 32 / 64 ≤ length library = omega (arith, h) in
+      let fits : e + n * 2048 < 2 ^ 32 = low e (length library) (n * 2048) bound k (omega arith) in
       let plain : (e + n * 2048) % 2 ^ 32 ≡ e + n * 2048 = small (e + n * 2048) fits in
       let behind : n ≤ (w + n * 64) / 64 = omega arith in
       let back : w + n * 64 - n * 64 ≡ w = omega arith in
       rw (plain, role-kept e n, word-moved e n)
-      (ap (entry (e % 32)) (name-in-text library text (w + n * 64) behind ∙ ap (name-of text) back))
+      (ap (entry (e % 32)) (name-in-library library text (w + n * 64) behind ∙ ap (name-of library) back))
 
-  pub all-in-text : (es : List ℕ) → Every (Lies text) es → length library ≤ 32768 → length text ≤ 32768
-      → map (spelled (joint library text)) (map (shifted (length library * 2048)) es) ≡ map (spelled text) es
-  all-in-text [] h l k = refl
-  all-in-text (e ∷ es) h l k = λ i. in-text e (h .0) l k i ∷ all-in-text es (h .1) l k i
+  pub all-in-library : (es : List ℕ) → Every (Lies library) es → length text ≤ 32768 → length library ≤ 32768
+      → map (spelled (joint library text)) (map (shifted (length text * 2048)) es) ≡ map (spelled library) es
+  all-in-library [] h l k = refl
+  all-in-library (e ∷ es) h l k = λ i. in-library e (h .0) l k i ∷ all-in-library es (h .1) l k i
 
 pub flat-both : (ls ms : List Module) → flat-modules ls ++ flat-modules ms ≡ flat-modules (ls ++ ms)
 unfolding flat-modules each

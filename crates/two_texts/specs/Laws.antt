@@ -8,7 +8,7 @@ use lib.Dec.{eqb}
 use lib.ListN.{length, take, drop, length-append, length-drop, length-take, length-map}
 use lib.Seq.{take-append-add, take-append-le, take-at, drop-at, take-all, take-add, length-take-le}
 use borrow.Author.Tests.{eq-eqb, ne-eqb}
-use mir.Syntax.{w64}
+use mir.Syntax.{w32, w64}
 use mir.Val.{Fits}
 use Rattle.meaning.specs.Lists.{pick, each}
 use Rattle.meaning.specs.Names.{Name}
@@ -140,45 +140,39 @@ module _ (library text : List ℕ) (n : ℕ) (t : List ℕ) (s : Stands library 
       front-size : length (take n t) ≡ n
       front-size = length-take-le n t (omega (arith, s .within, s .short, s .room))
 
-      mid-so : take (length t - n) (drop n between) ≡ u
-      mid-so =
-          ap (take (length t - n)) (drop-at (take n t) (u ++ drop (length t - n) (drop n t)) n front-size)
-          ∙ take-at u (drop (length t - n) (drop n t)) (length t - n) u-size
+      pub text-fits : Fits w32 (length text)
+      text-fits = omega (arith, short)
 
-      pub customer-room : m ≤ length (take (length t - n) (drop n between))
-      customer-room = rw mid-so (omega (arith, u-size, says .within, short, s .within, s .short, s .room))
+      pub places-fit : Fits w32 (length text * 2048)
+      places-fit = omega (arith, short)
 
-      pub customer-done : (v : List ℕ) → v ≡ moved (length library * 2048) m (take (length t - n) (drop n between))
-          → Said library text (n + m) (take n between ++ (v ++ drop (length t - n) (drop n between)))
+      pub customer-done : (v : List ℕ) → v ≡ moved (length text * 2048) n between → Said library text (n + m) v
       unfolding moved entries read-behind behind
       customer-done v g =
-          let by = length library * 2048 in
-          let f = map (shifted by) (take m u) in
-          let rest = drop (length t - n) (drop n between) in
-          let v-so : v ≡ f ++ drop m u = g ∙ ap (λ (x : List ℕ). map (shifted by) (take m x) ++ drop m x) mid-so in
+          let by = length text * 2048 in
+          let f = map (shifted by) (take n t) in
+          let rest = drop (length t - n) (drop n t) in
+          let v-so : v ≡ f ++ (u ++ rest) =
+          g ∙ (λ i. map (shifted by) (take-at (take n t) (u ++ rest) n front-size i) ++ drop-at (take n t) (u ++ rest) n front-size i) in
           let m-in : m ≤ length u = omega (arith, u-size, says .within, short, s .within, s .short, s .room) in
-          let f-size : length f ≡ m = length-map (take m u) (shifted by) ∙ length-take-le m u m-in in
-          let front : take n between ≡ take n t = take-at (take n t) _ n front-size in
-          let taken : take (n + m) (take n between ++ (v ++ rest)) ≡ take n t ++ f =
-          ap (λ (x : List ℕ). take (n + m) (x ++ (v ++ rest))) front
-          ∙ ap (λ (k : ℕ). take (k + m) (take n t ++ (v ++ rest))) (sym front-size)
-          ∙ take-append-add (take n t) (v ++ rest) m
-          ∙ ap (λ (x : List ℕ). take n t ++ x)
-          (take-append-le m v rest (omega (arith, ap length v-so, length-append f (drop m u), f-size))
-          ∙ ap (take m) v-so ∙ take-at f (drop m u) m f-size) in
+          let f-size : length f ≡ n = length-map (take n t) (shifted by) ∙ front-size in
+          let taken : take (n + m) v ≡ f ++ take m u =
+          ap (take (n + m)) v-so
+          ∙ ap (λ (k : ℕ). take (k + m) (f ++ (u ++ rest))) (sym f-size)
+          ∙ take-append-add f (u ++ rest) m
+          ∙ ap (λ (x : List ℕ). f ++ x) (take-append-le m u rest m-in) in
           record {
             modules = ls ++ meant .modules;
             read-so = s .next ∙ ap (behind ls) (meant .read);
             said =
                 ap (map (spelled (joint library text))) taken
-                ∙ map-app (spelled (joint library text)) (take n t) f
-                ∙ (λ i. all-in-library library text (take n t) (s .inside) i ++ all-in-text library text (take m u) (says .inside) (s .short) short i)
+                ∙ map-app (spelled (joint library text)) f (take m u)
+                ∙ (λ i. all-in-library library text (take n t) (s .inside) short (s .short) i ++ all-in-text library text (take m u) (says .inside) i)
                 ∙ (λ i. s .said i ++ says .said i)
                 ∙ flat-both ls (meant .modules);
             within = customer-small;
             room =
-                let v-size : length v ≡ length u = ap length v-so ∙ length-append f (drop m u) ∙ omega (arith, f-size, length-drop m u, m-in) in
-                omega (arith, s .room, s .within, s .short, ap length front, front-size, length-append (take n between) (v ++ rest), length-append v rest, v-size, u-size);
+                omega (arith, s .room, s .within, s .short, ap length v-so, length-append f (u ++ rest), length-append u rest, f-size, u-size, length-drop n t);
             small =
                 every-append Small ls (meant .modules) (all-small library n t ls (omega (arith, front-size, length-take n t)) (s .said) (omega (arith, s .within, s .short)))
                 (all-small text m u (meant .modules) m-in (says .said) (omega (arith, says .within, short)));

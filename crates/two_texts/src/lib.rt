@@ -1,4 +1,4 @@
-// Two texts on one tape: what the library says, and behind it what the customer's text says, its places moved by the library's length.
+// Two texts on one tape: what the library says, its places moved by the length of the customer's text, and behind it what that text says.
 use entries::Reading;
 use modules::Heads;
 use modules::find_heads;
@@ -75,7 +75,7 @@ fn read_customer(library: &[u8], text: &[u8], tape: &mut [u32], n: usize) -> Bot
         },
         Reading::Done(p) => {
             let m = p.entries;
-            move_entries(&mut tape[n..end], m, library.len() as u32 * 2048);
+            move_entries(tape, n, text.len() as u32 * 2048);
             Both::Done(n + m)
         }
     }

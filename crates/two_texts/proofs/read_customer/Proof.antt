@@ -1,7 +1,7 @@
 -- `two_texts::read_customer` meets its contract.
 -- Assumes nothing.
 use borrow.Author.Needs.{needs}
-use Rattle.two_texts.specs.Laws.{customer-refused, customer-fits, customer-room, customer-done}
+use Rattle.two_texts.specs.Laws.{customer-refused, customer-fits, text-fits, places-fit, customer-done}
 use Rattle.two_texts.proofs.read_customer.Statement.{statement}
 use Rattle.two_texts.proofs.read_customer.Tie as tie
 
@@ -24,14 +24,10 @@ read-customer-spec =
     (λ c κs. search needs)  -- read-requires
     (λ c. search needs)  -- enum-known-number
     (λ c. search needs)  -- enum-known-p
-    (λ c. search needs)  -- mul-move-entries
-    (λ c. search needs)  -- sub-move-entries
-    (λ c. search needs)  -- part-move-entries-start
-    (λ c. search needs)  -- part-move-entries-end
-    (λ c. search needs)  -- cast-move-entries
-    (λ c. search needs)  -- mul-move-entries-2
-    (λ c κs. search (customer-room, c .before .before .before .before .before .before .before .before .before .before .before .before .before .before .before .before .before .before .before .pre, c .before .before .before .before .before .before .before .before .before .before .before .before .before .before .find-heads .ensures, c .before .before .before .before .before .before .before .before .before .before .before .before .head-words .ensures, c .before .before .before .before .before .before .read .ensures, c .before .before .p .given .1, needs))  -- move-entries-requires
-    (λ c. search (customer-fits, c .before .before .before .before .before .before .before .before .before .before .before .before .before .before .before .before .before .before .before .before .before .before .pre, c .before .before .before .before .before .before .before .before .before .before .before .before .before .before .before .before .before .find-heads .ensures, c .before .before .before .before .before .before .before .before .before .before .before .before .before .before .before .head-words .ensures, c .before .before .before .before .before .before .before .before .before .read .ensures, c .before .before .before .before .before .p .given .1, needs))  -- add-t33
+    (λ c. search (text-fits, c .before .before .before .before .before .before .before .before .before .before .before .before .before .before .before .before .before .before .before .pre, c .before .before .before .before .before .before .before .before .before .before .before .before .before .before .find-heads .ensures, c .before .before .before .before .before .before .before .before .before .before .before .before .head-words .ensures, c .before .before .before .before .before .before .read .ensures, c .before .before .p .given .1, needs))  -- cast-move-entries
+    (λ c. search (places-fit, c .before .before .before .before .before .before .before .before .before .before .before .before .before .before .before .before .before .before .before .pre, c .before .before .before .before .before .before .before .before .before .before .before .before .before .before .find-heads .ensures, c .before .before .before .before .before .before .before .before .before .before .before .before .head-words .ensures, c .before .before .before .before .before .before .read .ensures, c .before .before .p .given .1, needs))  -- mul-move-entries
+    (λ c κs. search needs)  -- move-entries-requires
+    (λ c. search (customer-fits, c .before .before .before .before .before .before .before .before .before .before .before .before .before .before .before .before .before .before .before .before .before .before .pre, c .before .before .before .before .before .before .before .before .before .before .before .before .before .before .before .before .before .find-heads .ensures, c .before .before .before .before .before .before .before .before .before .before .before .before .before .before .before .head-words .ensures, c .before .before .before .before .before .before .before .before .before .read .ensures, c .before .before .before .before .before .p .given .1, needs))  -- add-t35
     (λ c. search needs)  -- same-length
     (λ c. search (customer-refused, c .before .before .before .before .before .before .before .before .before .before .before .before .before .before .before .before .before .before .pre, c .before .before .before .before .before .before .before .before .before .before .before .before .before .find-heads .ensures, c .before .before .before .before .before .before .before .before .before .before .before .head-words .ensures, c .before .before .before .before .before .read .ensures, c .before .number .given .1, needs))  -- returns
     (λ c. search needs)  -- same-length-2

@@ -1,3 +1,5 @@
+-- `names::joint::both_behind` meets its contract.
+-- Assumes nothing.
 use Rattle.names.proofs.Joined.{cases}
 use borrow.Author.Needs.{needs}
 use Rattle.names.proofs.joint.both_behind.Statement.{statement}

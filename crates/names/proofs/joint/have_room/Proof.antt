@@ -1,3 +1,5 @@
+-- `names::joint::have_room` meets its contract.
+-- Assumes nothing.
 use Rattle.names.proofs.Joined.{cases}
 use borrow.Author.Needs.{needs}
 use Rattle.names.proofs.joint.have_room.Statement.{statement}
