@@ -92,6 +92,25 @@ def spaced(size):
 tried('text-32768', spaced(32768), 0)
 tried('text-32769', spaced(32769), 4)
 
+# ---- two texts: the 64 over both. Their own sizes at the limit and beyond are among the vectors
+
+
+def divided(given, at):
+    """the input with the text's first bytes as the library"""
+    first, text = given.split('\n', 1)
+    return '%s\nlibrary=%d\n%s' % (first, at, text)
+
+
+def halved(count):
+    """so many modules, half of them in the library"""
+    given = chain(count)
+    return divided(given, given.index('module M%d ' % (count // 2)) - given.index('module M0 '))
+
+
+tried('divided-64', halved(64), 0)
+tried('divided-65', halved(65), 4)
+tried('library-shorter-than-told', 'normalise=M\nlibrary=32768\nmodule M begin end M\n', 2)
+
 # ---- the listing's size: all that the program lends, and one byte more. An equation's tag makes it longer byte by byte
 
 
@@ -144,7 +163,8 @@ for name in ['L', 'I.1.18', '3.1-Nstrings']:
     case(name + '-no-output', given, refused(19, modules, asked), output=0)
     case(name + '-one-word-short', given, refused(19, 0, asked), memory=MEMORY - 1)
     case(name + '-no-memory', given, refused(19, 0, asked), memory=0)
-case('no-request-no-memory', b'normalise', refused(2, 0, b''), memory=0)
+case('no-request-no-memory', b'normalise', refused(19, 0, b''), memory=0)
+case('no-library-no-memory', b'normalise=M\nlibrary=999999999\n', refused(19, 0, b'M'), memory=0)
 
 with open(here + '/crates/trials/stdin', 'wb') as f:
     for name, memory, output, given, printed in cases:

@@ -31,7 +31,7 @@ ghost use Rattle.asf.specs.Answers.{returned, told-call};
 ghost use Rattle.asf.specs.Steps.{Answered, Spoken, Found, Evaluated};
 
 // How many words the working memory has at the least.
-fn memory_size() -> usize
+pub fn memory_size() -> usize
     ensures { λ r. ⌜ r ≡ memory-size ⌝ }
 {
     1048576

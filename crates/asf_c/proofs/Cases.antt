@@ -2,26 +2,24 @@
 use mathlib.Core.Path.{_≡_, refl, sym, ap, _∙_}
 use mathlib.Core.Bool.{Bool, true, false}
 use mathlib.Core.List.{List, [], _∷_}
-use Prim.Native.Nat.{ℕ, _+_, _≤_}
+use Prim.Native.Nat.{ℕ, _+_, _-_, _≤_}
 use native.Mathlib.Omega.{arith}
 use borrow.Author.Needs.{needs}
+use borrow.Author.Tests.{eq-eqb, ne-eqb}
 use lib.ListN.{length, set}
 use lib.Seq.{set-out}
+use Rattle.types.specs.declared.Part.{Part}
 use Rattle.meaning.specs.Lists.{pick}
-use Rattle.meaning.specs.Numbers.{memory-size}
 use Rattle.pen.specs.Pen.{Pen, pen, written}
 use Rattle.listing_reader.specs.declared.Line.{Line}
 use Rattle.listing_reader.specs.declared.Line.the-variants.{Keyed, End, Bad}
 use Rattle.listing_reader.specs.declared.Places.{Places}
 use Rattle.listing_reader.specs.Places.{places-at, LineRead}
+use Rattle.fetching.proofs.Cases.{forward}
 use Rattle.asf.specs.declared.answers.Name.{Name}
 use Rattle.asf.specs.declared.answers.Answer.{Answer}
 use Rattle.asf.specs.Answers.{Returned, returned}
-use Rattle.asf_c.specs.Handed.{laid, bit-of, answer-values, names-laid, handed, handed-call, line-values, line-handed, handed-line}
-
-pub words : 1048576 ≡ memory-size
-unfolding memory-size
-words = refl
+use Rattle.asf_c.specs.Handed.{laid, bit-of, answer-values, names-laid, handed, handed-call, valued, line-values, handed-line, part-values, handed-part}
 
 -- ---- values
 
@@ -72,16 +70,28 @@ call-handed c r out work values₀ values names₀ names e v n = rw (v, n) (ap (
 
 module _ (text : List ℕ) (at : ℕ) (l : Line) (read : LineRead text at l) (values : List ℕ) where
   pub keyed : (p : Places) (after : List ℕ) → l ≡ Keyed p → after ≡ laid 0 (line-values p) values
-      → line-handed 0 after ≡ handed-line (places-at text at) values
+      → valued 0 after ≡ handed-line (places-at text at) values
   unfolding handed-line
   keyed p after e h = rw h (ap (λ (l : Line). handed-line l values) (sym e ∙ read .placed))
 
-  pub at-the-end : l ≡ End → line-handed 1 values ≡ handed-line (places-at text at) values
+  pub at-the-end : l ≡ End → valued 1 values ≡ handed-line (places-at text at) values
   unfolding handed-line
   at-the-end e = ap (λ (l : Line). handed-line l values) (sym e ∙ read .placed)
 
-  pub no-line : (place : ℕ) → l ≡ Bad place → line-handed 21 values ≡ handed-line (places-at text at) values
+  pub no-line : (place : ℕ) → l ≡ Bad place → valued 21 values ≡ handed-line (places-at text at) values
   unfolding handed-line
   no-line place e = ap (λ (l : Line). handed-line l values) (sym e ∙ read .placed)
 
-pub ruleset cases = (words, bit-yes, bit-no, no-room, three-laid, answer-laid, places-laid, both-laid, call-handed, keyed, at-the-end, no-line, needs)
+-- ---- a module's text
+
+module _ (p q : Part) (e : p ≡ q) (values : List ℕ) where
+  pub part-none : p .end ≡ 0 → valued 1 values ≡ handed-part q values
+  unfolding handed-part pick
+  part-none z = rw (← e, eq-eqb (p .end) 0 z)
+
+  pub part-there : (b : ℕ) (after : List ℕ) → (p .end ≡ 0 → ⊥) → b ≡ bit-of (p .marked) → after ≡ laid 0 (b ∷ p .start ∷ (p .end - p .start) ∷ []) values
+      → valued 0 after ≡ handed-part q values
+  unfolding handed-part part-values pick
+  part-there b after n f h = rw (← e, ne-eqb (p .end) 0 n, ← f, h)
+
+pub ruleset cases = (bit-yes, bit-no, no-room, three-laid, answer-laid, places-laid, both-laid, call-handed, keyed, at-the-end, no-line, forward, part-none, part-there, needs)

@@ -2,7 +2,9 @@
 // lent slices; what has no room there is left out.
 use asf::answers::Answer;
 use asf::answers::Name;
+use asf::memory_size;
 use asf::normalise;
+use fetching::find;
 use listing_reader::Line;
 use listing_reader::Places;
 use listing_reader::line_at;
@@ -12,13 +14,13 @@ ghost use mathlib.Core.Path.{_≡_};
 ghost use mathlib.Core.List.{[], _∷_};
 ghost use Prim.Native.Nat.{_≤_};
 ghost use lib.ListN.{set};
-ghost use Rattle.meaning.specs.Texts.{two-texts};
+ghost use Rattle.meaning.specs.Texts.{two-texts, fetched};
 ghost use Rattle.meaning.specs.Contract.{call};
 ghost use Rattle.meaning.specs.Numbers.{memory-size};
 ghost use Rattle.listing_reader.specs.Places.{places-at};
 ghost use Rattle.listing_reader.specs.Visible.{visible-end};
 ghost use Rattle.asf.specs.Answers.{told-call};
-ghost use Rattle.asf_c.specs.Handed.{laid, bit-of, answer-values, names-laid, handed, handed-call, line-values, line-handed, handed-line};
+ghost use Rattle.asf_c.specs.Handed.{laid, bit-of, answer-values, names-laid, handed, handed-call, valued, line-values, handed-line, handed-part};
 
 // One value, where there is room.
 fn put_value(values: &mut [usize], i: usize, value: usize)
@@ -90,7 +92,7 @@ fn put_places(values: &mut [usize], p: Places)
 pub extern "C" fn asf_memory_words() -> usize
     ensures { λ r. ⌜ r ≡ memory-size ⌝ }
 {
-    1048576
+    memory_size()
 }
 
 // Normalises the asked module of the library and the text behind it: the listing at the front of `out`, or a refusal's number.
@@ -112,10 +114,26 @@ pub extern "C" fn asf_normalise(
     r.number
 }
 
+// The part of a text that declares a module: its mark, its place and its length, and 0; or 1, where there is none.
+#[no_mangle]
+pub extern "C" fn asf_fetch(name: &[u8], library: &[u8], text: &[u8], values: &mut [usize]) -> u32
+    ensures { λ r. ⌜ valued r (now (values .exit)) ≡ handed-part (fetched (two-texts (now (library .entry)) (now (text .entry))) (now (name .entry))) (now (values .entry)) ⌝ }
+{
+    let p = find(library, text, name);
+    let marked = p.marked;
+    let start = p.start;
+    let end = p.end;
+    if end == 0 {
+        return 1;
+    }
+    put_three(values, 0, bit(marked), start, end - start);
+    0
+}
+
 // Reads the line at a place of a listing: 0 with the line's places, 1 at the end, 21 where no line stands.
 #[no_mangle]
 pub extern "C" fn asf_line(listing: &[u8], place: usize, values: &mut [usize]) -> u32
-    ensures { λ r. ⌜ line-handed r (now (values .exit)) ≡ handed-line (places-at (now (listing .entry)) place) (now (values .entry)) ⌝ }
+    ensures { λ r. ⌜ valued r (now (values .exit)) ≡ handed-line (places-at (now (listing .entry)) place) (now (values .entry)) ⌝ }
 {
     match line_at(listing, place) {
         Line::Keyed(p) => {

@@ -12,10 +12,10 @@ fn print_response(input: &[u8], work: &mut [u32], out: &mut [u8], page: &mut [u8
     io::write_all(STDOUT_FILENO, &page[..size]);
 }
 
-// The page is as long as the output, and 145 bytes more.
+// The page is as long as the output, and 153 bytes more.
 fn respond_with(input: &[u8], work: &mut [u32; 1048576]) {
     let mut out = [0; 65536];
-    let mut page = [0; 65681];
+    let mut page = [0; 65689];
     print_response(input, work, &mut out, &mut page);
 }
 
@@ -25,9 +25,9 @@ fn respond_to(input: &[u8]) {
     respond_with(input, &mut work);
 }
 
-// Room for the longest first line, and for a text that is one byte too long: what follows cannot change the answer.
+// Room for the longest two lines, the longest library, and a text that is one byte too long: what follows cannot change the answer.
 fn main() {
-    let mut input = [0; 32820];
+    let mut input = [0; 65606];
     let n = io::read_full(STDIN_FILENO, &mut input);
     respond_to(&input[..n]);
 }

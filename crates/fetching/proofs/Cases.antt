@@ -202,10 +202,14 @@ module _ (library text : List ℕ) (w : Name) (p : Part) (e : p ≡ fetched (two
       go true q = absurd (false≢true (sym y ∙ ap (λ (r : Part). r .marked) (chosen true q) ∙ q))
       go false q = subst (Within text) (sym (chosen false q)) (from-within text false w 64 0 (omega arith))
 
-  module _ (y : p .marked ≡ true) where
-    pub library-forward : p .start ≤ p .end
-    library-forward = lies-in-library y .forward
+  pub forward : p .start ≤ p .end
+  forward = go (p .marked) refl
+    where
+      go : (b : Bool) → p .marked ≡ b → p .start ≤ p .end
+      go true y = lies-in-library y .forward
+      go false y = lies-in-text y .forward
 
+  module _ (y : p .marked ≡ true) where
     pub library-ends : p .end ≤ length library
     library-ends = lies-in-library y .inside
 
@@ -214,9 +218,6 @@ module _ (library text : List ℕ) (w : Name) (p : Part) (e : p ≡ fetched (two
     library-bytes = rw (← e, y)
 
   module _ (y : p .marked ≡ false) where
-    pub text-forward : p .start ≤ p .end
-    text-forward = lies-in-text y .forward
-
     pub text-ends : p .end ≤ length text
     text-ends = lies-in-text y .inside
 
@@ -224,4 +225,4 @@ module _ (library text : List ℕ) (w : Name) (p : Part) (e : p ≡ fetched (two
     unfolding part-bytes two-texts pick
     text-bytes = rw (← e, y)
 
-pub ruleset cases = (ends-module, ends-text, ends-bad, part-on, part-stop, part-spent, looking-first, not-there, name-forward, name-within, found, looking-on, none-left, nothing, of-library, of-text, library-forward, library-ends, library-bytes, text-forward, text-ends, text-bytes, needs)
+pub ruleset cases = (ends-module, ends-text, ends-bad, part-on, part-stop, part-spent, looking-first, not-there, name-forward, name-within, found, looking-on, none-left, nothing, of-library, of-text, forward, library-ends, library-bytes, text-ends, text-bytes, needs)

@@ -15,7 +15,7 @@ use Rattle.meaning.specs.Listing.{Line, line, line-text, lines-text}
 use Rattle.meaning.specs.Reached.{short-or-blank}
 use Rattle.meaning.specs.Answer as Meaning
 use Rattle.asf.specs.Answers.{held, told}
-use Rattle.responding.specs.Program.{line-of, spelled, refusal-text, answer-text}
+use Rattle.responding.specs.Program.{line-of, spelled, marked-place, refusal-text, answer-text}
 use Rattle.responding.specs.Short.{Short}
 
 -- a name that is held is spelled as it was
@@ -33,13 +33,13 @@ three-lines x y z = ap (λ (t : List ℕ). line-text x ++ (line-text y ++ t)) (s
 
 module _ (a : Meaning.Answer) (short : Short (a .evaluating)) where
   abbrev refused-lines : List Line
-  refused-lines = line "module" (a .evaluating) ∷ line "name" (a .culprit) ∷ line "at" (decimal (a .at)) ∷ []
+  refused-lines = line "module" (a .evaluating) ∷ line "name" (a .culprit) ∷ line "at" (Meaning.place-text a) ∷ []
 
   refusal-told : refusal-text (told a) ≡ lines-text refused-lines
-  unfolding refusal-text told line-of lines-text line-text each
+  unfolding refusal-text told line-of marked-place Meaning.place-text lines-text line-text each
   refusal-told =
       rw (spelled-short (a .evaluating) short, spelled-held (a .culprit))
-      (three-lines (line "module" (a .evaluating)) (line "name" (a .culprit)) (line "at" (decimal (a .at))))
+      (three-lines (line "module" (a .evaluating)) (line "name" (a .culprit)) (line "at" (Meaning.place-text a)))
 
   -- what follows the number and the count
   rest-told : (output : List ℕ) (b : Bool)

@@ -1,22 +1,28 @@
-// What `asfnorm` prints for its input: the first line names the asked module, the rest is the text. All that it works with is lent.
+// What `asfnorm` prints for its input: the first line names the asked module, the second may say how long the library behind it is, and the
+// rest is the text. All that it works with is lent.
 use asf::answers::Answer;
 use asf::answers::Name;
+use asf::answers::lent_short;
 use asf::answers::unread;
+use asf::memory_size;
 use asf::normalise;
 use pen::put_bytes;
 use pen::put_text;
 ghost use mathlib.Core.Path.{_≡_};
-ghost use lib.ListN.{take};
-ghost use Rattle.meaning.specs.Answer.{request-end, has-request};
+ghost use Prim.Native.Nat.{_-_, _≤_};
+ghost use lib.ListN.{length, take};
+ghost use Rattle.meaning.specs.Names.{bytes, same};
+ghost use Rattle.meaning.specs.Tokens.{run-end};
+ghost use Rattle.meaning.specs.Answer.{in-line, request-end, has-request, library-request-end, said-by, has-library-line};
 ghost use Rattle.meaning.specs.Written.{digits, decimal};
 ghost use Rattle.pen.specs.Pen.{pen, written};
-ghost use Rattle.responding.specs.Program.{line-of, spelled, refusal-text, answer-text, Responded};
+ghost use Rattle.responding.specs.Program.{line-of, spelled, marked-place, refusal-text, answer-text, Framed, Refused, Behind, Responded};
 
-// Where the first line ends: at its LF, or at the end of the input.
-fn line_end(input: &[u8]) -> usize
-    ensures { λ r. ⌜ r ≡ request-end (now (input .entry)) ⌝ }
+// Where the line that goes on at `start` ends: at its LF, or at the end of the input.
+fn line_end(input: &[u8], start: usize) -> usize
+    ensures { λ r. ⌜ r ≡ run-end in-line (now (input .entry)) start ⌝ }
 {
-    let mut i = 10;
+    let mut i = start;
     while i < input.len() {
         if input[i] == b'\n' {
             return i;
@@ -54,6 +60,117 @@ fn put_digits(page: &mut [u8], at: usize, limit: usize, n: usize, size: usize) -
     pen::put(page, to, limit, (48 + n % 10) as u8)
 }
 
+// ---- the library's line
+
+// What a digit says.
+fn digit(b: u8) -> usize
+    ensures { λ r. ⌜ r ≡ b - 48 ⌝ }
+    ensures { λ r. ⌜ r ≤ 207 ⌝ }
+{
+    if b < 48 {
+        return 0;
+    }
+    (b - 48) as usize
+}
+
+// What at most nine digits say.
+fn said_by(written: &[u8]) -> usize
+    requires { ⌜ length (now written) ≤ 9 ⌝ }
+    ensures { λ r. ⌜ r ≡ said-by 0 (now (written .entry)) ⌝ }
+{
+    let mut n: usize = 0;
+    let mut i = 0;
+    while i < written.len() {
+        n = n * 10 + digit(written[i]);
+        i += 1;
+    }
+    n
+}
+
+// Is n written so, without leading zeros?
+fn is_decimal(written: &[u8], n: usize) -> bool
+    ensures { λ r. ⌜ r ≡ same (now (written .entry)) (decimal n) ⌝ }
+{
+    let mut page = [0; 10];
+    let size = put_digits(&mut page, 0, 11, n, 10);
+    names::same_bytes(written, &page[0..size])
+}
+
+// Does what follows the first line begin with a line `library=N`? That line ends at e.
+fn has_library_line(rest: &[u8], e: usize) -> bool
+    requires { ⌜ e ≡ library-request-end (now rest) ⌝ }
+    ensures { λ r. ⌜ r ≡ has-library-line (now (rest .entry)) ⌝ }
+{
+    if rest.len() <= e {
+        return false;
+    }
+    if 17 < e {
+        return false;
+    }
+    if names::same_bytes(&rest[0..8], b"library=") {
+        let n = said_by(&rest[8..e]);
+        return is_decimal(&rest[8..e], n);
+    }
+    false
+}
+
+// What follows the first line: the customer's text alone, a library and that text behind it, or a library that is too long.
+enum Framing {
+    Alone,
+    TooLong,
+    Both { from: usize, to: usize },
+}
+
+fn framed(rest: &[u8]) -> Framing
+    ensures { λ r. ⌜ Framed (now (rest .entry)) r ⌝ }
+{
+    let e = line_end(rest, 8);
+    if has_library_line(rest, e) {
+        let size = said_by(&rest[8..e]);
+        if 32768 < size {
+            return Framing::TooLong;
+        }
+        let from = e + 1;
+        let to = from + size;
+        if to <= rest.len() {
+            return Framing::Both { from, to };
+        }
+        return Framing::Alone;
+    }
+    Framing::Alone
+}
+
+// ---- the answer
+
+// The answer that no text is looked at for, but where the working memory is too short: that is told before all else.
+fn refuse(asked: &[u8], work: &mut [u32], r: Answer) -> Answer
+    ensures { λ q. ⌜ Refused (now (asked .entry)) r (now (work .entry)) q (now (work .exit)) ⌝ }
+{
+    let size = memory_size();
+    if work.len() < size {
+        memory::zero_all(work);
+        return lent_short(asked, 0);
+    }
+    memory::zero_all(work);
+    r
+}
+
+// The answer for the asked module, where this is behind the first line.
+fn answer_behind(asked: &[u8], rest: &[u8], work: &mut [u32], out: &mut [u8]) -> Answer
+    ensures { λ r. ⌜ Behind (now (asked .entry)) (now (rest .entry)) (now (work .entry)) (now (out .entry)) r (now (work .exit)) (now (out .exit)) ⌝ }
+{
+    match framed(rest) {
+        Framing::Alone => normalise(asked, &rest[0..0], rest, work, out),
+        Framing::TooLong => {
+            let r = unread(true, 4, 32768);
+            refuse(asked, work, r)
+        }
+        Framing::Both { from, to } => normalise(asked, &rest[from..to], &rest[to..], work, out),
+    }
+}
+
+// ---- what is printed
+
 // A line whose value is a number.
 fn put_number(page: &mut [u8], at: usize, limit: usize, key: &[u8], n: usize) -> usize
     ensures { λ r. ⌜ pen r (now (page .exit)) ≡ written limit (line-of (now (key .entry)) (decimal n)) (pen at (now (page .entry))) ⌝ }
@@ -90,6 +207,18 @@ fn put_name(page: &mut [u8], at: usize, limit: usize, key: &[u8], name: Name) ->
     put_front(page, at, limit, key, &bytes, size)
 }
 
+// The line of a place; one in the library is told with a mark for it.
+fn put_place(page: &mut [u8], at: usize, limit: usize, place: usize, in_library: bool) -> usize
+    ensures { λ r. ⌜ pen r (now (page .exit)) ≡ written limit (line-of (bytes "at") (marked-place «in_library» place)) (pen at (now (page .entry))) ⌝ }
+{
+    if in_library {
+        let a = put_text(page, at, limit, b"at=library:");
+        let b = put_digits(page, a, limit, place, 10);
+        return put_text(page, b, limit, b"\n");
+    }
+    put_number(page, at, limit, b"at", place)
+}
+
 // The lines of a refusal that follow its number and count.
 fn put_refusal(page: &mut [u8], at: usize, limit: usize, r: Answer) -> usize
     ensures { λ p. ⌜ pen p (now (page .exit)) ≡ written limit (refusal-text r) (pen at (now (page .entry))) ⌝ }
@@ -97,9 +226,10 @@ fn put_refusal(page: &mut [u8], at: usize, limit: usize, r: Answer) -> usize
     let module = r.evaluating;
     let culprit = r.culprit;
     let place = r.at;
+    let in_library = r.in_library;
     let a = put_name(page, at, limit, b"module", module);
     let b = put_name(page, a, limit, b"name", culprit);
-    put_number(page, b, limit, b"at", place)
+    put_place(page, b, limit, place, in_library)
 }
 
 // The answer, with the listing that stands at the front of `listing` if the number is 0.
@@ -122,12 +252,12 @@ pub fn respond(input: &[u8], work: &mut [u32], out: &mut [u8], page: &mut [u8]) 
     ensures { λ r. ⌜ Responded (now (input .entry)) (now (work .entry)) (now (out .entry)) (now (page .entry)) r (now (work .exit)) (now (out .exit)) (now (page .exit)) ⌝ }
 {
     let limit = page.len() + 1;
-    let e = line_end(input);
+    let e = line_end(input, 10);
     if has_request(input, e) {
-        let r = normalise(&input[10..e], &input[e + 1..], work, out);
+        let r = answer_behind(&input[10..e], &input[e + 1..], work, out);
         return put_answer(page, limit, out, r);
     }
-    memory::zero_all(work);
-    let r = unread(2, 0);
+    let none = unread(false, 2, 0);
+    let r = refuse(b"", work, none);
     put_answer(page, limit, b"", r)
 }

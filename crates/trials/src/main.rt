@@ -164,7 +164,7 @@ fn run(cases: &[u8], work: &mut [u32], out: &mut [u8], page: &mut [u8]) {
 
 fn run_with(cases: &[u8], work: &mut [u32; 1048576]) {
     let mut out = [0; 65536];
-    let mut page = [0; 65681];
+    let mut page = [0; 65689];
     run(cases, work, &mut out, &mut page);
 }
 
@@ -173,12 +173,12 @@ fn run_all(cases: &[u8]) {
     run_with(cases, &mut work);
 }
 
-fn run_read(cases: &mut [u8; 524288]) {
+fn run_read(cases: &mut [u8; 1048576]) {
     let n = io::read_full(STDIN_FILENO, cases);
     run_all(part(cases, 0, n));
 }
 
 fn main() {
-    let mut cases = [0; 524288];
+    let mut cases = [0; 1048576];
     run_read(&mut cases);
 }

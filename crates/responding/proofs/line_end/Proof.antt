@@ -4,16 +4,16 @@ use mathlib.Core.Path.{_≡_}
 use Prim.Native.Nat.{_-_}
 use lib.ListN.{length}
 use Rattle.meaning.specs.Tokens.{run-end}
-use Rattle.meaning.specs.Answer.{in-line, request-end}
+use Rattle.meaning.specs.Answer.{in-line}
 use Rattle.responding.proofs.Cases.{cases}
 use Rattle.responding.proofs.line_end.Statement.{statement}
 use Rattle.responding.proofs.line_end.Tie as tie
 
 abbrev Inv-loop : tie.InvT-loop
-Inv-loop input i₀ i = request-end input ≡ run-end in-line input i
+Inv-loop input start i₀ i = run-end in-line input start ≡ run-end in-line input i
 
 abbrev μ-loop : tie.MeasureT-loop
-μ-loop input i₀ i = length input - i
+μ-loop input start i₀ i = length input - i
 
 pub line-end-spec : {M : Type 1} → statement M
 line-end-spec =

@@ -13,8 +13,7 @@ put-refusal-spec =
     (λ c κs. search needs)  -- put-name-requires
     (λ c. search needs)  -- slice-aggregate-put-name-2
     (λ c κs. search needs)  -- put-name-requires-2
-    (λ c. search needs)  -- slice-aggregate-put-number
-    (λ c κs. search needs)  -- put-number-requires
+    (λ c κs. search needs)  -- put-place-requires
     (λ c. search needs)  -- same-length
     (λ c. search cases)  -- returns
     )
