@@ -286,8 +286,9 @@ fn the_help_sheet() {
     for example in sheet.split("```\nnormalise=").skip(1) {
         let example = example.split("\n```").next().expect("an end");
         let input = format!("normalise={}\n", example);
-        let (asked, specification) = question(input.as_bytes()).expect("a first line");
-        if let Err(refusal) = normalise(asked, specification) {
+        // a library that is told to be too long is the program's to refuse
+        let asked = question(input.as_bytes());
+        if let Some(Err(refusal)) = asked.map(|(asked, specification)| normalise(asked, specification)) {
             let heading = heading(refusal.number());
             assert!(refusal.to_string().starts_with(&heading), "{}", refusal);
             told += 1;
