@@ -1,5 +1,6 @@
 # To be sourced: how this machine compiles and runs programs for x86-64, which is what the library is compiled for.
-# CC compiles and links C, RUN stands before a program, and `rust` is cargo for x86-64. What is missing is installed, as root, from Debian's packages.
+# CC compiles and links C, RUN stands before a program, and `rust` is cargo for x86-64. What is missing is installed from Debian's packages,
+# as root and over the network, or else asked for. With the word `cargo` it stops at cargo and a linker, which the reference needs.
 
 # Installs those of the packages that are not there.
 need() {
@@ -8,10 +9,18 @@ need() {
         [ "$(dpkg-query -W -f='${db:Status-Status}' "$package" 2>/dev/null)" = installed ] || missing+=("$package")
     done
     [ ${#missing[@]} -eq 0 ] && return
+    if [ "$(id -u)" != 0 ] || ! command -v apt-get >/dev/null; then
+        echo "tools/machine.sh: please install ${missing[*]} (Debian's packages; as root this is done here)" >&2
+        exit 1
+    fi
     echo "installing ${missing[*]}"
     apt-get update -qq
     DEBIAN_FRONTEND=noninteractive apt-get install -y -qq --no-install-recommends "${missing[@]}" >/dev/null
 }
+
+command -v cargo >/dev/null || need cargo
+command -v cc >/dev/null || need gcc libc6-dev
+[ "${1-}" = cargo ] && return
 
 case $(uname -m) in
 x86_64)

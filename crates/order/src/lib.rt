@@ -3,7 +3,7 @@
 use names::joint::not_after;
 use tables::entries::word_at;
 ghost use mathlib.Core.Path.{_≡_};
-ghost use Prim.Native.Nat.{_+_, _*_, _≤_, _<_};
+ghost use Prim.Native.Nat.{_+_, _-_, _*_, _/_, _≤_, _<_};
 ghost use lib.ListN.{length, getD};
 ghost use Rattle.meaning.specs.Names.{not-after};
 ghost use Rattle.names.specs.Word.{name-of};
@@ -28,6 +28,7 @@ pub fn number_in(w: &[u32], p: u32, i: u32) -> u32
 // The half way from lo to hi.
 pub fn middle(lo: u32, hi: u32) -> u32
     requires { ⌜ lo < hi ⌝ }
+    ensures { λ r. ⌜ r ≡ lo + (hi - lo) / 2 ⌝ }
     ensures { λ r. ⌜ lo ≤ r ⌝ }
     ensures { λ r. ⌜ r < hi ⌝ }
 {
