@@ -22,7 +22,7 @@ extern "C" {
 
 /* Where asf_normalise puts what in `values`, and how many values there are. */
 enum {
-    ASF_NUMBER,         /* the answer, as returned: 0 done, 1 to 20 refused */
+    ASF_NUMBER,         /* the answer, as returned: 0 done, 1 to 19 refused */
     ASF_MODULES,        /* how many modules were evaluated, a refused one included */
     ASF_AT,             /* for 1 to 5 the place in the text or, where ASF_IN_LIBRARY is 1, in the library, in bytes from 0 */
     ASF_MODULE_LENGTH,  /* bytes of the name of the module that was evaluated when refused; for 6 and 19 the asked one, blank (0) if it has

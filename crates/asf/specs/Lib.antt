@@ -2,7 +2,6 @@ pub mod Answers
 pub mod Told
 pub mod Steps
 pub mod Meant
-pub mod ReadNumbers
 pub mod ReadNames
 pub mod Promises
 pub mod Demand

@@ -1,5 +1,5 @@
--- What a caller may rely on, whatever the contract's result is: there is one, it has document 01's values, the listing is at the front of the
--- output, a refusal leaves the output, and the memory is zero.
+-- What a caller may rely on, whatever the contract's result is: there is one, it has document 01's values and never the number 20, the listing is
+-- at the front of the output, a refusal leaves the output, and the memory is zero.
 use mathlib.Core.Path.{_≡_, sym, ap, _∙_}
 use mathlib.Core.Logic.{⊎-elim}
 use Prim.Native.Nat.{ℕ, _≤_}
@@ -20,6 +20,7 @@ use Rattle.meaning.specs.Answer as Meaning
 use Rattle.meaning.specs.Answer.{answer, output-after, memory-after}
 use Rattle.meaning.specs.Contract.{call}
 use Rattle.meaning.specs.Contract as Contract
+use Rattle.promises.specs.NoCycle.{never-in-cycle}
 use Rattle.asf.specs.declared.answers.Name.{Name}
 use Rattle.asf.specs.declared.answers.Answer.{Answer}
 use Rattle.asf.specs.Answers.{held, told, Returned, told-call}
@@ -70,6 +71,10 @@ module _ (memory output : List ℕ) (asked : Names.Name) (texts : Texts) (r : Re
   pub number-told : r .answer .number ≡ a .number
   unfolding told
   number-told = ap (λ (x : Answer). x .number) answer-told
+
+  -- 20 is no number
+  pub never-twenty : r .answer .number ≡ 20 → ⊥
+  never-twenty h = never-in-cycle (length memory) (length output) asked texts (sym number-told ∙ h)
 
   -- a name of at most 40 bytes is held
   module-held : length asked ≤ name-size → named (told a .evaluating) ≡ a .evaluating

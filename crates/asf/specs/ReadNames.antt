@@ -26,8 +26,8 @@ use Rattle.meaning.specs.Answer.{Answer, refusal, of-ended, unread, of-read, wi
 use Rattle.limits.specs.EveryLaws.{every-append, every-made}
 use Rattle.tape.specs.Tape.{Entry, spelled, entries, flat-module, flat-modules}
 use Rattle.meant.specs.Meant.{read-done}
+use Rattle.promises.specs.ReadNumbers.{refused-low}
 use Rattle.asf.specs.Told.{word-short}
-use Rattle.asf.specs.ReadNumbers.{refused-low}
 
 abbrev Short : Name → Type 0
 Short n = length n ≤ name-size

@@ -102,7 +102,7 @@ pub fn absent(asked: &[u8]) -> Answer
     }
 }
 
-// 7 to 18, and 20.
+// 7 to 18.
 pub fn refused(
     library: &[u8],
     text: &[u8],

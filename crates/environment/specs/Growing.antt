@@ -124,7 +124,7 @@ module _ (from to k : ℕ) (w w′ : List ℕ) (start : kept-start ≤ from) (or
       (λ i p q. grown .below i (omega (arith, b .parameters-end))) (λ i p q. grown .below i (omega (arith, b .equations-end))) s)
 
   -- the module x, number k, has the normal form that row k stands for
-  module _ (text : List ℕ) (t : ℕ) (ds : List Name) (env : List Evaluated) (x : Name) (ns : List Name) (n : Normal) (tape : t ≤ kept-start)
+  module _ (text : List ℕ) (t : ℕ) (ds : List Name) (env : List Evaluated) (x : Name) (n : Normal) (tape : t ≤ kept-start)
       (number : number-of ds x ≡ k) (found : k < length ds) (few : (y : Name) → number-of ds y ≤ module-limit) (below : TableBelow w from)
       (row : Stands text (part w′ 0 t) w′ (kept-form w′ k) n) (stands : EnvStands text (part w 0 t) w ds env) where
     others-differ : (y : Name) → same y x ≡ false → number-of ds y ≡ k → ⊥
@@ -134,7 +134,7 @@ module _ (from to k : ℕ) (w w′ : List ℕ) (start : kept-start ≤ from) (or
         let one : y ≡ x = sym here ∙ ap (λ (j : ℕ). getD ds j []) (h ∙ sym number) ∙ there in
         false≢true (sym e ∙ ap (λ (z : Name). same z x) one ∙ same-self x)
 
-    pub env-more : EnvStands text (part w′ 0 t) w′ ds (record { name = x; names = ns; normal = n } ∷ env)
+    pub env-more : EnvStands text (part w′ 0 t) w′ ds (record { name = x; normal = n } ∷ env)
     unfolding normal-of pick
     env-more = record { stands = λ y. go y (same y x) refl }
       where

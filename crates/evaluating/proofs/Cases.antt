@@ -28,7 +28,7 @@ use Rattle.forms.specs.Forms.{Stands}
 use Rattle.forms.specs.Blocks.{MadeThere}
 use Rattle.layout.specs.Layout.{joining-block, tape-end, kept-start}
 use Rattle.modules.specs.declared.Heads.{Heads}
-use Rattle.modules.specs.Modules.{declared, named-in, cycle-found}
+use Rattle.modules.specs.Modules.{declared, named-in}
 use Rattle.declarations.specs.Scans.{walked}
 use Rattle.declarations.specs.Once.{once-at}
 use Rattle.uniting.specs.United.{empty-in}
@@ -44,7 +44,7 @@ use Rattle.evaluating.specs.declared.states.State.{State}
 use Rattle.evaluating.specs.declared.evaluate.Stepped.{Stepped}
 use Rattle.evaluating.specs.declared.evaluate.Stepped.the-variants.{Refused as NotKept}
 use Rattle.evaluating.specs.States.{first-state, with-form, KeptRoom, KeptState}
-use Rattle.evaluating.specs.Steps.{later-checks, first-checks, ImportedRoom, Imported}
+use Rattle.evaluating.specs.Steps.{first-checks, ImportedRoom, Imported}
 use Rattle.evaluating.specs.Completes.{CompletedRoom, completed-refused, complete-room, completed-all}
 use Rattle.evaluating.specs.Stepping.{Stepping}
 use Rattle.evaluating.specs.FirstSteps.{refused-first, passed-first}
@@ -61,22 +61,13 @@ unfolding told
 told-fine text a b v r e h q = q ∙ sym (goes-on a b (sym e ∙ ap (told text) h))
 
 module _ (text tape : List ℕ) (h : Heads) (k from end : ℕ) where
-  pub cycle-stop : (v : Verdict) (j x : ℕ) → told text v ≡ cycle-found text tape h k → v ≡ Stop j x → told text (Stop j x) ≡ later-checks text tape h k from end
-  unfolding later-checks
-  cycle-stop v j x e q = told-stop text _ _ v j x e q
-
-  pub cycle-fine : (v r : Verdict) → told text v ≡ cycle-found text tape h k → v ≡ Fine → told text r ≡ walked (once-at text tape from) from (end - from)
-      → told text r ≡ later-checks text tape h k from end
-  unfolding later-checks
-  cycle-fine v r e q z = told-fine text _ _ v r e q z
-
   pub names-stop : (v : Verdict) (j x : ℕ) → told text v ≡ names-right (declared text tape h) (take k (declared text tape h)) (named-in text tape h k) → v ≡ Stop j x
       → told text (Stop j x) ≡ first-checks text tape h k from end
   unfolding first-checks
   names-stop v j x e q = told-stop text _ _ v j x e q
 
   pub names-fine : (v r : Verdict) → told text v ≡ names-right (declared text tape h) (take k (declared text tape h)) (named-in text tape h k) → v ≡ Fine
-      → told text r ≡ later-checks text tape h k from end → told text r ≡ first-checks text tape h k from end
+      → told text r ≡ walked (once-at text tape from) from (end - from) → told text r ≡ first-checks text tape h k from end
   unfolding first-checks
   names-fine v r e q z = told-fine text _ _ v r e q z
 
@@ -167,17 +158,17 @@ module _ (text : List ℕ) (t : ℕ) (w : List ℕ) (h : Heads) (k from end : �
   pub steps-stop : (j y : ℕ) → v ≡ Stop j y → Stepping text t w h k s (NotKept j y) w
   unfolding told
   steps-stop j y e = record {
-    meant = λ ms env m ys earlier sofar d f among.
-        refused-first text (part w 0 t) t h ms (sofar .told) short k m ys d env earlier f among (total-of env) j (name-of text y)
+    meant = λ ms env m ys earlier sofar d f.
+        refused-first text (part w 0 t) t h ms (sofar .told) short k m ys d earlier f env (total-of env) j (name-of text y)
         (checks-there ∙ ap (told text) e);
   }
 
   pub steps-on : (r : Stepped) (w′ : List ℕ) → v ≡ Fine → LastStepping text t w h k s r w′ → Stepping text t w h k s r w′
   unfolding told
   steps-on r w′ e x = record {
-    meant = λ ms env m ys earlier sofar d f among.
+    meant = λ ms env m ys earlier sofar d f.
         x .meant ms env m ys earlier sofar d
-        (passed-first text (part w 0 t) t h ms (sofar .told) short k m ys d env earlier f among (total-of env) (checks-there ∙ ap (told text) e));
+        (passed-first text (part w 0 t) t h ms (sofar .told) short k m ys d earlier f env (total-of env) (checks-there ∙ ap (told text) e));
   }
 
-pub ruleset cases = (nothing-kept, cycle-stop, cycle-fine, names-stop, names-fine, place-fits, imports-room, all-made, imports-of, completed-refused, complete-room, completed-all, summed, store-room, sums-right, kept-more, last-completed, last-refused, kept-room, last-kept, steps-stop, steps-on, needs)
+pub ruleset cases = (nothing-kept, names-stop, names-fine, place-fits, imports-room, all-made, imports-of, completed-refused, complete-room, completed-all, summed, store-room, sums-right, kept-more, last-completed, last-refused, kept-room, last-kept, steps-stop, steps-on, needs)

@@ -9,7 +9,7 @@ use Rattle.meaning.specs.Syntax.{Module}
 use Rattle.meaning.specs.Normal.{Normal}
 use Rattle.meaning.specs.Checks.{fine, Size, size, add-sizes}
 use Rattle.meaning.specs.Written.{in-order}
-use Rattle.meaning.specs.Evaluate.{Evaluated, named-by, evaluate}
+use Rattle.meaning.specs.Evaluate.{Evaluated, evaluate}
 use Rattle.meaning.specs.Reached.{total-of, module-names}
 use Rattle.names.specs.Word.{name-of}
 use Rattle.forms.specs.declared.Form.{Form}
@@ -125,11 +125,11 @@ below-stays low high c w w′ h kept below = record {
 
 -- ---- the totals
 
-totals-next : (text tape w : List ℕ) (f : Form) (a : Normal) (env : List Evaluated) (totals r : Totals) (x : Name) (ns : List Name)
+totals-next : (text tape w : List ℕ) (f : Form) (a : Normal) (env : List Evaluated) (totals r : Totals) (x : Name)
     → r ≡ with-form totals f → Stands text tape w f a → TotalsMeant totals (total-of env)
-    → TotalsMeant r (total-of (record { name = x; names = ns; normal = in-order a } ∷ env))
+    → TotalsMeant r (total-of (record { name = x; normal = in-order a } ∷ env))
 unfolding with-form total-of add-sizes
-totals-next text tape w f a env totals r x ns e stands meant =
+totals-next text tape w f a env totals r x e stands meant =
     let sizes = ordered-size a ∙ size-meant text tape w f a stands in
     record {
       items = omega (arith, ap (λ (u : Totals). u .items) e, ap (λ (z : Size). z .items) sizes, meant .items);
@@ -229,7 +229,7 @@ module _ (text : List ℕ) (t : ℕ) (w w₁ : List ℕ) (h : Heads) (k from end
 
         env-next : EnvStands text (part w′ 0 t) w′ ds (evaluated-as m (in-order a) ∷ env)
         env-next =
-            stored-env text t k f (s .cursor) (r .cursor) w₁ w′ store-room (y .stored) below ds env (m .name) (named-by m) a number
+            stored-env text t k f (s .cursor) (r .cursor) w₁ w′ store-room (y .stored) below ds env (m .name) a number
             (omega (arith, ap length names, names-number ms, drop-some k ms ys m e)) (number-within text (part w 0 t) h (room .ready .heads)) stands
             (joined-distinct env (sofar .sound) k (total-of env) m a joined) env-then
 
@@ -244,7 +244,7 @@ module _ (text : List ℕ) (t : ℕ) (w w₁ : List ℕ) (h : Heads) (k from end
               subst (Comes HiddenSound) outcome (evaluated-sound (module-names ms) earlier k (total-of env) env m (sofar .sound)),
               sofar .sound,
             );
-            totals = totals-next text (part w₁ 0 t) w₁ f a env (s .totals) (r .totals) (m .name) (named-by m) (y .totals) stands (sofar .totals);
+            totals = totals-next text (part w₁ 0 t) w₁ f a env (s .totals) (r .totals) (m .name) (y .totals) stands (sofar .totals);
           }
 
     pub last-kept : (r : State) (w′ : List ℕ) → KeptState text t k f s r w₁ w′ → LastStepping text t w h k s (Kept r) w′

@@ -7,11 +7,11 @@ use Rattle.meaning.specs.Names.{Name}
 use Rattle.meaning.specs.Syntax.{Module}
 use Rattle.meaning.specs.Normal.{Normal}
 use Rattle.meaning.specs.Checks.{Outcome, fine, stop}
-use Rattle.meaning.specs.Evaluate.{Evaluated, named-by, evaluate}
+use Rattle.meaning.specs.Evaluate.{Evaluated, evaluate}
 use Rattle.meaning.specs.Reached.{total-of, module-names}
 use Rattle.names.specs.Word.{name-of}
 use Rattle.modules.specs.declared.Heads.{Heads}
-use Rattle.modules.specs.Meant.{Earlier, Among}
+use Rattle.modules.specs.Meant.{Earlier}
 use Rattle.evaluating.specs.declared.states.State.{State}
 use Rattle.evaluating.specs.declared.evaluate.Stepped.{Stepped}
 use Rattle.evaluating.specs.declared.evaluate.Stepped.the-variants.{Kept, Refused}
@@ -19,7 +19,7 @@ use Rattle.evaluating.specs.Sofar.{Ready, Sofar}
 
 -- the module m is evaluated, with this normal form
 abbrev pub evaluated-as : Module → Normal → Evaluated
-evaluated-as m n = record { name = m .name; names = named-by m; normal = n }
+evaluated-as m n = record { name = m .name; normal = n }
 
 -- its outcome is a normal form, which is kept, and the next module may follow
 pub record KeptMeant (text : List ℕ) (t : ℕ) (w′ : List ℕ) (h : Heads) (k : ℕ) (r : State) (ms : List Module) (env : List Evaluated) (m : Module)
@@ -36,5 +36,5 @@ StepMeant text t w′ h k ms env m outcome (Refused j y) = outcome ≡ stop j (n
 -- for whatever modules the tape spells, and whichever of them are evaluated
 pub record Stepping (text : List ℕ) (t : ℕ) (w : List ℕ) (h : Heads) (k : ℕ) (s : State) (r : Stepped) (w′ : List ℕ) : Type 0 where
   pub meant : (ms : List Module) (env : List Evaluated) (m : Module) (ys : List Module) (earlier : List Name) → Sofar text t w h s ms env
-      → drop k ms ≡ m ∷ ys → Earlier (module-names ms) k earlier → Among env earlier
+      → drop k ms ≡ m ∷ ys → Earlier (module-names ms) k earlier
       → StepMeant text t w′ h k ms env m (evaluate (module-names ms) earlier k (total-of env) env m) r

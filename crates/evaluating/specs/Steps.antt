@@ -20,7 +20,7 @@ use Rattle.forms.specs.Memory.{part, Kept}
 use Rattle.forms.specs.Blocks.{Makes, MadeIn}
 use Rattle.layout.specs.Layout.{joining-block, second-block}
 use Rattle.modules.specs.declared.Heads.{Heads}
-use Rattle.modules.specs.Modules.{declared, named-in, cycle-found}
+use Rattle.modules.specs.Modules.{declared, named-in}
 use Rattle.declarations.specs.Scans.{walked}
 use Rattle.declarations.specs.Once.{once-at}
 use Rattle.importing.specs.Clausal.{Ground}
@@ -30,12 +30,9 @@ use Rattle.environment.specs.Environment.{EnvStands}
 
 -- ---- steps 1 and 2
 
-unfoldable pub later-checks : List ℕ → List ℕ → Heads → ℕ → ℕ → ℕ → Check
-later-checks text tape h k from end = cycle-found text tape h k >> walked (once-at text tape from) from (end - from)
-
 unfoldable pub first-checks : List ℕ → List ℕ → Heads → ℕ → ℕ → ℕ → Check
 first-checks text tape h k from end =
-    names-right (declared text tape h) (take k (declared text tape h)) (named-in text tape h k) >> later-checks text tape h k from end
+    names-right (declared text tape h) (take k (declared text tape h)) (named-in text tape h k) >> walked (once-at text tape from) from (end - from)
 
 -- ---- imports
 

@@ -7,7 +7,6 @@ use forms::Verdict;
 use importing::imports::imports_from;
 use layout::joining_block;
 use modules::Heads;
-use modules::acyclic;
 use modules::names_right;
 use tables::entries::next_with;
 use uniting::empty_form;
@@ -15,28 +14,10 @@ ghost use mathlib.Core.Path.{_≡_};
 ghost use lib.ListN.{length};
 ghost use Rattle.names.specs.Joint.{joint};
 ghost use Rattle.forms.specs.Verdicts.{told};
-ghost use Rattle.evaluating.specs.Steps.{later-checks, first-checks, ImportedRoom, Imported};
+ghost use Rattle.evaluating.specs.Steps.{first-checks, ImportedRoom, Imported};
 ghost use Rattle.evaluating.specs.Completes.{CompletedRoom, CompletedAll};
 
-// 20 and 9 for module k.
-fn later_checks(
-    library: &[u8],
-    text: &[u8],
-    tape: &[u32],
-    h: Heads,
-    k: u32,
-    from: u32,
-    end: u32,
-) -> Verdict
-    ensures { λ r. ⌜ told (joint (now (library .entry)) (now (text .entry))) r ≡ later-checks (joint (now (library .entry)) (now (text .entry))) (now (tape .entry)) h k from end ⌝ }
-{
-    match acyclic(library, text, tape, h, k) {
-        Verdict::Stop(n, w) => Verdict::Stop(n, w),
-        Verdict::Fine => declared_once(library, text, tape, from, end),
-    }
-}
-
-// Steps 1 and 2 for module k, whose entries stand from `from` up to `end`: 7, 8, 20, 9.
+// Steps 1 and 2 for module k, whose entries stand from `from` up to `end`: 7, 8, 9.
 pub fn first_checks(
     library: &[u8],
     text: &[u8],
@@ -50,7 +31,7 @@ pub fn first_checks(
 {
     match names_right(library, text, tape, h, k) {
         Verdict::Stop(n, w) => Verdict::Stop(n, w),
-        Verdict::Fine => later_checks(library, text, tape, h, k, from, end),
+        Verdict::Fine => declared_once(library, text, tape, from, end),
     }
 }
 

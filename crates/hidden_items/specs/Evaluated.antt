@@ -128,8 +128,8 @@ pub evaluated-sound : (declared earlier : List Name) (home : ℕ) (total : Size)
     → Comes HiddenSound (evaluate declared earlier home total env m)
 unfolding evaluate
 evaluated-sound declared earlier home total env m k =
-    after HiddenSound _ _ (after HiddenSound _ _ (after HiddenSound _ _
-    (from HiddenSound HiddenSound _ _ (imported-sound env k (m .imports)) (λ n q. own-sound home total m n q))))
+    after HiddenSound _ _ (after HiddenSound _ _
+    (from HiddenSound HiddenSound _ _ (imported-sound env k (m .imports)) (λ n q. own-sound home total m n q)))
 
 -- ---- a call
 

@@ -1,20 +1,18 @@
--- The modules of texts that are read have distinct names. With it a later proof can show that 20 never comes: see `no-cycle`.
+-- The modules of texts that are read have distinct names.
 use mathlib.Core.Path.{_≡_, refl, sym, ap, subst, _∙_}
 use Prim.Native.Nat.{ℕ, zero, suc}
 use native.Mathlib.Omega.{arith}
 use mathlib.Core.Bool.{Bool, true, false}
-use mathlib.Core.List.{List, [], _∷_, _++_, map}
+use mathlib.Core.List.{List, [], _∷_, _++_}
 use lib.Dec.{eqb, leb}
 use lib.ListN.{length}
 use Rattle.meaning.specs.Lists.{pick}
 use Rattle.meaning.specs.Names.{Name, same, member}
 use Rattle.meaning.specs.Syntax.{Module}
 use Rattle.meaning.specs.Grammar.{State, Result, done, refused, after, _>>=_, _>>_, return, refuse, unexpected, if-next, too-many, name, fresh-name, a-module, modules, read}
-use Rattle.meaning.specs.Checks.{fine}
 use Rattle.meaning.specs.Reached.{module-names}
 use Rattle.meaning.specs.Texts.{Texts, read-texts, all-read, refused-in}
 use Rattle.meaning.specs.TextsLaws.{Parts, read-parts, by-library}
-use Rattle.meaning.specs.Evaluate.{Evaluated, named-by, reached-from, acyclic}
 
 -- no module is called like one before it, or like one of the names taken
 abbrev pub Fresh : List Name → List Module → Type 0
@@ -137,28 +135,3 @@ read-fresh t ms e = go (read-parts t ms e)
         (by-library (Fresh []) tt p (λ s q. text-fresh (t .library) 64 [] (p .library-modules) s q))
         (subst (λ (ws : List Name). Fresh ws (p .customer-modules)) (sym (nothing-more (module-names (p .library-modules))))
         (text-fresh (t .customer) _ _ (p .customer-modules) (p .state) (p .customer-read))))
-
--- ---- 20
-
-abbrev pub names-in : List Evaluated → List Name
-names-in env = map (λ (e : Evaluated). e .name) env
-
--- a name that is reached is the name of a module evaluated
-not-reached : (v : Name) (ws : List Name) (env : List Evaluated) → member v (names-in env) ≡ false → member v (reached-from ws env) ≡ false
-unfolding reached-from member pick
-not-reached v ws [] e = refl
-not-reached v ws (x ∷ env) e =
-    go (member (x .name) ws) (same v (x .name)) refl e (not-reached v (x .names ++ ws) env) (not-reached v ws env)
-  where
-    go : (b c : Bool) → same v (x .name) ≡ c → pick c true (member v (names-in env)) ≡ false
-        → (member v (names-in env) ≡ false → member v (reached-from (x .names ++ ws) env) ≡ false)
-        → (member v (names-in env) ≡ false → member v (reached-from ws env) ≡ false)
-        → member v (pick b (x .name ∷ reached-from (x .names ++ ws) env) (reached-from ws env)) ≡ false
-    go b true q k h h′ = let z : _≡_ {A = ℕ} 0 1 = cc in absurd (omega arith)
-    go true false q k h h′ = rw q (h k)
-    go false false q k h h′ = h′ k
-
--- where no module evaluated before has the module's name, there is no cycle
-pub no-cycle : (env : List Evaluated) (m : Module) → member (m .name) (names-in env) ≡ false → acyclic env m ≡ fine tt
-unfolding acyclic pick
-no-cycle env m e = rw (not-reached (m .name) (named-by m) env e)

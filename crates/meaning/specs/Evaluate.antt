@@ -5,7 +5,7 @@ use mathlib.Core.Option.{Option, none, some}
 use mathlib.Core.List.{List, [], _∷_, _++_, map}
 use Rattle.meaning.specs.Lists.{pick, each, agree, repeated}
 use Rattle.meaning.specs.Names.{Name, same, member}
-use Rattle.meaning.specs.Numbers.{named-absent, named-late, declared-twice, bad-variable, in-cycle}
+use Rattle.meaning.specs.Numbers.{named-absent, named-late, declared-twice, bad-variable}
 use Rattle.meaning.specs.Syntax.{Function, Signature, Parameter, Clause, renamed-by, bound-by, Import, Module, variables-of}
 use Rattle.meaning.specs.Origins.{ResolvedEquation}
 use Rattle.meaning.specs.Normal.{Visible, Hidden, Normal, empty, sort-names, unite-visible, unite-hidden, unite}
@@ -15,10 +15,9 @@ use Rattle.meaning.specs.Clauses.{rename, bind}
 use Rattle.meaning.specs.Own.{own-visible, own-hidden-items, available-sorts, wrong-variable, constants}
 use Rattle.meaning.specs.Typing.{typed-equations}
 
--- a module evaluated in this call: its name, the modules that it names, its normal form
+-- a module evaluated in this call: its name and its normal form
 pub record Evaluated : Type 0 where
   pub name : Name
-  pub names : List Name
   pub normal : Normal
 
 -- ---- step 1. Names of modules, in text order: absent 7, not declared earlier (itself included) 8
@@ -46,19 +45,6 @@ names-right declared earlier [] = fine tt
 names-right declared earlier (w ∷ ws) =
     let more = names-right declared earlier ws in
     pick (missing declared w) (stop named-absent w) (pick (too-late declared earlier w) (stop named-late w) more)
-
--- ---- 20, right after step 1: M is among the modules reached from those that it names
-
--- the names of the modules that the names reach, among those evaluated, the latest first
-unfoldable pub reached-from : List Name → List Evaluated → List Name
-reached-from wanted [] = []
-reached-from wanted (e ∷ es) =
-    let yes = e .name ∷ reached-from (e .names ++ wanted) es in
-    let no-more = reached-from wanted es in
-    pick (member (e .name) wanted) yes no-more
-
-unfoldable pub acyclic : List Evaluated → Module → Check
-acyclic env m = pick (member (m .name) (reached-from (named-by m) env)) (stop in-cycle (m .name)) (fine tt)
 
 -- ---- step 2. Sorts or functions (with type) repeated within one section, or a parameter name repeated: 9, at the first repeat
 
@@ -161,12 +147,11 @@ joined-own home total m n =
 unfoldable pub evaluate : List Name → List Name → ℕ → Size → List Evaluated → Module → Outcome Normal
 evaluate declared earlier home total env m = do
   names-right declared earlier (named-by m)
-  acyclic env m
   declared-once m
   n ← imported env (m .imports)
   joined-own home total m n
 
 -- opens every definition of this file
 unfoldable pub evaluate-opened : Unit {0}
-unfolding clause-names import-names named-by missing too-late names-right reached-from acyclic same-function name-of-function once-in once-in-parameters declared-once normal-of clause clauses expressions united imported seen-sorts joined-visible own-checks own-equations joined-hidden joined-own evaluate
+unfolding clause-names import-names named-by missing too-late names-right same-function name-of-function once-in once-in-parameters declared-once normal-of clause clauses expressions united imported seen-sorts joined-visible own-checks own-equations joined-hidden joined-own evaluate
 evaluate-opened = tt

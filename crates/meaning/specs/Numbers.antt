@@ -142,10 +142,6 @@ no-room = 18
 abbrev pub lent-short : ℕ
 lent-short = 19
 
--- 20: imports in a cycle
-abbrev pub in-cycle : ℕ
-in-cycle = 20
-
 -- 21: bad listing line
 abbrev pub bad-line : ℕ
 bad-line = 21

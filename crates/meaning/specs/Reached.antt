@@ -61,7 +61,7 @@ in-turn declared env last [] = normalised (length env) last
 in-turn declared env last (x ∷ xs) =
     let m = x .self in
     end-or (length env + 1) (m .name)
-    (λ n. in-turn declared (record { name = m .name; names = named-by m; normal = n } ∷ env) n xs)
+    (λ n. in-turn declared (record { name = m .name; normal = n } ∷ env) n xs)
     (evaluate declared (x .earlier) (x .number) (total-of env) env m)
 
 -- ---- the asked module

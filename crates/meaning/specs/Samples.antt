@@ -1,18 +1,13 @@
--- What the program's output does not show, computed: the listing reader, what is lent, readings that look right, and 20.
+-- What the program's output does not show, computed: the listing reader, what is lent, and readings that look right.
 use mathlib.Core.Path.{_≡_, refl}
 use Prim.Native.Nat.{ℕ}
 use mathlib.Core.Bool.{Bool, true}
-use mathlib.Core.List.{List, [], _∷_}
+use mathlib.Core.List.{[]}
 use lib.Dec.{ltb}
 use lib.ListN.{length}
 use Rattle.meaning.specs.Lists.{pick}
 use Rattle.meaning.specs.Names.{bytes, Name}
 use Rattle.meaning.specs.Numbers.{memory-size, clashing, lent-short, bad-line}
-use Rattle.meaning.specs.Syntax.{Module}
-use Rattle.meaning.specs.Grammar.{name, exports, imports}
-use Rattle.meaning.specs.Normal.{empty}
-use Rattle.meaning.specs.Checks.{fine, stop}
-use Rattle.meaning.specs.Evaluate.{acyclic, clauses}
 use Rattle.meaning.specs.Texts.{Texts, two-texts}
 use Rattle.meaning.specs.Answer.{listing, refusal, answer}
 use Rattle.meaning.specs.Reader.{a-line, at-end, refused-line, line-at}
@@ -96,28 +91,3 @@ hidden-names :
     ≡ bytes "module=N\nsort=A\norigin=[B,export,sort,A]\nsort=S\norigin=[C,export,sort,S]\nhidden-sort={1}\norigin=[B,hidden,sort,S]\nhidden-sort={2}\norigin=[C,hidden,sort,A]\nend=N\n"
 unfolding all-opened
 hidden-names = refl
-
--- ---- 20, of modules that no text gives: M names A, and A, evaluated before, names M, evaluated before
-
-unfoldable cyclic : Module
-cyclic = record {
-  name = bytes "M";
-  parameters = [];
-  exports = record { sorts = []; functions = [] };
-  imports = record { name = bytes "A"; clauses = [] } ∷ [];
-  hidden = record { sorts = []; functions = [] };
-  groups = [];
-  equations = [];
-}
-
-in-a-cycle :
-    acyclic
-    (record { name = bytes "A"; names = bytes "M" ∷ []; normal = empty } ∷ record { name = bytes "M"; names = []; normal = empty } ∷ [])
-    cyclic
-    ≡ stop 20 (bytes "M")
-unfolding all-opened cyclic
-in-a-cycle = refl
-
-in-no-cycle : acyclic (record { name = bytes "A"; names = []; normal = empty } ∷ []) cyclic ≡ fine tt
-unfolding all-opened cyclic
-in-no-cycle = refl

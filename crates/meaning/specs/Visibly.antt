@@ -3,10 +3,10 @@ use mathlib.Core.Path.{_≡_, refl}
 use Prim.Native.Nat.{ℕ, _+_}
 use mathlib.Core.Bool.{Bool, true, false}
 use mathlib.Core.Option.{Option, none, some}
-use mathlib.Core.List.{List, [], _∷_, _++_, map}
+use mathlib.Core.List.{List, [], _∷_, map}
 use Rattle.meaning.specs.Lists.{pick}
 use Rattle.meaning.specs.Names.{Name, same, member}
-use Rattle.meaning.specs.Numbers.{bad-renaming, bad-parameter, bad-binding, in-cycle}
+use Rattle.meaning.specs.Numbers.{bad-renaming, bad-parameter, bad-binding}
 use Rattle.meaning.specs.Syntax.{Pair, Clause, Import, Equation, Module, conditions-of, renamed-by, bound-by}
 use Rattle.meaning.specs.Origins.{ResolvedSides, Item}
 use Rattle.meaning.specs.Normal.{Visible, Normal, nothing-visible, empty, names-in, unite-visible, unite, move-visible, move}
@@ -14,8 +14,7 @@ use Rattle.meaning.specs.Written.{visible-in-order, in-order}
 use Rattle.meaning.specs.Checks.{_>>=_, _>>_, Outcome, Check, unless, consistent, Size, room, total-room, checked, fine, stop}
 use Rattle.meaning.specs.Clauses.{renaming, wrong-renaming, rename, formals, new-sort, new-function, wrong-pair, unpaired, without-visible, without, bound-to, bind}
 use Rattle.meaning.specs.Typing.{made-equation, typed-sides, typed-conditions, typed-equations}
-use Rattle.meaning.specs.Evaluate.{Evaluated, named-by, names-right, reached-from, acyclic, declared-once, normal-of, clause, clauses, expressions, united, imported, seen-sorts, joined-visible, own-checks, own-equations, joined-own, evaluate}
-use Rattle.meaning.specs.Reached.{wanted}
+use Rattle.meaning.specs.Evaluate.{Evaluated, named-by, names-right, declared-once, normal-of, clause, clauses, expressions, united, imported, seen-sorts, joined-visible, own-checks, own-equations, joined-own, evaluate}
 use Rattle.meaning.specs.Mirror.{Mirrors, mirror-then, mirror-room, mirror-pick, mirror-bind, mirror-told, told, told-bind}
 
 -- ---- the evaluation over visible parts
@@ -42,11 +41,10 @@ bind-visibly p rs v actual = let r = bound-visibly p rs v actual in pick (member
 -- what is seen of a module that was evaluated
 pub record Seen : Type 0 where
   pub name : Name
-  pub names : List Name
   pub visible : Visible
 
 abbrev pub seen-of : Evaluated → Seen
-seen-of e = record { name = e .name; names = e .names; visible = e .normal .visible }
+seen-of e = record { name = e .name; visible = e .normal .visible }
 
 unfoldable pub visible-of : List Seen → Name → Visible
 visible-of [] w = nothing-visible
@@ -74,16 +72,6 @@ united-visibly v (k ∷ ks) = checked-visibly (unite-visible v k) >>= λ u. unit
 unfoldable pub imported-visibly : List Seen → List Import → Outcome Visible
 imported-visibly env is = expressions-visibly env is >>= λ vs. united-visibly nothing-visible vs
 
-unfoldable pub reached-visibly : List Name → List Seen → List Name
-reached-visibly wanted [] = []
-reached-visibly wanted (e ∷ es) =
-    let yes = e .name ∷ reached-visibly (e .names ++ wanted) es in
-    let no-more = reached-visibly wanted es in
-    pick (member (e .name) wanted) yes no-more
-
-unfoldable pub acyclic-visibly : List Seen → Module → Check
-acyclic-visibly env m = pick (member (m .name) (reached-visibly (named-by m) env)) (stop in-cycle (m .name)) (fine tt)
-
 unfoldable pub joined-visibly : Module → Visible → Outcome Visible
 joined-visibly m v = do
   own-checks m (seen-sorts m v) (joined-visible m v)
@@ -94,7 +82,6 @@ joined-visibly m v = do
 unfoldable pub evaluate-visibly : Check → List Seen → Module → Outcome Visible
 evaluate-visibly names env m = do
   names
-  acyclic-visibly env m
   declared-once m
   v ← imported-visibly env (m .imports)
   joined-visibly m v
@@ -166,16 +153,6 @@ imported-mirrors : (env : List Evaluated) (is : List Import) → Mirrors visible
 unfolding imported imported-visibly empty
 imported-mirrors env is = mirror-bind visible-halfs visible-half _ _ _ _ (expressions-mirror env is) (λ ns. united-mirrors empty ns)
 
-reached-same : (ws : List Name) (env : List Evaluated) → reached-visibly ws (map seen-of env) ≡ reached-from ws env
-unfolding reached-visibly reached-from
-reached-same ws [] = refl
-reached-same ws (e ∷ env) =
-    λ i. pick (member (e .name) ws) (e .name ∷ reached-same (e .names ++ ws) env i) (reached-same ws env i)
-
-acyclic-same : (env : List Evaluated) (m : Module) → acyclic-visibly (map seen-of env) m ≡ acyclic env m
-unfolding acyclic-visibly acyclic
-acyclic-same env m = rw reached-same
-
 -- an equation's module and position are of no account to its typing
 made-told : (h h′ at at′ : ℕ) (t : Name) (c : Option ResolvedSides) (ks : Option (List ResolvedSides))
     → told (made-equation h at t c ks) ≡ told (made-equation h′ at′ t c ks)
@@ -209,6 +186,5 @@ pub evaluate-mirrors : (declared earlier : List Name) (home : ℕ) (total : Size
     → Mirrors visible-half (evaluate declared earlier home total env m) (evaluate-visibly (names-right declared earlier (named-by m)) (map seen-of env) m)
 unfolding evaluate evaluate-visibly
 evaluate-mirrors declared earlier home total env m =
-    rw acyclic-same
-    (mirror-then visible-half _ _ _ (mirror-then visible-half _ _ _ (mirror-then visible-half _ _ _
-    (mirror-bind visible-half visible-half _ _ _ _ (imported-mirrors env (m .imports)) (λ n. joined-mirrors home total m n)))))
+    mirror-then visible-half _ _ _ (mirror-then visible-half _ _ _
+    (mirror-bind visible-half visible-half _ _ _ _ (imported-mirrors env (m .imports)) (λ n. joined-mirrors home total m n)))

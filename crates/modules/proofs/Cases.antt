@@ -21,7 +21,7 @@ use Rattle.forms.specs.declared.Verdict.the-variants.{Fine, Stop}
 use Rattle.forms.specs.Verdicts.{told}
 use Rattle.module_set.specs.ModuleSet.{holds, nothing, added, either}
 use Rattle.modules.specs.declared.Heads.{Heads}
-use Rattle.modules.specs.Modules.{is-module, names-module, places-from, HeadsOf, names-of, declared, picked, named-in, name-right, with-named, named-set, turned, gathered, reached-set, cycle-found}
+use Rattle.modules.specs.Modules.{is-module, names-module, places-from, HeadsOf, names-of, declared, picked, named-in, name-right, with-named, named-set, turned, gathered, reached-set}
 use Rattle.modules.specs.Members.{member-found, member-absent, member-early, member-late, names-step}
 
 -- ---- heads
@@ -300,22 +300,10 @@ module _ (text tape : List ℕ) (h : Heads) (k : ℕ) where
       let reach = gathered (named-set text tape h) in
       g ∙ ap (reach (holds s) 0) c ∙ ap (λ (t : ℕ → Bool). reach t 0 (h .count)) (f ∙ ap (added k) e)
 
-  module _ (m s : ℕ) (e : holds m ≡ named-set text tape h k) (f : holds s ≡ gathered (named-set text tape h) (holds m) 0 k) (b : Bool) (g : b ≡ holds s k) where
-    inside : gathered (named-set text tape h) (named-set text tape h k) 0 k k ≡ b
-    inside = rw (← e, ← f, ← g)
-
-    pub cycle-in : b ≡ true → (w : ℕ) → w ≡ word-at tape (getD (h .places) k 0) → told text (Stop 20 w) ≡ cycle-found text tape h k
-    unfolding cycle-found told pick
-    cycle-in q w d = rw (inside ∙ q, d)
-
-    pub cycle-out : b ≡ false → told text Fine ≡ cycle-found text tape h k
-    unfolding cycle-found told pick
-    cycle-out q = rw (inside ∙ q)
-
 pub ruleset heads = (past-places, module-name, begun-none, begun-other, begun-head, begun-full, begun-all, needs)
 
 pub ruleset numbers = (seek-start, seek-none, seek-here, seek-on, right-absent, right-late, right-fine, with-early, with-late, needs)
 
 pub ruleset scans = (right-start, right-none, right-other, right-stop, right-on, named-start, named-none, named-other, named-on, needs)
 
-pub ruleset sets = (turned-in, turned-out, gather-none, gather-on, gather-all, reached-all, cycle-in, cycle-out, needs)
+pub ruleset sets = (turned-in, turned-out, gather-none, gather-on, gather-all, reached-all, needs)

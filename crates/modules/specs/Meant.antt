@@ -1,7 +1,7 @@
--- What the answers mean for a tape that spells modules of distinct names: the reached modules, the names of modules that one names, and
--- that no import goes in a cycle, as in the meaning (meaning/specs/Evaluate.antt, Reached.antt).
+-- What the answers mean for a tape that spells modules of distinct names: the reached modules, and the names of modules that one names, as
+-- in the meaning (meaning/specs/Evaluate.antt, Reached.antt).
 use mathlib.Core.Path.{_≡_, refl, sym, ap, _∙_}
-use Prim.Native.Nat.{ℕ, _+_, _<_, _≤_}
+use Prim.Native.Nat.{ℕ, _+_, _<_}
 use native.Mathlib.Omega.{arith}
 use native.Mathlib.Numerals.{add-one}
 use mathlib.Core.Bool.{Bool, true, false, false≢true}
@@ -12,16 +12,14 @@ use Rattle.meaning.specs.Lists.{pick, before}
 use Rattle.meaning.specs.Names.{Name, same, member}
 use Rattle.meaning.specs.OrderLaws.{same-self, same-equal}
 use Rattle.meaning.specs.Syntax.{Module}
-use Rattle.meaning.specs.Checks.{fine}
-use Rattle.meaning.specs.Evaluate.{Evaluated, named-by, too-late, names-right, acyclic}
+use Rattle.meaning.specs.Evaluate.{named-by, too-late, names-right}
 use Rattle.meaning.specs.Reached.{reached, module-names}
-use Rattle.meaning.specs.Distinct.{Fresh, names-in, no-cycle}
+use Rattle.meaning.specs.Distinct.{Fresh}
 use Rattle.module_set.specs.ModuleSet.{nothing, added}
 use Rattle.modules.specs.declared.Heads.{Heads}
-use Rattle.modules.specs.Modules.{declared, named-in, named-set, gathered, reached-set, cycle-found}
-use Rattle.modules.specs.Members.{member-late}
+use Rattle.modules.specs.Modules.{declared, named-in, named-set, gathered, reached-set}
 use Rattle.modules.specs.ModuleLaws.{Spells, heads-number, declared-names, named-modules}
-use Rattle.modules.specs.ReachedLaws.{names-distinct, names-number, named-below, named-member, settled, closed, found-name, name-by-number, member-append, drop-some, or-false, or-other, chosen, Naming, reached-numbers}
+use Rattle.modules.specs.ReachedLaws.{names-distinct, names-number, named-below, named-member, closed, found-name, member-append, drop-some, or-false, or-other, chosen, Naming, reached-numbers}
 
 -- ---- the asked module
 
@@ -59,47 +57,6 @@ pub names-among : (ds es fs : List Name) → ((w : Name) → member w es ≡ mem
 unfolding names-right too-late
 names-among ds es fs h [] = refl
 names-among ds es fs h (w ∷ ws) = rw (h w, names-among ds es fs h ws)
-
--- ---- 20
-
-pub cycle-never : (text tape : List ℕ) (h : Heads) (k : ℕ) → cycle-found text tape h k ≡ fine tt
-unfolding cycle-found named-set nothing pick gathered
-cycle-never text tape h k =
-    let below : (i j : ℕ) → i ≤ j → named-set text tape h i j ≡ false = λ i j l. named-below (declared text tape h) i nothing (named-in text tape h i) j l in
-    let y : k + 0 ≡ k = omega arith in
-    let out : gathered (named-set text tape h) (named-set text tape h k) 0 k k ≡ false =
-    ap (λ (c : ℕ). gathered (named-set text tape h) (named-set text tape h k) 0 c k) (sym y)
-    ∙ settled (named-set text tape h) below (named-set text tape h k) k k 0 0 (omega arith)
-    ∙ below k k (omega arith) in
-    rw out
-
--- where no module evaluated before has the module's name, both say that there is no cycle
-pub cycle-told : (text tape : List ℕ) (h : Heads) (k : ℕ) (env : List Evaluated) (m : Module) → member (m .name) (names-in env) ≡ false
-    → cycle-found text tape h k ≡ acyclic env m
-cycle-told text tape h k env m e = cycle-never text tape h k ∙ sym (no-cycle env m e)
-
--- the modules evaluated are among the earlier ones
-abbrev pub Among : List Evaluated → List Name → Type 0
-Among env earlier = (w : Name) → member w earlier ≡ false → member w (names-in env) ≡ false
-
-pub none-among : Among [] []
-none-among w e = e
-
-pub other-among : (env : List Evaluated) (earlier : List Name) (v : Name) → Among env earlier → Among env (v ∷ earlier)
-unfolding member pick
-other-among env earlier v h w e = go (same w v) e
-  where
-    go : (b : Bool) → pick b true (member w earlier) ≡ false → member w (names-in env) ≡ false
-    go true e = absurd (false≢true (sym e))
-    go false e = h w e
-
-pub new-among : (env : List Evaluated) (earlier : List Name) (x : Evaluated) → Among env earlier → Among (x ∷ env) (x .name ∷ earlier)
-unfolding member pick
-new-among env earlier x h w e = go (same w (x .name)) e
-  where
-    go : (b : Bool) → pick b true (member w earlier) ≡ false → pick b true (member w (names-in env)) ≡ false
-    go true e = e
-    go false e = h w e
 
 -- ---- the modules of the tape
 
@@ -149,13 +106,3 @@ module _ (text tape : List ℕ) (n : ℕ) (ms : List Module) (h : Heads) (s : Sp
         let name : getD (module-names ms) j [] ≡ w = found-name (module-names ms) w (omega (arith, number, names-number ms)) in
         let named : named-set text tape h i j ≡ true = naming .tells i j m ys e l ∙ ap (λ (v : Name). member v (named-by m)) name ∙ q in
         closed (named-set text tape h) (naming .below) (added k nothing) (h .count) i j (omega (arith, number, heads-number text tape n ms h s)) r named
-
-    -- no earlier module has a module's name
-    pub name-alone : (i : ℕ) (m : Module) (ys : List Module) → drop i ms ≡ m ∷ ys → (earlier : List Name) → Earlier (module-names ms) i earlier
-        → member (m .name) earlier ≡ false
-    name-alone i m ys e earlier g =
-        let number = drop-some i ms ys m e in
-        let own : before (same (m .name)) (module-names ms) ≡ i =
-        ap (λ (v : Name). before (same v) (module-names ms)) (sym (name-by-number i ms ys m e))
-        ∙ names-distinct ms f i (omega (arith, number, names-number ms)) in
-        g (m .name) ∙ member-late (m .name) (module-names ms) i (omega arith)

@@ -1,4 +1,4 @@
--- The modules of a tape, and those that one names (meaning/specs/Evaluate.antt, step 1 and 20; Reached.antt).
+-- The modules of a tape, and those that one names (meaning/specs/Evaluate.antt, step 1; Reached.antt).
 use mathlib.Core.Path.{_≡_}
 use Prim.Native.Nat.{ℕ, zero, suc, _+_, _-_, _≤_}
 use mathlib.Core.Bool.{Bool, true}
@@ -7,8 +7,8 @@ use lib.Dec.{eqb, ltb}
 use lib.ListN.{length, getD, take}
 use Rattle.meaning.specs.Lists.{pick, before}
 use Rattle.meaning.specs.Names.{Name, same}
-use Rattle.meaning.specs.Numbers.{module-limit, in-cycle}
-use Rattle.meaning.specs.Checks.{Check, fine, stop}
+use Rattle.meaning.specs.Numbers.{module-limit}
+use Rattle.meaning.specs.Checks.{Check}
 use Rattle.meaning.specs.Evaluate.{names-right}
 use Rattle.tape.specs.Tape.{module-role, import-role, actual-role}
 use Rattle.tables.specs.Entries.{role-at, name-at}
@@ -90,9 +90,3 @@ gathered named set k (suc c) = turned named (gathered named set (suc k) c) k
 -- module k, and those that it reaches
 unfoldable pub reached-set : List ℕ → List ℕ → Heads → ℕ → (ℕ → Bool)
 reached-set text tape h k = gathered (named-set text tape h) (added k nothing) 0 (h .count)
-
--- 20: module k is among those reached from those that it names
-unfoldable pub cycle-found : List ℕ → List ℕ → Heads → ℕ → Check
-cycle-found text tape h k =
-    let s = gathered (named-set text tape h) (named-set text tape h k) 0 k in
-    pick (s k) (stop in-cycle (name-at text tape (getD (h .places) k 0))) (fine tt)

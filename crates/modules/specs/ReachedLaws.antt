@@ -1,5 +1,5 @@
 -- The sets of numbers say what the names say, where no two modules have one name: which modules are reached (meaning/specs/Reached.antt),
--- which stand earlier, and that no import goes in a cycle.
+-- and which stand earlier.
 use mathlib.Core.Path.{_≡_, refl, sym, ap, _∙_}
 use Prim.Native.Nat.{ℕ, zero, suc, _+_, _-_, _<_, _≤_}
 use native.Mathlib.Omega.{arith}
@@ -176,7 +176,7 @@ module _ (named : ℕ → ℕ → Bool) (below : (i j : ℕ) → i ≤ j → nam
       go false = refl
 
   -- whether number j is in is settled when those behind it have been turned
-  pub settled : (c i e : ℕ) → i + c ≤ suc j → gathered named set i (c + e) j ≡ gathered named set (i + c) e j
+  settled : (c i e : ℕ) → i + c ≤ suc j → gathered named set i (c + e) j ≡ gathered named set (i + c) e j
   unfolding gathered
   settled zero i e h =
       let y : 0 + e ≡ e = omega arith in

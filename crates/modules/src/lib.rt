@@ -14,7 +14,7 @@ ghost use Rattle.names.specs.Joint.{joint};
 ghost use Rattle.tables.specs.Entries.{word-at};
 ghost use Rattle.forms.specs.Verdicts.{told};
 ghost use Rattle.module_set.specs.ModuleSet.{holds};
-ghost use Rattle.modules.specs.Modules.{is-module, names-module, HeadsOf, declared, name-right, named-in, with-named, named-set, turned, gathered, reached-set, cycle-found};
+ghost use Rattle.modules.specs.Modules.{is-module, names-module, HeadsOf, declared, name-right, named-in, with-named, named-set, turned, gathered, reached-set};
 
 // The places on the tape where the modules begin, in text order, and behind them where the last one ends.
 pub struct Heads {
@@ -212,22 +212,4 @@ pub fn reached(library: &[u8], text: &[u8], tape: &[u32], h: Heads, k: u32) -> u
         count,
         module_set::with(module_set::empty(), k),
     )
-}
-
-// 20 where module k is among the modules reached from those that it names.
-pub fn acyclic(library: &[u8], text: &[u8], tape: &[u32], h: Heads, k: u32) -> Verdict
-    ensures { λ r. ⌜ told (joint (now (library .entry)) (now (text .entry))) r ≡ cycle-found (joint (now (library .entry)) (now (text .entry))) (now (tape .entry)) h k ⌝ }
-{
-    let set = gathered(
-        library,
-        text,
-        tape,
-        h,
-        k,
-        named_set(library, text, tape, h, k),
-    );
-    if module_set::has(set, k) {
-        return Verdict::Stop(20, name_of_module(tape, h, k));
-    }
-    Verdict::Fine
 }

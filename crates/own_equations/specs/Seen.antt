@@ -169,4 +169,4 @@ module _ (env : List Evaluated) (h : SeenAmong env) where
   pub evaluated-seen : (declared earlier : List Name) (home : ℕ) (total : Size) (m : Module) → SeenOut (evaluate declared earlier home total env m)
   unfolding evaluate
   evaluated-seen declared earlier home total m =
-      then-seen _ _ (then-seen _ _ (then-seen _ _ (on-seen (imported env (m .imports)) _ (imported-seen (m .imports)) (joined-own-seen home total m))))
+      then-seen _ _ (then-seen _ _ (on-seen (imported env (m .imports)) _ (imported-seen (m .imports)) (joined-own-seen home total m)))

@@ -3,7 +3,7 @@ use mathlib.Core.Path.{_≡_, refl, sym, ap, subst, _∙_}
 use mathlib.Core.Logic.{_⊎_, inl, inr}
 use Prim.Native.Nat.{ℕ}
 use mathlib.Core.Bool.{Bool, true, false, not, _&&_}
-use mathlib.Core.List.{List, [], _∷_}
+use mathlib.Core.List.{List, [], _∷_, map}
 use Rattle.meaning.specs.Lists.{pick, each}
 use Rattle.meaning.specs.Names.{Name, same, member}
 use Rattle.meaning.specs.Numbers.{named-absent, named-late, no-room}
@@ -11,11 +11,13 @@ use Rattle.meaning.specs.Syntax.{Clause, Import, Module, renamed-by, bound-by}
 use Rattle.meaning.specs.Normal.{Normal}
 use Rattle.meaning.specs.Checks.{_>>=_, _>>_, Outcome, Check, Size, fits, room, total-room, fine, stop}
 use Rattle.meaning.specs.Evaluate.{Evaluated, clause-names, import-names, named-by, missing, too-late, names-right, normal-of, clause, clauses, expressions, imported, joined-own, evaluate}
-use Rattle.meaning.specs.Distinct.{names-in, no-cycle}
 use Rattle.meaning.specs.Mirror.{never, then-fine, bind-fine}
 use Rattle.promises.specs.Members.{clear, same-eq, member-here, member-right, member-left}
 
 -- ---- two environments that agree on the names of the first
+
+abbrev pub names-in : List Evaluated → List Name
+names-in env = map (λ (e : Evaluated). e .name) env
 
 abbrev pub Agree : List Evaluated → List Evaluated → Type 0
 Agree env env′ = (w : Name) → member w (names-in env) ≡ true → normal-of env w ≡ normal-of env′ w
@@ -55,7 +57,7 @@ module _ (env env′ : List Evaluated) (agree : Agree env env′) where
 
 -- ---- step 1 passed: each name is earlier
 
-earlier-names : (d e ws : List Name) → names-right d e ws ≡ fine tt → (w : Name) → member w ws ≡ true → member w e ≡ true
+pub earlier-names : (d e ws : List Name) → names-right d e ws ≡ fine tt → (w : Name) → member w ws ≡ true → member w e ≡ true
 unfolding names-right missing too-late member pick
 earlier-names d e [] h w k = clear (sym k)
 earlier-names d e (v ∷ ws) h w k = go (member v d) (member v e) refl refl h (same w v) refl k (λ g. earlier-names d e ws g w)
@@ -98,16 +100,13 @@ joined-either home t t′ m k n e =
     then-either n _ _ (a .0) (bind-either n _ (b .0) _ (b .1) (room-either n _ _ (room-either n _ _ (inl (d .1)))))
 
 pub evaluate-either : (d e : List Name) (home : ℕ) (t t′ : Size) (env env′ : List Evaluated) (m : Module) (n : Normal) → Agree env env′
-    → member (m .name) (names-in env′) ≡ false
     → ((w : Name) → member w (named-by m) ≡ true → member w e ≡ true → member w (names-in env) ≡ true)
     → evaluate d e home t env m ≡ fine n → Either n (evaluate d e home t′ env′ m)
 unfolding evaluate named-by
-evaluate-either d e home t t′ env env′ m n agree apart closed q =
+evaluate-either d e home t t′ env env′ m n agree closed q =
     let a = then-fine _ _ n q in
-    let b = then-fine _ _ n (a .1) in
-    let c = then-fine _ _ n (b .1) in
+    let c = then-fine _ _ n (a .1) in
     let h = bind-fine _ _ n (c .1) in
     let i : imported env′ (m .imports) ≡ fine (h .0) =
     sym (imported-same env env′ agree (m .imports) (λ w k. closed w k (earlier-names d e (named-by m) (a .0) w k))) ∙ h .1 in
-    then-either n _ _ (a .0) (then-either n _ _ (no-cycle env′ m apart) (then-either n _ _ (c .0)
-    (bind-either n _ (h .0) _ i (joined-either home t t′ m (h .0) n (h .2)))))
+    then-either n _ _ (a .0) (then-either n _ _ (c .0) (bind-either n _ (h .0) _ i (joined-either home t t′ m (h .0) n (h .2))))

@@ -16,11 +16,11 @@ use Rattle.meaning.specs.Checks.{Outcome, fine, stop}
 use Rattle.meaning.specs.Evaluate.{Evaluated, named-by, normal-of}
 use Rattle.meaning.specs.Reached.{wanted, Placed, reached-among, reached, Ended, end-or, total-of, in-turn, module-names, normalise, normalised, refused-at}
 use Rattle.meaning.specs.Answer.{Answer, refusal, of-ended}
-use Rattle.meaning.specs.Distinct.{names-in, Fresh, read-fresh}
+use Rattle.meaning.specs.Distinct.{Fresh, read-fresh}
 use Rattle.meaning.specs.Mirror.{never}
-use Rattle.promises.specs.Members.{clear, passed, same-eq, member-left, Inside, inside-more, inside-later, outside}
+use Rattle.promises.specs.Members.{clear, passed, same-eq, member-left, Inside, inside-more, inside-later}
 use Rattle.promises.specs.Wanting.{wanted-here, wanted-asked, reached-here, reached-later, ReachedIn, wanted-within, Closed, closed-more, closed-skip}
-use Rattle.promises.specs.Again.{Agree, Either, evaluate-either}
+use Rattle.promises.specs.Again.{names-in, Agree, Either, evaluate-either}
 use Rattle.promises.specs.Demand.{ForEach, RefusedAtMost, InTheCall, IsNormalised, ByItself, Comparable, ShortOfRoom, Demand3}
 use Rattle.promises.specs.Proof.{normalise-stands, Short, answer-ended, demand-3}
 
@@ -75,7 +75,7 @@ choice-second b x p q e h = rw e h
 
 module _ (m : Module) (x : Normal) where
   abbrev entry : Evaluated
-  entry = record { name = m .name; names = named-by m; normal = x }
+  entry = record { name = m .name; normal = x }
 
   agree-more : (env env′ : List Evaluated) → Agree env env′ → Agree (entry ∷ env) (entry ∷ env′)
   unfolding member normal-of
@@ -101,17 +101,17 @@ same-normal o x x′ (inr h) e = never no-room [] x′ (sym h ∙ e)
 -- y's own call ends with a normal form, the call of the asked module is refused at y, and not by 18: that cannot be
 both-calls : (d : List Name) (asked y : Name) (n c : ℕ) (w : Name) → (n ≡ no-room → ⊥)
     → (ms : List Module) (k : ℕ) (e : List Name) (env env′ : List Evaluated) (last last′ : Normal)
-    → Fresh e ms → Agree env env′ → Inside (names-in env) e → Inside (names-in env′) e → Closed y ms e (names-in env)
+    → Fresh e ms → Agree env env′ → Inside (names-in env) e → Closed y ms e (names-in env)
     → IsNormalised (in-turn d env last (reached-among y k e ms))
     → in-turn d env′ last′ (reached-among asked k e ms) ≡ refused-at n c y w → ⊥
 unfolding in-turn reached-among
-both-calls d asked y n c w small [] k e env env′ last last′ f a i i′ cl h h′ = no-refusal _ _ n c y w h′
-both-calls d asked y n c w small (m ∷ ms) k e env env′ last last′ f a i i′ cl h h′ =
+both-calls d asked y n c w small [] k e env env′ last last′ f a i cl h h′ = no-refusal _ _ n c y w h′
+both-calls d asked y n c w small (m ∷ ms) k e env env′ last last′ f a i cl h h′ =
     go (member (m .name) (wanted y ms)) (member (m .name) (wanted asked ms)) refl refl
-    (λ env env′ last last′ a i i′ cl h h′. both-calls d asked y n c w small ms (k + 1) (m .name ∷ e) env env′ last last′ (f .1) a i i′ cl h h′)
+    (λ env env′ last last′ a i cl h h′. both-calls d asked y n c w small ms (k + 1) (m .name ∷ e) env env′ last last′ (f .1) a i cl h h′)
   where
     go : (b b′ : Bool) → member (m .name) (wanted y ms) ≡ b → member (m .name) (wanted asked ms) ≡ b′
-        → ((env env′ : List Evaluated) (last last′ : Normal) → Agree env env′ → Inside (names-in env) (m .name ∷ e) → Inside (names-in env′) (m .name ∷ e)
+        → ((env env′ : List Evaluated) (last last′ : Normal) → Agree env env′ → Inside (names-in env) (m .name ∷ e)
         → Closed y ms (m .name ∷ e) (names-in env)
         → IsNormalised (in-turn d env last (reached-among y (k + 1) (m .name ∷ e) ms))
         → in-turn d env′ last′ (reached-among asked (k + 1) (m .name ∷ e) ms) ≡ refused-at n c y w → ⊥)
@@ -120,14 +120,14 @@ both-calls d asked y n c w small (m ∷ ms) k e env env′ last last′ f a i i�
         let g = subst (λ (r : List Placed). IsNormalised (in-turn d env last r)) (reached-here y m ms k e b) h in
         let g′ = sym (ap (λ (r : List Placed). in-turn d env′ last′ r) (reached-here asked m ms k e b′)) ∙ h′ in
         let one = normalised-next _ _ _ _ g in
-        let either = evaluate-either d e k (total-of env) (total-of env′) env env′ m (one .0) a (outside (names-in env′) e (m .name) i′ (f .0))
+        let either = evaluate-either d e k (total-of env) (total-of env′) env env′ m (one .0) a
         (λ v q r. cl v (sym (ap (member v) (sym (wanted-here y m ms b))) ∙ member-left v (named-by m) _ q) r) (one .1) in
         ⊎-elim
         (λ r. eighteen n w _ (one .0) either (r .0) small)
         (λ r. later (entry m (one .0) ∷ env) (entry m (r .0) ∷ env′) (one .0) (r .0)
         (subst (λ (x : Normal). Agree (entry m (one .0) ∷ env) (entry m x ∷ env′)) (same-normal _ (one .0) (r .0) either (r .1))
         (agree-more m (one .0) env env′ a))
-        (inside-more (m .name) _ e i) (inside-more (m .name) _ e i′) (closed-more y m ms e _ cl) (one .2) (r .2))
+        (inside-more (m .name) _ e i) (closed-more y m ms e _ cl) (one .2) (r .2))
         (refused-next _ _ _ _ n c y w g′)
     go false true b b′ later =
         let g = subst (λ (r : List Placed). IsNormalised (in-turn d env last r)) (reached-later y m ms k e b) h in
@@ -135,12 +135,12 @@ both-calls d asked y n c w small (m ∷ ms) k e env env′ last last′ f a i i�
         ⊎-elim
         (λ r. clear (sym (sym b ∙ ap (λ (v : Name). member v (wanted y ms)) (r .1) ∙ wanted-asked y ms)))
         (λ r. later env (entry m (r .0) ∷ env′) last (r .0) (agree-skip m (r .0) e env env′ (f .0) i a)
-        (inside-later (m .name) _ e i) (inside-more (m .name) _ e i′) (closed-skip y m ms e _ b cl) g (r .2))
+        (inside-later (m .name) _ e i) (closed-skip y m ms e _ b cl) g (r .2))
         (refused-next _ _ _ _ n c y w g′)
     go false false b b′ later =
         let g = subst (λ (r : List Placed). IsNormalised (in-turn d env last r)) (reached-later y m ms k e b) h in
         let g′ = sym (ap (λ (r : List Placed). in-turn d env′ last′ r) (reached-later asked m ms k e b′)) ∙ h′ in
-        later env env′ last last′ a (inside-later (m .name) _ e i) (inside-later (m .name) _ e i′) (closed-skip y m ms e _ b cl) g g′
+        later env env′ last last′ a (inside-later (m .name) _ e i) (closed-skip y m ms e _ b cl) g g′
     go true false b b′ later =
         let g′ = sym (ap (λ (r : List Placed). in-turn d env′ last′ r) (reached-later asked m ms k e b′)) ∙ h′ in
         clear (sym (wanted-within y asked (m .name ∷ e) ms (f .1) (refused-reached d asked ms _ _ _ _ n c y w g′) (m .name) b) ∙ b′)
@@ -191,7 +191,7 @@ alone-accepted asked ms fresh stands alone small = go (normalise asked ms) refl 
         ⊎-elim
         (λ p. sym (x .1) ∙ p)
         (λ k. absurd (both-calls (module-names ms) asked y n c w s ms 0 [] [] [] empty empty fresh
-        (λ v z. refl) (λ v z. z) (λ v z. z) (λ v z g. g)
+        (λ v z. refl) (λ v z. z) (λ v z g. g)
         (in-its-turn y ms (subst (λ (v : Name). IsNormalised (normalise v ms)) (x .1) k)) h))
         (x .2)
 

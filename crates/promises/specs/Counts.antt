@@ -20,7 +20,7 @@ use Rattle.meaning.specs.Checks.{Outcome, fine, stop, _>>=_, _>>_, unless, cons
 use Rattle.meaning.specs.Clauses.{rename, bound-to, bind}
 use Rattle.meaning.specs.Own.{available-sorts}
 use Rattle.meaning.specs.Typing.{made-equation, typed-equations}
-use Rattle.meaning.specs.Evaluate.{Evaluated, named-by, names-right, acyclic, once-in, once-in-parameters, declared-once, normal-of, clause, clauses, expressions, united, imported, own-checks, own-equations, joined-own, evaluate}
+use Rattle.meaning.specs.Evaluate.{Evaluated, named-by, names-right, once-in, once-in-parameters, declared-once, normal-of, clause, clauses, expressions, united, imported, own-checks, own-equations, joined-own, evaluate}
 use Rattle.meaning.specs.Texts.{Texts, Reading, all-read, refused-in, read-texts}
 use Rattle.meaning.specs.Reached.{Placed, reached-among, reached, Ended, normalised, refused-at, end-or, total-of, in-turn, module-names, short-or-blank, normalise}
 use Rattle.meaning.specs.Listing.{lines-text}
@@ -73,10 +73,10 @@ module _ (declared : List Name) where
   in-turn-counted env last [] = omega arith
   in-turn-counted env last (x ∷ xs) =
       go (evaluate declared (x .earlier) (x .number) (total-of env) env (x .self)) refl
-      (λ n. in-turn-counted (record { name = x .self .name; names = named-by (x .self); normal = n } ∷ env) n xs)
+      (λ n. in-turn-counted (record { name = x .self .name; normal = n } ∷ env) n xs)
     where
       after : Normal → Ended
-      after n = in-turn declared (record { name = x .self .name; names = named-by (x .self); normal = n } ∷ env) n xs
+      after n = in-turn declared (record { name = x .self .name; normal = n } ∷ env) n xs
 
       go : (o : Outcome Normal) → evaluate declared (x .earlier) (x .number) (total-of env) env (x .self) ≡ o
           → ((n : Normal) → CountedIn declared (suc (length env)) xs (after n))
@@ -144,124 +144,128 @@ module _ (memory-lent output-lent : ℕ) (asked : Name) (texts : Texts) where
   counted =
       by-cases (Counted memory-lent asked texts) _ _ _ (λ e. memory-short e refl refl) (λ e. read-counted (read-texts texts) refl)
 
--- ---- 1 to 6: evaluating refuses with 7 and more
+-- ---- 1 to 6: evaluating refuses with 7 to 18
 
-abbrev FromSeven : {A : Type 0} → Outcome A → Type 0
-FromSeven (fine a) = Unit {0}
-FromSeven (stop k w) = 7 ≤ k
+-- the numbers of evaluating
+abbrev pub OfEvaluating : ℕ → Type 0
+OfEvaluating k = (7 ≤ k) × (k ≤ 18)
 
-bound-from : {A B : Type 0} (o : Outcome A) (f : A → Outcome B) → FromSeven o → ((a : A) → FromSeven (f a)) → FromSeven (o >>= f)
+abbrev pub SevenToEighteen : {A : Type 0} → Outcome A → Type 0
+SevenToEighteen (fine a) = Unit {0}
+SevenToEighteen (stop k w) = OfEvaluating k
+
+bound-from : {A B : Type 0} (o : Outcome A) (f : A → Outcome B) → SevenToEighteen o → ((a : A) → SevenToEighteen (f a)) → SevenToEighteen (o >>= f)
 unfolding _>>=_
 bound-from (fine a) f h g = g a
 bound-from (stop k w) f h g = h
 
-then-from : {A B : Type 0} (o : Outcome A) (m : Outcome B) → FromSeven o → FromSeven m → FromSeven (o >> m)
+then-from : {A B : Type 0} (o : Outcome A) (m : Outcome B) → SevenToEighteen o → SevenToEighteen m → SevenToEighteen (o >> m)
 unfolding _>>_
 then-from (fine a) m h g = g
 then-from (stop k w) m h g = h
 
-unless-from : (k : ℕ) (o : Option Name) → 7 ≤ k → FromSeven (unless k o)
+unless-from : (k : ℕ) (o : Option Name) → OfEvaluating k → SevenToEighteen (unless k o)
 unfolding unless
 unless-from k none h = tt
 unless-from k (some w) h = h
 
-fits-from : (b : Bool) → FromSeven (fits b)
+fits-from : (b : Bool) → SevenToEighteen (fits b)
 unfolding fits pick
 fits-from true = tt
-fits-from false = lit≤ tt
+fits-from false = (lit≤ tt, lit≤ tt)
 
-consistent-from : (v : Visible) (own : List Item) → FromSeven (consistent v own)
+consistent-from : (v : Visible) (own : List Item) → SevenToEighteen (consistent v own)
 unfolding consistent
 consistent-from v own =
-    then-from _ _ (unless-from 15 _ (lit≤ tt))
-    (then-from _ _ (unless-from 10 _ (lit≤ tt)) (then-from _ _ (unless-from 10 _ (lit≤ tt)) (unless-from 11 _ (lit≤ tt))))
+    then-from _ _ (unless-from 15 _ (lit≤ tt, lit≤ tt))
+    (then-from _ _ (unless-from 10 _ (lit≤ tt, lit≤ tt)) (then-from _ _ (unless-from 10 _ (lit≤ tt, lit≤ tt)) (unless-from 11 _ (lit≤ tt, lit≤ tt))))
 
-checked-from : (n : Normal) → FromSeven (checked n)
+checked-from : (n : Normal) → SevenToEighteen (checked n)
 unfolding checked room
 checked-from n = then-from _ _ (consistent-from (n .visible) []) (then-from _ _ (fits-from _) tt)
 
-rename-from : (rs : List Pair) (n : Normal) → FromSeven (rename rs n)
+rename-from : (rs : List Pair) (n : Normal) → SevenToEighteen (rename rs n)
 unfolding rename
-rename-from rs n = then-from _ _ (unless-from 14 _ (lit≤ tt)) (checked-from _)
+rename-from rs n = then-from _ _ (unless-from 14 _ (lit≤ tt, lit≤ tt)) (checked-from _)
 
-bind-from : (p : Name) (rs : List Pair) (n actual : Normal) → FromSeven (bind p rs n actual)
+bind-from : (p : Name) (rs : List Pair) (n actual : Normal) → SevenToEighteen (bind p rs n actual)
 unfolding bind bound-to
 bind-from p rs n actual =
-    by-cases FromSeven _ _ _
-    (λ e. then-from _ _ (unless-from 16 _ (lit≤ tt)) (then-from _ _ (unless-from 16 _ (lit≤ tt)) (checked-from _))) (λ e. lit≤ tt)
+    by-cases SevenToEighteen _ _ _
+    (λ e. then-from _ _ (unless-from 16 _ (lit≤ tt, lit≤ tt)) (then-from _ _ (unless-from 16 _ (lit≤ tt, lit≤ tt)) (checked-from _))) (λ e. (lit≤ tt, lit≤ tt))
 
-clause-from : (env : List Evaluated) (c : Clause) (n : Normal) → FromSeven (clause env c n)
+clause-from : (env : List Evaluated) (c : Clause) (n : Normal) → SevenToEighteen (clause env c n)
 unfolding clause
 clause-from env (renamed-by rs) n = rename-from rs n
 clause-from env (bound-by p rs m) n = bind-from p rs n (normal-of env m)
 
-clauses-from : (env : List Evaluated) (cs : List Clause) (n : Normal) → FromSeven (clauses env cs n)
+clauses-from : (env : List Evaluated) (cs : List Clause) (n : Normal) → SevenToEighteen (clauses env cs n)
 unfolding clauses
 clauses-from env [] n = tt
 clauses-from env (c ∷ cs) n = bound-from _ _ (clause-from env c n) (λ k. clauses-from env cs k)
 
-expressions-from : (env : List Evaluated) (is : List Import) → FromSeven (expressions env is)
+expressions-from : (env : List Evaluated) (is : List Import) → SevenToEighteen (expressions env is)
 unfolding expressions
 expressions-from env [] = tt
 expressions-from env (i ∷ is) = bound-from _ _ (clauses-from env (i .clauses) _) (λ n. bound-from _ _ (expressions-from env is) (λ ns. tt))
 
-united-from : (n : Normal) (ks : List Normal) → FromSeven (united n ks)
+united-from : (n : Normal) (ks : List Normal) → SevenToEighteen (united n ks)
 unfolding united
 united-from n [] = tt
 united-from n (k ∷ ks) = bound-from _ _ (checked-from _) (λ u. united-from u ks)
 
-names-right-from : (declared earlier ws : List Name) → FromSeven (names-right declared earlier ws)
+names-right-from : (declared earlier ws : List Name) → SevenToEighteen (names-right declared earlier ws)
 unfolding names-right
 names-right-from declared earlier [] = tt
 names-right-from declared earlier (w ∷ ws) =
-    by-cases FromSeven _ _ _ (λ e. lit≤ tt) (λ e. by-cases FromSeven _ _ _ (λ f. lit≤ tt) (λ f. names-right-from declared earlier ws))
+    by-cases SevenToEighteen _ _ _ (λ e. (lit≤ tt, lit≤ tt))
+    (λ e. by-cases SevenToEighteen _ _ _ (λ f. (lit≤ tt, lit≤ tt)) (λ f. names-right-from declared earlier ws))
 
-once-in-from : (s : Signature) → FromSeven (once-in s)
+once-in-from : (s : Signature) → SevenToEighteen (once-in s)
 unfolding once-in
-once-in-from s = then-from _ _ (unless-from 9 _ (lit≤ tt)) (unless-from 9 _ (lit≤ tt))
+once-in-from s = then-from _ _ (unless-from 9 _ (lit≤ tt, lit≤ tt)) (unless-from 9 _ (lit≤ tt, lit≤ tt))
 
-once-in-parameters-from : (seen : List Name) (ps : List Parameter) → FromSeven (once-in-parameters seen ps)
+once-in-parameters-from : (seen : List Name) (ps : List Parameter) → SevenToEighteen (once-in-parameters seen ps)
 unfolding once-in-parameters
 once-in-parameters-from seen [] = tt
 once-in-parameters-from seen (p ∷ ps) =
-    by-cases FromSeven _ _ _ (λ e. lit≤ tt)
+    by-cases SevenToEighteen _ _ _ (λ e. (lit≤ tt, lit≤ tt))
     (λ e. then-from _ _ (once-in-from (p .signature)) (once-in-parameters-from (p .name ∷ seen) ps))
 
-own-checks-from : (m : Module) (seen : List Name) (v : Visible) → FromSeven (own-checks m seen v)
+own-checks-from : (m : Module) (seen : List Name) (v : Visible) → SevenToEighteen (own-checks m seen v)
 unfolding own-checks available-sorts
-own-checks-from m seen v = then-from _ _ (consistent-from v _) (then-from _ _ available (unless-from 12 _ (lit≤ tt)))
+own-checks-from m seen v = then-from _ _ (consistent-from v _) (then-from _ _ available (unless-from 12 _ (lit≤ tt, lit≤ tt)))
   where
-    available : FromSeven (available-sorts m seen)
+    available : SevenToEighteen (available-sorts m seen)
     available =
-        then-from _ _ (unless-from 13 _ (lit≤ tt))
-        (then-from _ _ (unless-from 13 _ (lit≤ tt)) (then-from _ _ (unless-from 13 _ (lit≤ tt)) (unless-from 13 _ (lit≤ tt))))
+        then-from _ _ (unless-from 13 _ (lit≤ tt, lit≤ tt))
+        (then-from _ _ (unless-from 13 _ (lit≤ tt, lit≤ tt)) (then-from _ _ (unless-from 13 _ (lit≤ tt, lit≤ tt)) (unless-from 13 _ (lit≤ tt, lit≤ tt))))
 
-made-from : (home at : ℕ) (tag : Name) (c : Option ResolvedSides) (ks : Option (List ResolvedSides)) → FromSeven (made-equation home at tag c ks)
+made-from : (home at : ℕ) (tag : Name) (c : Option ResolvedSides) (ks : Option (List ResolvedSides)) → SevenToEighteen (made-equation home at tag c ks)
 unfolding made-equation
-made-from home at tag none ks = lit≤ tt
-made-from home at tag (some c) none = lit≤ tt
+made-from home at tag none ks = (lit≤ tt, lit≤ tt)
+made-from home at tag (some c) none = (lit≤ tt, lit≤ tt)
 made-from home at tag (some c) (some ks) = tt
 
-typed-from : (known : List Item) (home at : ℕ) (es : List Equation) → FromSeven (typed-equations known home at es)
+typed-from : (known : List Item) (home at : ℕ) (es : List Equation) → SevenToEighteen (typed-equations known home at es)
 unfolding typed-equations
 typed-from known home at [] = tt
 typed-from known home at (r ∷ rs) =
     bound-from _ _ (made-from home at (r .tag) _ _) (λ x. bound-from _ _ (typed-from known home (at + 1) rs) (λ xs. tt))
 
-joined-own-from : (home : ℕ) (total : Size) (m : Module) (n : Normal) → FromSeven (joined-own home total m n)
+joined-own-from : (home : ℕ) (total : Size) (m : Module) (n : Normal) → SevenToEighteen (joined-own home total m n)
 unfolding joined-own own-equations room total-room
 joined-own-from home total m n =
     then-from _ _ (own-checks-from m _ _)
     (bound-from _ _ (typed-from _ home 0 (m .equations)) (λ es. then-from _ _ (fits-from _) (then-from _ _ (fits-from _) tt)))
 
-evaluate-from : (declared earlier : List Name) (home : ℕ) (total : Size) (env : List Evaluated) (m : Module)
-    → FromSeven (evaluate declared earlier home total env m)
-unfolding evaluate acyclic declared-once imported
+pub evaluate-from : (declared earlier : List Name) (home : ℕ) (total : Size) (env : List Evaluated) (m : Module)
+    → SevenToEighteen (evaluate declared earlier home total env m)
+unfolding evaluate declared-once imported
 evaluate-from declared earlier home total env m =
     then-from _ _ (names-right-from declared earlier (named-by m))
-    (then-from _ _ (by-cases FromSeven _ _ _ (λ e. lit≤ tt) (λ e. tt))
     (then-from _ _ (then-from _ _ (once-in-parameters-from [] (m .parameters)) (then-from _ _ (once-in-from (m .exports)) (once-in-from (m .hidden))))
-    (bound-from _ _ (bound-from _ _ (expressions-from env (m .imports)) (united-from empty)) (joined-own-from home total m))))
+    (bound-from _ _ (bound-from _ _ (expressions-from env (m .imports)) (united-from empty)) (joined-own-from home total m)))
 
 -- a call that gives 1 to 6 has evaluated nothing
 pub none-evaluated : (memory-lent output-lent : ℕ) (asked : Name) (texts : Texts) → let r = answer memory-lent output-lent asked texts in
@@ -276,7 +280,7 @@ none-evaluated memory-lent output-lent asked texts low high =
     go r (all-evaluated ms q (inl e) h) low high = absurd (omega arith)
     go r (all-evaluated ms q (inr e) h) low high = absurd (omega arith)
     go r (up-to-refused ms q h) low high =
-        let from : 7 ≤ r .number = subst FromSeven (h .outcome) (evaluate-from _ _ _ _ _ (h .refused .self)) in absurd (omega arith)
+        let from = subst SevenToEighteen (h .outcome) (evaluate-from _ _ _ _ _ (h .refused .self)) in absurd (omega (arith, from .0))
 
 -- ---- the count by the name that is told: reached modules have distinct names, so one more than stand before the first of that name
 

@@ -214,8 +214,8 @@ evaluated-inline : (declared earlier : List Name) (home : ℕ) (total : Size) (e
     → IfFine InlineNormal (evaluate declared earlier home total env m)
 unfolding evaluate
 evaluated-inline declared earlier home total env m k h =
-    if-then InlineNormal _ _ (if-then InlineNormal _ _ (if-then InlineNormal _ _
-    (if-bind InlineNormal InlineNormal _ _ (imported-inline env k (m .imports) (h .imports)) (λ n q. own-inline home total m n h q))))
+    if-then InlineNormal _ _ (if-then InlineNormal _ _
+    (if-bind InlineNormal InlineNormal _ _ (imported-inline env k (m .imports) (h .imports)) (λ n q. own-inline home total m n h q)))
 
 -- ---- a call
 

@@ -45,3 +45,6 @@ pub mod OneListing
 -- the count of modules
 pub mod Counts
 pub mod Library
+-- no import goes in a circle: 20 is no number
+pub mod ReadNumbers
+pub mod NoCycle

@@ -38,13 +38,13 @@ not-before v taken (m ∷ ms) f h = go (same v (m .name)) refl h (not-before v (
     go true b q later = ap (λ (w : Name). member w taken) (same-eq v (m .name) b) ∙ f .0
     go false b q later = earlier (member v taken) refl (later q)
 
-names-both : (ls ms : List Module) → module-names (ls ++ ms) ≡ module-names ls ++ module-names ms
+pub names-both : (ls ms : List Module) → module-names (ls ++ ms) ≡ module-names ls ++ module-names ms
 unfolding module-names
 names-both [] ms = refl
 names-both (l ∷ ls) ms = ap (λ (ns : List Name). l .name ∷ ns) (names-both ls ms)
 
 -- so no module of the library has the name of a customer's
-not-both : (v : Name) (taken : List Name) (ls cs : List Module) → Fresh taken (ls ++ cs) → member v (module-names cs) ≡ true
+pub not-both : (v : Name) (taken : List Name) (ls cs : List Module) → Fresh taken (ls ++ cs) → member v (module-names cs) ≡ true
     → member v (module-names ls) ≡ false
 unfolding module-names member pick
 not-both v taken [] cs f h = refl

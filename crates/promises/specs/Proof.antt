@@ -138,7 +138,7 @@ all-turns asked ms ms′ (x ∷ xs) (x′ ∷ xs′) env env′ last last′ c s
     (λ p. same-module _ _ _ _ _ _ _ _ env env′ (x .self) (x′ .self) seen (k .asked-same p)
     (names-same _ _ _ _ (named-by (x .self)) (k .both-missing) (k .both-late)))
     (λ n n′ v b b′. all-turns asked ms ms′ xs xs′ _ _ n n′ (c .1)
-    (λ i. record { name = alike .name i; names = same-named (x .self) (x′ .self) (alike .imports) i; visible = v i } ∷ seen i) v b b′)
+    (λ i. record { name = alike .name i; visible = v i } ∷ seen i) v b b′)
     a a′
 
 pub normalise-stands : (asked : Name) (ms : List Module) → member asked (module-names ms) ≡ true

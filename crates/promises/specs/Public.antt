@@ -161,6 +161,5 @@ unfolding evaluate-visibly
 accepted-shows names env m u e =
     let a = then-fine _ _ u e in
     let b = then-fine _ _ u (a .1) in
-    let c = then-fine _ _ u (b .1) in
-    let g = bind-fine _ _ u (c .1) in
+    let g = bind-fine _ _ u (b .1) in
     record { imported = g .0; from-imports = g .1; whole = joined-public m (g .0) u (g .2) }

@@ -17,7 +17,7 @@ use Rattle.meaning.specs.Checks.{Outcome, fine, stop, Size, size, fits, room, c
 use Rattle.meaning.specs.Own.{resolved, function-type, own-sort, own-function, own-section, own-visible, own-variable, own-hidden-items, lacking, parameter-functions, available-sorts}
 use Rattle.meaning.specs.Typing.{typed}
 use Rattle.meaning.specs.Syntax.{Function, Signature, Parameter, Variable, variables-of, Pair, Clause, renamed-by, bound-by, Import, Module}
-use Rattle.meaning.specs.Evaluate.{Evaluated, normal-of, clause, clauses, expressions, united, imported, seen-sorts, joined-visible, own-checks, own-equations, joined-hidden, joined-own, named-by, evaluate}
+use Rattle.meaning.specs.Evaluate.{Evaluated, normal-of, clause, clauses, expressions, united, imported, seen-sorts, joined-visible, own-checks, own-equations, joined-hidden, joined-own, evaluate}
 use Rattle.meaning.specs.Clauses.{paired, otherwise, renaming, without-visible, without, rename, new-sort, new-function, bound-to, bind, formals}
 use Rattle.meaning.specs.Normal.{nothing-visible, nothing-hidden, empty, unite, unite-visible, unite-hidden, Normal, sorts-among}
 use Rattle.meaning.specs.Written.{equation-order, shape-rank, visible-order, visible-in-order, hidden-order, hidden-in-order, in-order}
@@ -552,8 +552,8 @@ pub evaluated-accepted : (declared earlier : List Name) (home : ℕ) (total : Si
     → Gives Accepted (evaluate declared earlier home total env m)
 unfolding evaluate
 evaluated-accepted declared earlier home total env m plain whole =
-    gives-then Accepted _ _ (λ a. gives-then Accepted _ _ (λ b. gives-then Accepted _ _ (λ c.
-    gives-bound Whole Accepted _ _ (imported-whole env whole (m .imports) (plain .imports)) (λ n w. joined-own-accepted m plain n w home total))))
+    gives-then Accepted _ _ (λ a. gives-then Accepted _ _ (λ b.
+    gives-bound Whole Accepted _ _ (imported-whole env whole (m .imports) (plain .imports)) (λ n w. joined-own-accepted m plain n w home total)))
 
 abbrev AcceptedEnd : Ended → Type 0
 AcceptedEnd (normalised count n) = Accepted n
@@ -566,10 +566,10 @@ in-turn-accepted declared env last [] s a h = a
 in-turn-accepted declared env last (x ∷ xs) s a h =
     go (evaluate declared (x .earlier) (x .number) (total-of env) env (x .self))
     (evaluated-accepted declared (x .earlier) (x .number) (total-of env) env (x .self) (h .0) s)
-    (λ n b. in-turn-accepted declared (record { name = x .self .name; names = named-by (x .self); normal = n } ∷ env) n xs (b .whole, s) b (h .1))
+    (λ n b. in-turn-accepted declared (record { name = x .self .name; normal = n } ∷ env) n xs (b .whole, s) b (h .1))
   where
     after : Normal → Ended
-    after n = in-turn declared (record { name = x .self .name; names = named-by (x .self); normal = n } ∷ env) n xs
+    after n = in-turn declared (record { name = x .self .name; normal = n } ∷ env) n xs
 
     go : (o : Outcome Normal) → Gives Accepted o → ((n : Normal) → Accepted n → AcceptedEnd (after n))
         → AcceptedEnd (end-or (length env + 1) (x .self .name) after o)

@@ -160,8 +160,8 @@ evaluated : (declared earlier : List Name) (home : ℕ) (total : Size) (env : Li
     → IfFine Declared (evaluate declared earlier home total env m)
 unfolding evaluate
 evaluated declared earlier home total env m k =
-    if-then Declared _ _ (if-then Declared _ _ (if-then Declared _ _
-    (if-bind Declared Declared _ _ (after-imports env k (m .imports)) (λ n q. after-own home total m n q))))
+    if-then Declared _ _ (if-then Declared _ _
+    (if-bind Declared Declared _ _ (after-imports env k (m .imports)) (λ n q. after-own home total m n q)))
 
 -- ---- a call
 

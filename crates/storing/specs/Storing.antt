@@ -113,9 +113,9 @@ module _ (text : List ℕ) (t k : ℕ) (f : Form) (c r : ℕ) (w w′ : List ℕ
   stored-table = table-more c r k w w′ (room .start) order end (stored .grown) (stored .row) below
 
   -- the module x, number k, is evaluated too
-  pub stored-env : (ds : List Name) (env : List Evaluated) (x : Name) (ns : List Name) (n : Normal) → number-of ds x ≡ k → k < length ds
+  pub stored-env : (ds : List Name) (env : List Evaluated) (x : Name) (n : Normal) → number-of ds x ≡ k → k < length ds
       → ((y : Name) → number-of ds y ≤ module-limit) → Stands text (part w 0 t) w f n → Distinct (n .hidden .items) → EnvStands text (part w 0 t) w ds env
-      → EnvStands text (part w′ 0 t) w′ ds (record { name = x; names = ns; normal = in-order n } ∷ env)
-  stored-env ds env x ns n number found few stands distinct all =
-      env-more c r k w w′ (room .start) order end (stored .grown) text t ds env x ns (in-order n) (tape-below (length w) t k f c room) number found few below
+      → EnvStands text (part w′ 0 t) w′ ds (record { name = x; normal = in-order n } ∷ env)
+  stored-env ds env x n number found few stands distinct all =
+      env-more c r k w w′ (room .start) order end (stored .grown) text t ds env x (in-order n) (tape-below (length w) t k f c room) number found few below
       (stored .stored n stands distinct) all

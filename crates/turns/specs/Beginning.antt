@@ -20,7 +20,7 @@ use Rattle.module_set.specs.ModuleSet.{holds}
 use Rattle.modules.specs.declared.Heads.{Heads}
 use Rattle.modules.specs.Modules.{declared, reached-set}
 use Rattle.modules.specs.ReachedLaws.{chosen}
-use Rattle.modules.specs.Meant.{none-earlier, none-among, reached-modules}
+use Rattle.modules.specs.Meant.{none-earlier, reached-modules}
 use Rattle.keeping.specs.Keeping.{Cleared}
 use Rattle.environment.specs.Starting.{table-none, env-none}
 use Rattle.importing.specs.Clausal.{number-within}
@@ -79,7 +79,6 @@ module _ (text : List ℕ) (t : ℕ) (w w′ : List ℕ) (h : Heads) (given : Gi
     prepared = record { ready = ready; modules = given .modules; evaluated = []; sofar = sofar (given .modules) (given .told) };
     earlier = [];
     before-it = none-earlier (module-names (given .modules));
-    among = none-among;
   }
 
   -- all rows of the table have the same
@@ -99,5 +98,5 @@ module _ (text : List ℕ) (t : ℕ) (w w′ : List ℕ) (h : Heads) (given : Gi
         subst (λ (xs : List Placed). EndsAs text t w″ r (in-turn (module-names ms) [] empty xs))
         (ap (λ (p : ℕ → Bool). chosen p 0 [] ms) (e ∙ ap (reached-set text (part w 0 t) h) number)
         ∙ sym (reached-modules text (part w 0 t) t ms h (told .spells) (told .fresh) asked))
-        (turned .meant ms [] [] empty (sofar ms told) (none-earlier (module-names ms)) none-among refl none-latest);
+        (turned .meant ms [] [] empty (sofar ms told) (none-earlier (module-names ms)) refl none-latest);
   }

@@ -22,7 +22,7 @@ use Rattle.module_set.specs.ModuleSet.{holds}
 use Rattle.modules.specs.declared.Heads.{Heads}
 use Rattle.modules.specs.ModuleLaws.{heads-number}
 use Rattle.modules.specs.ReachedLaws.{names-number, name-by-number, drop-some, chosen}
-use Rattle.modules.specs.Meant.{Earlier, Among, one-earlier, other-among, new-among}
+use Rattle.modules.specs.Meant.{Earlier, one-earlier}
 use Rattle.environment.specs.Environment.{kept-form}
 use Rattle.evaluating.specs.declared.states.State.{State}
 use Rattle.evaluating.specs.declared.evaluate.Stepped.{Stepped}
@@ -101,7 +101,7 @@ pub turns-over : (text : List ℕ) (t : ℕ) (w : List ℕ) (h : Heads) (set lef
     → Turned text t w h set k count last s (Normalised count last) w
 unfolding chosen in-turn
 turns-over text t w h set left k count last s z c = record {
-  meant = λ ms env earlier n sofar before-it among size stands.
+  meant = λ ms env earlier n sofar before-it size stands.
       let none : drop k ms ≡ [] = drop-of-length-le ms {i = k} (omega (arith, heads-number text (part w 0 t) t ms h (sofar .told .spells))) in
       subst (λ (xs : List Module). EndsAs text t w (Normalised count last) (in-turn (module-names ms) env n (chosen (holds set) k earlier xs))) (sym none)
       (record { count-so = sym size; last-so = stands });
@@ -144,37 +144,35 @@ module _ (text : List ℕ) (t : ℕ) (w : List ℕ) (h : Heads) (left k : ℕ) (
         };
         earlier = at (p .modules) (p .evaluated) (p .sofar) .self .name ∷ resumed .earlier;
         before-it = at-earlier (p .modules) (p .evaluated) (p .sofar) (resumed .earlier) (resumed .before-it);
-        among = other-among (p .evaluated) (resumed .earlier) _ (resumed .among);
       }
 
   pub passed-turned : (set count last : ℕ) (b : Bool) (end : Ended) (w′ : List ℕ) → b ≡ holds set k → b ≡ false
       → Turned text t w h set (k + 1) count last s end w′ → Turned text t w h set k count last s end w′
   passed-turned set count last b end w′ e f more = record {
-    meant = λ ms env earlier n sofar before-it among size stands.
+    meant = λ ms env earlier n sofar before-it size stands.
         let m = at ms env sofar in
         subst (λ (xs : List Placed). EndsAs text t w′ end (in-turn (module-names ms) env n xs))
         (sym (chosen-not set k earlier ms (m .later) (m .self) (m .here) (sym e ∙ f)))
-        (more .meant ms env (m .self .name ∷ earlier) n sofar (at-earlier ms env sofar earlier before-it) (other-among env earlier (m .self .name) among)
-        size stands);
+        (more .meant ms env (m .self .name ∷ earlier) n sofar (at-earlier ms env sofar earlier before-it) size stands);
   }
 
   module _ (step : Stepped) (w₁ : List ℕ) (stepping : Stepping text t w h k s step w₁) where
     stepped : (ms : List Module) (env : List Evaluated) (earlier : List Name) (sofar : Sofar text t w h s ms env)
-        → Earlier (module-names ms) k earlier → Among env earlier → (r : Stepped) → step ≡ r
+        → Earlier (module-names ms) k earlier → (r : Stepped) → step ≡ r
         → StepMeant text t w₁ h k ms env (at ms env sofar .self) (evaluate (module-names ms) earlier k (total-of env) env (at ms env sofar .self)) r
-    stepped ms env earlier sofar before-it among r e =
+    stepped ms env earlier sofar before-it r e =
         let m = at ms env sofar in
         subst (StepMeant text t w₁ h k ms env (m .self) (evaluate (module-names ms) earlier k (total-of env) env (m .self))) e
-        (stepping .meant ms env (m .self) (m .later) earlier sofar (m .here) before-it among)
+        (stepping .meant ms env (m .self) (m .later) earlier sofar (m .here) before-it)
 
     -- module k is in the set, and refused
     pub turn-refused : (set count last : ℕ) (b : Bool) (name number culprit : ℕ) → b ≡ holds set k → b ≡ true
         → name ≡ word-at (part w 0 t) (getD (h .places) k 0) → step ≡ StepRefused number culprit
         → Turned text t w h set k count last s (Refused number (count + 1) name culprit) w₁
     turn-refused set count last b name number culprit e f q g = record {
-      meant = λ ms env earlier n sofar before-it among size stands.
+      meant = λ ms env earlier n sofar before-it size stands.
           let m = at ms env sofar in
-          let stop-so = stepped ms env earlier sofar before-it among (StepRefused number culprit) g in
+          let stop-so = stepped ms env earlier sofar before-it (StepRefused number culprit) g in
           let end = Refused number (count + 1) name culprit in
           subst (λ (xs : List Placed). EndsAs text t w₁ end (in-turn (module-names ms) env n xs))
           (sym (chosen-here set k earlier ms (m .later) (m .self) (m .here) (sym e ∙ f)))
@@ -193,7 +191,7 @@ module _ (text : List ℕ) (t : ℕ) (w : List ℕ) (h : Heads) (left k : ℕ) (
       kept-resumed resumed =
           let p = resumed .prepared in
           let m = at (p .modules) (p .evaluated) (p .sofar) in
-          let kept = stepped (p .modules) (p .evaluated) (resumed .earlier) (p .sofar) (resumed .before-it) (resumed .among) (Kept r) g in
+          let kept = stepped (p .modules) (p .evaluated) (resumed .earlier) (p .sofar) (resumed .before-it) (Kept r) g in
           record {
             prepared = record {
               ready = kept .ready;
@@ -203,20 +201,19 @@ module _ (text : List ℕ) (t : ℕ) (w : List ℕ) (h : Heads) (left k : ℕ) (
             };
             earlier = m .self .name ∷ resumed .earlier;
             before-it = at-earlier (p .modules) (p .evaluated) (p .sofar) (resumed .earlier) (resumed .before-it);
-            among = new-among (p .evaluated) (resumed .earlier) (evaluated-as (m .self) (kept .normal)) (resumed .among);
           }
 
       pub kept-turned : (set count last : ℕ) (b : Bool) (end : Ended) (w₂ : List ℕ) → b ≡ holds set k → b ≡ true
           → Turned text t w₁ h set (k + 1) (count + 1) k r end w₂ → Turned text t w h set k count last s end w₂
       kept-turned set count last b end w₂ e f more = record {
-        meant = λ ms env earlier n sofar before-it among size stands.
+        meant = λ ms env earlier n sofar before-it size stands.
             let m = at ms env sofar in
-            let kept = stepped ms env earlier sofar before-it among (Kept r) g in
+            let kept = stepped ms env earlier sofar before-it (Kept r) g in
             let new = evaluated-as (m .self) (kept .normal) in
             subst (λ (xs : List Placed). EndsAs text t w₂ end (in-turn (module-names ms) env n xs))
             (sym (chosen-here set k earlier ms (m .later) (m .self) (m .here) (sym e ∙ f)))
             (subst (EndsAs text t w₂ end) (sym (turn-fine (module-names ms) env n _ _ (kept .normal) (kept .fine-so)))
             (more .meant ms (new ∷ env) (m .self .name ∷ earlier) (kept .normal) (kept .sofar) (at-earlier ms env sofar earlier before-it)
-            (new-among env earlier new among) (omega (arith, size))
+            (omega (arith, size))
             (latest-stands text t w₁ h r k ms env (m .self) (m .later) (kept .normal) (m .here) (kept .ready) (kept .sofar))));
       }

@@ -19,7 +19,7 @@ use Rattle.layout.specs.Layout.{tape-end}
 use Rattle.module_set.specs.ModuleSet.{holds}
 use Rattle.modules.specs.declared.Heads.{Heads}
 use Rattle.modules.specs.ReachedLaws.{chosen}
-use Rattle.modules.specs.Meant.{Earlier, Among}
+use Rattle.modules.specs.Meant.{Earlier}
 use Rattle.environment.specs.Environment.{kept-form}
 use Rattle.evaluating.specs.declared.states.State.{State}
 use Rattle.turns.specs.declared.Ended.{Ended}
@@ -49,17 +49,16 @@ EndsAs text t w (Refused number count m culprit) (Reached.normalised counted n) 
 EndsAs text t w (Refused number count m culprit) (Reached.refused-at told counted evaluating name) =
     RefusedAs text number count m culprit told counted evaluating name
 
--- there are such modules, and those evaluated stand before module k
+-- there are such modules, and names of those before module k
 pub record Resumed (text : List ℕ) (t : ℕ) (w : List ℕ) (h : Heads) (k : ℕ) (s : State) : Type 0 where
   pub prepared : Prepared text t w h k s
   pub earlier : List Name
   pub before-it : Earlier (module-names (prepared .modules)) k earlier
-  pub among : Among (prepared .evaluated) earlier
 
 -- modules from number k on, after `count` others, the latest of which is number `last`
 pub record Turned (text : List ℕ) (t : ℕ) (w : List ℕ) (h : Heads) (set k count last : ℕ) (s : State) (r : Ended) (w′ : List ℕ) : Type 0 where
   pub meant : (ms : List Module) (env : List Evaluated) (earlier : List Name) (n : Normal) → Sofar text t w h s ms env
-      → Earlier (module-names ms) k earlier → Among env earlier → length env ≡ count → LastStands text t w last n
+      → Earlier (module-names ms) k earlier → length env ≡ count → LastStands text t w last n
       → EndsAs text t w′ r (in-turn (module-names ms) env n (chosen (holds set) k earlier (drop k ms)))
 
 -- what is given at first: memory, and a tape that reading can leave

@@ -16,7 +16,7 @@ pub struct Refusal {
 }
 
 impl Refusal {
-    /// 1 to 20.
+    /// 1 to 19.
     pub fn number(&self) -> u32 {
         self.number
     }
@@ -69,7 +69,6 @@ fn text(number: u32) -> &'static str {
         17 => "an equation makes no sense",
         18 => "the normal form is too large",
         19 => "the listing does not fit",
-        20 => "modules import each other in a circle",
         _ => "no such number",
     }
 }

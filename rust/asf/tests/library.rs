@@ -252,7 +252,7 @@ fn the_vectors() {
     let vectors = Path::new(env!("CARGO_MANIFEST_DIR")).join("../reference/vectors");
     let mut memory = Memory::new();
     let mut count = 0;
-    for folder in ["appendix", "readings", "one"] {
+    for folder in ["appendix", "readings", "one", "nine"] {
         for input in inputs(&vectors.join(folder)) {
             let expected = fs::read(input.with_extension("out")).expect("an output");
             let text = fs::read(&input).expect("an input");

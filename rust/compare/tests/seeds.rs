@@ -6,7 +6,7 @@ use compare::division::divisions;
 use compare::engines::{input, reference};
 use reference::{asfnorm, next_line, normalise, parts, Answer, Lent, Name, Step, TEXT_BYTES};
 
-/// 20 can not be given: every named module stands earlier, so 7 or 8 comes first. 21 is the listing reader's.
+/// Every number that a call can give; 21 is the listing reader's.
 #[test]
 fn every_number_is_reached() {
     let mut counts = [0; 22];

@@ -24,7 +24,7 @@ struct Forms<'s> {
 }
 
 pub fn evaluate(specification: &Specification, asked: usize) -> Evaluated {
-    let reached = reached(specification, vec![asked]);
+    let reached = reached(specification, asked);
     let mut forms = Forms {
         specification,
         forms: vec![None; specification.modules.len()],
@@ -45,10 +45,10 @@ pub fn evaluate(specification: &Specification, asked: usize) -> Evaluated {
     unreachable!("the asked module is reached")
 }
 
-/// All modules that are reached from some: those, and every module that a reached one names and that stands earlier.
-fn reached(specification: &Specification, from: Vec<usize>) -> Vec<bool> {
+/// All modules that are reached from the asked one: it, and every module that a reached one names and that stands earlier.
+fn reached(specification: &Specification, asked: usize) -> Vec<bool> {
     let mut reached = vec![false; specification.modules.len()];
-    let mut waiting = from;
+    let mut waiting = vec![asked];
     while let Some(index) = waiting.pop() {
         if reached[index] {
             continue;
@@ -77,19 +77,14 @@ impl Forms<'_> {
         Ok(form)
     }
 
-    /// Step 1: absent 7, not declared earlier 8; then 20, which no text reaches.
+    /// Step 1: absent 7, not declared earlier 8.
     fn module_names(&self, index: usize) -> Result<(), Refusal> {
-        let module = &self.specification.modules[index];
-        let mut named = Vec::new();
-        for name in module.named_modules() {
+        for name in self.specification.modules[index].named_modules() {
             match self.specification.index(name) {
                 None => return refuse(7, name),
                 Some(late) if late >= index => return refuse(8, name),
-                Some(earlier) => named.push(earlier),
+                Some(_) => {}
             }
-        }
-        if reached(self.specification, named)[index] {
-            return refuse(20, &module.name);
         }
         Ok(())
     }

@@ -5,7 +5,7 @@ use std::env;
 use std::fs;
 use std::path::{Path, PathBuf};
 
-/// The folder with `appendix/`, `readings/` and `one/`: from the environment, or beside this crate.
+/// The folder with `appendix/`, `readings/`, `one/` and `nine/`: from the environment, or beside this crate.
 fn folder() -> PathBuf {
     match env::var_os("ASF_VECTORS") {
         Some(path) => PathBuf::from(path),
@@ -56,4 +56,9 @@ fn readings() {
 #[test]
 fn one() {
     run("one", 51);
+}
+
+#[test]
+fn nine() {
+    run("nine", 6);
 }

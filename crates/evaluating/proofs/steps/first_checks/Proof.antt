@@ -10,7 +10,7 @@ first-checks-spec =
     (λ c κs. search needs)  -- names-right-requires
     (λ c. search needs)  -- enum-known-n
     (λ c. search needs)  -- enum-told
-    (λ c κs. search needs)  -- later-checks-requires
+    (λ c κs. search needs)  -- declared-once-requires
     (λ c. search cases)  -- returns
     (λ c. search cases)  -- returns-2
     )
