@@ -44,7 +44,7 @@ is-blank = refl
 name-held : (n b : List ℕ) (k : ℕ) → length n ≤ name-size → pen k b ≡ written 41 n (pen 0 zeros) → record { bytes = b; length = k } ≡ held n
 unfolding held
 name-held n b k h e =
-    let bytes = laid 41 0 k n zeros b (omega arith) (omega (arith, length-replicate {A = ℕ} 40 0)) e in
+    let bytes = laid 41 0 k n zeros b (omega (arith, length-replicate {A = ℕ} 40 0)) (omega arith) (omega (arith, length-replicate {A = ℕ} 40 0)) e in
     let size = reached 41 0 k n zeros b (omega arith) e in
     let z : 0 + length n ≡ length n = omega arith in
     λ i. record {

@@ -165,7 +165,7 @@ module _ (bs o e : List ℕ) (k : ℕ) (c : pen k e ≡ written (length o + 1) b
       let f : pen m o′ ≡ written (length o + 1) bs (pen 0 o) = rw unchanged at g in
       let all : m ≡ length bs = reached (length o + 1) 0 m bs o o′ (omega arith) f ∙ zero-add (length bs) in
       let after : o′ ≡ bs ++ drop (length bs) o =
-      laid (length o + 1) 0 m bs o o′ (omega arith) (omega arith) f ∙ ap (λ (n : ℕ). bs ++ drop n o) (zero-add (length bs)) in
+      laid (length o + 1) 0 m bs o o′ (omega arith) (omega arith) (omega arith) f ∙ ap (λ (n : ℕ). bs ++ drop n o) (zero-add (length bs)) in
       rw (le-leb (length bs) (length o) (omega arith), all, after)
 
 pub ruleset cases = (line-done, key-sort, key-variable, key-function, rest-done, item-done, visible-done, standing-there, standing-elsewhere, hidden-done, formals-done, parameter-done, seen-done, equation-done, equation-read, then, rows-start, rows-again, rows-done, too-long, all-written, needs)

@@ -25,7 +25,7 @@ use Rattle.ordering.specs.declared.Table.{Table}
 use Rattle.ordering.specs.declared.Table.the-variants.{Visible, Sorts, Hidden, Equations}
 use Rattle.printing.specs.Terms.{equation-at}
 use Rattle.ordering.specs.Orders.{line-size, standing-word, kind-rank, by-name-then-type, by-kind-then-name, by-origin-then-type, row-place, by-position-then-line, Small, row-order}
-use Rattle.ordering.proofs.TextCases.{not-after-told}
+use Rattle.names.proofs.Compared.{not-after-told}
 
 -- ---- by one thing, then by another
 

@@ -4,20 +4,25 @@ use Prim.Native.Nat.{ℕ, _+_, _*_, _^_, _<_, _≤_}
 use mathlib.Core.Bool.{Bool, true}
 use mathlib.Core.List.{List, []}
 use lib.Dec.{eqb, leb}
-use lib.ListN.{length, getD, take}
+use lib.ListN.{length, getD, take, drop}
 use Rattle.meaning.specs.Lists.{pick}
 use Rattle.meaning.specs.Names.{not-after, by-two}
 use Rattle.meaning.specs.Origins.{Item}
 use Rattle.meaning.specs.Written.{origin-text, shape-text, shape-rank, visible-order, hidden-order}
 use Rattle.meaning.specs.OrderLaws.{IsOrder, order-of, names-ordered}
 use Rattle.meaning.specs.ListingOrder.{visible-ordered, hidden-ordered, Place, place-order, place-ordered}
+use Rattle.names.specs.Word.{compared}
+use Rattle.tables.specs.declared.Row.{Row}
+use Rattle.tables.specs.Rows.{origin-of, shape-of}
 use Rattle.tables.specs.declared.Section.{Section}
 use Rattle.tables.specs.declared.Section.the-variants as section
 use Rattle.forms.specs.declared.EquationRow.{EquationRow}
 use Rattle.forms.specs.Forms.{items-at, equation-row-at}
 use Rattle.order.specs.Ordered.{row-item}
 use Rattle.printing.specs.Terms.{equation-at}
-use Rattle.ordering.specs.declared.Line.{Line}
+use Rattle.ordering.specs.declared.Part.{Part}
+use Rattle.ordering.specs.declared.Facet.{Facet}
+use Rattle.ordering.specs.declared.Facet.the-variants.{Origin, Shape}
 use Rattle.ordering.specs.declared.Table.{Table}
 use Rattle.ordering.specs.declared.Table.the-variants.{Visible, Sorts, Hidden, Equations}
 
@@ -26,9 +31,28 @@ use Rattle.ordering.specs.declared.Table.the-variants.{Visible, Sorts, H
 abbrev pub line-size : ℕ
 line-size = 4096
 
-pub record LineOf (r : Line) (bs : List ℕ) : Type 0 where
+-- a facet of an item, as it is written
+unfoldable pub facet-text : List ℕ → List ℕ → List ℕ → Facet → Row → List ℕ
+facet-text text tape w Origin r = origin-text (origin-of text tape (r .origin))
+facet-text text tape w (Shape b n) r = shape-text (items-at text tape w b n) (shape-of text tape (r .kind) (r .sorts))
+
+-- the number of hidden sorts is a number of rows
+abbrev pub Countable : Facet → Type 0
+Countable Origin = Unit {0}
+Countable (Shape b n) = n < 2 ^ 31
+
+-- so many bytes of a line are looked at together
+abbrev pub part-size : ℕ
+part-size = 32
+
+pub record PartOf (r : Part) (before : ℕ) (bs : List ℕ) : Type 0 where
   pub fits : r .size ≤ length (r .bytes)
-  pub front : take (r .size) (r .bytes) ≡ take line-size bs
+  pub shows : take (r .size) (r .bytes) ≡ take part-size (drop before bs)
+  pub sized : r .size ≡ length (take part-size (drop before bs))
+
+-- two parts of lines, the first of n bytes: 3 where what follows them decides, for both are full and the same
+unfoldable pub parts-compared : ℕ → List ℕ → List ℕ → ℕ
+parts-compared n x y = pick (eqb n part-size) (pick (eqb (compared x y) 1) 3 (compared x y)) (compared x y)
 
 -- ---- items
 

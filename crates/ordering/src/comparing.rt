@@ -105,9 +105,7 @@ fn origin_not_after(
     requires { ⌜ count < 2 ^ 31 ⌝ }
     ensures { λ r. ⌜ r ≡ by-origin-then-type (items-at (joint (now (library .entry)) (now (text .entry))) (now (tape .entry)) (now (work .entry)) sorts count) (item-of (joint (now (library .entry)) (now (text .entry))) (now (tape .entry)) a) (item-of (joint (now (library .entry)) (now (text .entry))) (now (tape .entry)) b) ⌝ }
 {
-    let o = a.origin;
-    let p = b.origin;
-    let c = compare_origins(library, text, tape, o, p);
+    let c = compare_origins(library, text, tape, work, a, b);
     if c == 1 {
         return type_not_after(library, text, tape, work, sorts, count, a, b);
     }
@@ -207,9 +205,7 @@ fn sort_rows(
 {
     let a = read_row(work, base, i);
     let b = read_row(work, base, j);
-    let o = a.origin;
-    let p = b.origin;
-    compare_origins(library, text, tape, o, p) < 2
+    compare_origins(library, text, tape, work, a, b) < 2
 }
 
 // Does row i of the hidden items at `base` come not after row j?

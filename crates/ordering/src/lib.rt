@@ -6,10 +6,17 @@ pub mod keeping;
 pub mod sorting;
 pub mod texts;
 
-// A text to be compared, up to more bytes than any origin, type or equation has: the first `size` bytes.
-pub struct Line {
-    pub bytes: [u8; 4096],
+// A part of a written line: the first `size` bytes.
+pub struct Part {
+    pub bytes: [u8; 32],
     pub size: usize,
+}
+
+// What of two items is compared as it is written: their origins; or what follows their names, where the hidden sorts in order are `count` rows
+// from `base` on.
+pub enum Facet {
+    Origin,
+    Shape { base: u32, count: u32 },
 }
 
 // A table of rows to be put in order, by the places of the working memory where it stands: visible items; the sorts among hidden items;

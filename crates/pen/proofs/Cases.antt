@@ -14,16 +14,30 @@ use Rattle.meaning.specs.Written.{digits, decimal}
 use Rattle.meaning.specs.Numbers.{name-size}
 use Rattle.names.specs.Word.{name-of}
 use Rattle.names.specs.Joint.{joint, name-in-text}
-use Rattle.pen.specs.Pen.{Pen, pen, written, part}
-use Rattle.pen.proofs.Laws.{mark-on, mark-off, written-append}
+use Rattle.pen.specs.Pen.{Pen, pen, places-before, shown, written, part}
+use Rattle.pen.proofs.Laws.{shown-in, shown-before, mark-on, mark-off, written-append}
+
+module _ (l n : ℕ) where
+  pub places-left : n < l → l - n - 1 ≡ l - (n + 1)
+  places-left h = omega arith
+
+  pub no-places : l ≤ n → 0 ≡ l - (n + 1)
+  no-places h = omega arith
+
+module _ (s at b : ℕ) (o : List ℕ) where
+  pub show-in : s ≤ at → set o (at - s) b ≡ shown s at b o
+  show-in h = sym (shown-in s at b o h)
+
+  pub show-past : s ≤ at → length o ≤ at - s → o ≡ shown s at b o
+  show-past h k = sym (set-out o (at - s) b k) ∙ show-in h
+
+  pub show-before : at < s → o ≡ shown s at b o
+  show-before h = sym (shown-before s at b o h)
 
 module _ (l : ℕ) (b at : ℕ) (o : List ℕ) where
-  pub put-in : at < l → pen (at + 1) (set o at b) ≡ written l (b ∷ []) (pen at o)
-  unfolding written
-  put-in h = sym (mark-on l b (pen at o) h)
-
-  pub put-past : at < l → length o ≤ at → pen (at + 1) o ≡ written l (b ∷ []) (pen at o)
-  put-past h k = ap (pen (at + 1)) (sym (set-out o at b k)) ∙ put-in h
+  pub put-in : (s : ℕ) (o′ : List ℕ) → at < l → s ≡ l - (length o + 1) → o′ ≡ shown s at b o → pen (at + 1) o′ ≡ written l (b ∷ []) (pen at o)
+  unfolding written places-before
+  put-in s o′ h e f = ap (pen (at + 1)) (f ∙ ap (λ (k : ℕ). shown k at b o) e) ∙ sym (mark-on l b (pen at o) h)
 
   pub put-full : l ≤ at → pen at o ≡ written l (b ∷ []) (pen at o)
   unfolding written
@@ -110,4 +124,4 @@ unfolding decimal
 number-done l n p q e = e
 
 -- what the answers of this crate hand to `search`
-pub ruleset cases = (put-in, put-past, put-full, copy-start, copy-again, copy-end, copy-past, digits-none, digits-one, digits-more, text-done, name-left, name-over, name-right, number-done, needs)
+pub ruleset cases = (places-left, no-places, show-in, show-past, show-before, put-in, put-full, copy-start, copy-again, copy-end, copy-past, digits-none, digits-one, digits-more, text-done, name-left, name-over, name-right, number-done, needs)

@@ -190,7 +190,7 @@ module _ (k n : ℕ) (page page′ : List ℕ) (ten : length page ≡ 10) (e : p
   unfolding decimal
   ten-front =
       let size : k - 0 ≡ k = omega arith in
-      let stands = laid 11 0 k (digits 10 n) page page′ (omega (arith, digits-size 10 n)) (omega (arith, digits-size 10 n, ten)) e in
+      let stands = laid 11 0 k (digits 10 n) page page′ (omega (arith, ten)) (omega (arith, digits-size 10 n)) (omega (arith, digits-size 10 n, ten)) e in
       rw (size, stands) (take-at (digits 10 n) (drop (0 + length (digits 10 n)) page) k (sym ten-reached))
 
   pub decimal-told : (bs : List ℕ) (r : Bool) → r ≡ same bs (take (k - 0) (drop 0 page′)) → r ≡ same bs (decimal n)

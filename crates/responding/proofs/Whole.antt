@@ -19,5 +19,5 @@ module _ (input work out page : List ℕ) (size : ℕ) (work′ out′ page′ :
   pub page-front : take size page′ ≡ text
   page-front =
       let short : length text ≤ length page = omega (arith, page-size, r .fits room) in
-      let stands = laid (length page + 1) 0 size text page page′ (omega (arith, short)) (omega (arith, short)) (r .printed) in
+      let stands = laid (length page + 1) 0 size text page page′ (omega arith) (omega (arith, short)) (omega (arith, short)) (r .printed) in
       ap (take size) stands ∙ take-at text (drop (0 + length text) page) size (sym page-size)

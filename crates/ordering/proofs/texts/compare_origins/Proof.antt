@@ -8,8 +8,6 @@ pub compare-origins-spec : {M : Type 1} → statement M
 compare-origins-spec =
     tie.close
     (tie.spec
-    (λ c κs. search needs)  -- origin-line-requires
-    (λ c κs. search needs)  -- origin-line-requires-2
-    (λ c κs. search needs)  -- compare-lines-requires
+    (λ c κs. search needs)  -- compare-items-requires
     (λ c. search cases)  -- returns
     )

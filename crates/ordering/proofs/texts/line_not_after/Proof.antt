@@ -8,8 +8,6 @@ pub line-not-after-spec : {M : Type 1} → statement M
 line-not-after-spec =
     tie.close
     (tie.spec
-    (λ c κs. search needs)  -- equation-line-requires
-    (λ c κs. search needs)  -- equation-line-requires-2
-    (λ c κs. search needs)  -- compare-lines-requires
+    (λ c κs. search needs)  -- compare-equations-requires
     (λ c. search cases)  -- returns
     )

@@ -8,8 +8,6 @@ pub type-not-after-spec : {M : Type 1} → statement M
 type-not-after-spec =
     tie.close
     (tie.spec
-    (λ c κs. search needs)  -- type-line-requires
-    (λ c κs. search needs)  -- type-line-requires-2
-    (λ c κs. search needs)  -- compare-lines-requires
+    (λ c κs. search needs)  -- compare-items-requires
     (λ c. search cases)  -- returns
     )

@@ -1,11 +1,11 @@
--- `ordering::texts::compare_lines` meets its contract. Assumes nothing.
+-- `ordering::texts::compare_parts` meets its contract. Assumes nothing.
 use Rattle.ordering.proofs.TextCases.{cases}
 use borrow.Author.Needs.{needs}
-use Rattle.ordering.proofs.texts.compare_lines.Statement.{statement}
-use Rattle.ordering.proofs.texts.compare_lines.Tie as tie
+use Rattle.ordering.proofs.texts.compare_parts.Statement.{statement}
+use Rattle.ordering.proofs.texts.compare_parts.Tie as tie
 
-pub compare-lines-spec : {M : Type 1} → statement M
-compare-lines-spec =
+pub compare-parts-spec : {M : Type 1} → statement M
+compare-parts-spec =
     tie.close
     (tie.spec
     (λ c. search needs)  -- sub-compare-bytes
@@ -16,4 +16,6 @@ compare-lines-spec =
     (λ c. search needs)  -- part-compare-bytes-end-2
     (λ c κs. search needs)  -- compare-bytes-requires
     (λ c. search cases)  -- returns
+    (λ c. search cases)  -- returns-2
+    (λ c. search cases)  -- returns-3
     )
