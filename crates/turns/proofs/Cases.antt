@@ -15,7 +15,7 @@ use Rattle.evaluating.specs.declared.states.State.{State}
 use Rattle.evaluating.specs.States.{first-state}
 use Rattle.turns.specs.declared.Ended.{Ended}
 use Rattle.turns.specs.Turns.{Resumed, Turned, Given, AllTurned}
-use Rattle.turns.specs.Turning.{tape-there, ready-there, few-there, below}
+use Rattle.turns.specs.Turning.{tape-there, ready-there, few-there, going-first, going-resumed, going-size, going-few, going-over, going-passed, going-refused, going-kept}
 use Rattle.turns.specs.Beginning.{table-there, resumed, all-turned}
 
 module _ (text : List ℕ) (t : ℕ) (w : List ℕ) (h : Heads) where
@@ -38,4 +38,4 @@ module _ (text : List ℕ) (t : ℕ) (w : List ℕ) (h : Heads) where
     reached-turned k set r w″ q x =
         all-turned text t w w′ h g cleared k set r w″ q (subst (λ (a : State). Turned text t w′ h set 0 0 64 a r w″) z x)
 
-pub ruleset cases = (tape-there, ready-there, few-there, below, given-tape, given-table, begins, reached-turned, needs)
+pub ruleset cases = (tape-there, ready-there, few-there, going-first, going-resumed, going-size, going-few, going-over, going-passed, going-refused, going-kept, given-tape, given-table, begins, reached-turned, needs)

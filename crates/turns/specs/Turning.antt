@@ -91,25 +91,22 @@ module _ (text : List ℕ) (t : ℕ) (w : List ℕ) (h : Heads) (k : ℕ) (s : S
   pub few-there : h .count ≤ module-limit
   few-there = resumed .prepared .ready .heads
 
-pub below : (h : Heads) (left k : ℕ) → k + left ≡ h .count → (left ≡ 0 → ⊥) → k < h .count
-below h left k c some = omega arith
-
 -- ---- how the code goes on
 
 -- no module is left
-pub turns-over : (text : List ℕ) (t : ℕ) (w : List ℕ) (h : Heads) (set left k count last : ℕ) (s : State) → left ≡ 0 → k + left ≡ h .count
+pub turns-over : (text : List ℕ) (t : ℕ) (w : List ℕ) (h : Heads) (set k count last : ℕ) (s : State) → h .count ≤ k
     → Turned text t w h set k count last s (Normalised count last) w
 unfolding chosen in-turn
-turns-over text t w h set left k count last s z c = record {
+turns-over text t w h set k count last s c = record {
   meant = λ ms env earlier n sofar before-it size stands.
       let none : drop k ms ≡ [] = drop-of-length-le ms {i = k} (omega (arith, heads-number text (part w 0 t) t ms h (sofar .told .spells))) in
       subst (λ (xs : List Module). EndsAs text t w (Normalised count last) (in-turn (module-names ms) env n (chosen (holds set) k earlier xs))) (sym none)
       (record { count-so = sym size; last-so = stands });
 }
 
-module _ (text : List ℕ) (t : ℕ) (w : List ℕ) (h : Heads) (left k : ℕ) (s : State) (c : k + left ≡ h .count) (some : left ≡ 0 → ⊥) where
+module _ (text : List ℕ) (t : ℕ) (w : List ℕ) (h : Heads) (k : ℕ) (s : State) (c : k < h .count) where
   at : (ms : List Module) (env : List Evaluated) → Sofar text t w h s ms env → ModuleAt ms k
-  at ms env sofar = module-at ms k (omega (arith, below h left k c some, heads-number text (part w 0 t) t ms h (sofar .told .spells)))
+  at ms env sofar = module-at ms k (omega (arith, c, heads-number text (part w 0 t) t ms h (sofar .told .spells)))
 
   at-earlier : (ms : List Module) (env : List Evaluated) (sofar : Sofar text t w h s ms env) (earlier : List Name) → Earlier (module-names ms) k earlier
       → Earlier (module-names ms) (k + 1) (at ms env sofar .self .name ∷ earlier)
@@ -216,4 +213,51 @@ module _ (text : List ℕ) (t : ℕ) (w : List ℕ) (h : Heads) (left k : ℕ) (
             (more .meant ms (new ∷ env) (m .self .name ∷ earlier) (kept .normal) (kept .sofar) (at-earlier ms env sofar earlier before-it)
             (omega (arith, size))
             (latest-stands text t w₁ h r k ms env (m .self) (m .later) (kept .normal) (m .here) (kept .ready) (kept .sofar))));
+      }
+
+-- ---- the loop: what is left to do from here is what is left to do from the start
+
+pub record Going (text : List ℕ) (t : ℕ) (w₀ : List ℕ) (h : Heads) (set : ℕ) (first : State) (k count last : ℕ) (s : State) (w : List ℕ) : Type 0 where
+  pub size : length w ≡ length w₀
+  pub few : count ≤ k
+  pub resumed : Resumed text t w h k s
+  pub goes-on : (end : Ended) (w′ : List ℕ) → Turned text t w h set k count last s end w′ → Turned text t w₀ h set 0 0 64 first end w′
+
+module _ (text : List ℕ) (t : ℕ) (w₀ : List ℕ) (h : Heads) (set : ℕ) (first : State) where
+  pub going-first : Resumed text t w₀ h 0 first → Going text t w₀ h set first 0 0 64 first w₀
+  going-first r = record { size = refl; few = omega arith; resumed = r; goes-on = λ end w′ x. x }
+
+  module _ (k count last : ℕ) (s : State) (w : List ℕ) (v : Going text t w₀ h set first k count last s w) where
+    pub going-resumed : Resumed text t w h k s
+    going-resumed = v .resumed
+
+    pub going-size : length w ≡ length w₀
+    going-size = v .size
+
+    pub going-few : count ≤ k
+    going-few = v .few
+
+    pub going-over : h .count ≤ k → Turned text t w₀ h set 0 0 64 first (Normalised count last) w
+    going-over c = v .goes-on (Normalised count last) w (turns-over text t w h set k count last s c)
+
+    pub going-passed : (b : Bool) → k < h .count → b ≡ holds set k → b ≡ false → Going text t w₀ h set first (k + 1) count last s w
+    going-passed b c e f = record {
+      size = v .size;
+      few = omega (arith, v .few);
+      resumed = passed-resumed text t w h k s c (v .resumed);
+      goes-on = λ end w′ x. v .goes-on end w′ (passed-turned text t w h k s c set count last b end w′ e f x);
+    }
+
+    module _ (step : Stepped) (w₁ : List ℕ) (b : Bool) (c : k < h .count) (stepping : Stepping text t w h k s step w₁) (e : b ≡ holds set k) (f : b ≡ true) where
+      pub going-refused : (name number culprit : ℕ) → name ≡ word-at (part w 0 t) (getD (h .places) k 0) → step ≡ StepRefused number culprit
+          → Turned text t w₀ h set 0 0 64 first (Refused number (count + 1) name culprit) w₁
+      going-refused name number culprit q g =
+          v .goes-on (Refused number (count + 1) name culprit) w₁ (turn-refused text t w h k s c step w₁ stepping set count last b name number culprit e f q g)
+
+      pub going-kept : (r : State) → length w₁ ≡ length w → step ≡ Kept r → Going text t w₀ h set first (k + 1) (count + 1) k r w₁
+      going-kept r l g = record {
+        size = l ∙ v .size;
+        few = omega (arith, v .few);
+        resumed = kept-resumed text t w h k s c step w₁ stepping r g (v .resumed);
+        goes-on = λ end w′ x. v .goes-on end w′ (kept-turned text t w h k s c step w₁ stepping r g set count last b end w′ e f x);
       }

@@ -10,7 +10,6 @@ use modules::Heads;
 use modules::name_of_module;
 use modules::reached;
 ghost use mathlib.Core.Path.{_≡_};
-ghost use Prim.Native.Nat.{_+_, _≤_};
 ghost use Rattle.names.specs.Joint.{joint};
 ghost use Rattle.turns.specs.Turns.{Resumed, Given, Turned, AllTurned};
 
@@ -29,72 +28,52 @@ pub enum Ended {
     },
 }
 
-// Of `left` modules from number k on, those of the set, after `count` others, the latest of which is number `last`.
-fn evaluate_from(
+// The modules of the set in turn, where nothing is evaluated yet. Before the first, the row behind those of all modules stands for the latest: it
+// has nothing.
+fn evaluate_set(
     library: &[u8],
     text: &[u8],
     work: &mut [u32],
     t: usize,
     h: Heads,
     set: u64,
-    left: u32,
-    k: u32,
-    count: u32,
-    last: u32,
-    s: State,
+    first: State,
 ) -> Ended
-    requires { ⌜ k + left ≡ h .count ⌝ }
-    requires { ⌜ count ≤ k ⌝ }
-    requires { ⌜ Resumed (joint (now library) (now text)) t (now work) h k s ⌝ }
-    ensures { λ r. ⌜ Turned (joint (now (library .entry)) (now (text .entry))) t (now (work .entry)) h set k count last s r (now (work .exit)) ⌝ }
+    requires { ⌜ Resumed (joint (now library) (now text)) t (now work) h 0 first ⌝ }
+    ensures { λ r. ⌜ Turned (joint (now (library .entry)) (now (text .entry))) t (now (work .entry)) h set 0 0 64 first r (now (work .exit)) ⌝ }
 {
-    if left == 0 {
-        return Ended::Normalised { count, last };
-    }
-    if module_set::has(set, k) {
-        let module = name_of_module(&work[0..t], h, k);
-        match evaluate(library, text, work, t, h, k, s) {
-            Stepped::Refused(number, culprit) => {
-                return Ended::Refused {
-                    number,
-                    count: count + 1,
-                    module,
-                    culprit,
-                };
+    let n = h.count;
+    let mut k: u32 = 0;
+    let mut count: u32 = 0;
+    let mut last: u32 = 64;
+    let mut s = first;
+    while k < n {
+        if module_set::has(set, k) {
+            let module = name_of_module(&work[0..t], h, k);
+            match evaluate(library, text, work, t, h, k, s) {
+                Stepped::Refused(number, culprit) => {
+                    return Ended::Refused {
+                        number,
+                        count: count + 1,
+                        module,
+                        culprit,
+                    };
+                }
+                Stepped::Kept(r) => {
+                    count += 1;
+                    last = k;
+                    s = r;
+                    k += 1;
+                }
             }
-            Stepped::Kept(r) => {
-                return evaluate_from(
-                    library,
-                    text,
-                    work,
-                    t,
-                    h,
-                    set,
-                    left - 1,
-                    k + 1,
-                    count + 1,
-                    k,
-                    r,
-                );
-            }
+        } else {
+            k += 1;
         }
     }
-    evaluate_from(
-        library,
-        text,
-        work,
-        t,
-        h,
-        set,
-        left - 1,
-        k + 1,
-        count,
-        last,
-        s,
-    )
+    Ended::Normalised { count, last }
 }
 
-// Module k and the modules that it reaches. Before the first, the row behind those of all modules stands for the latest: it has nothing.
+// Module k and the modules that it reaches.
 pub fn evaluate_reached(
     library: &[u8],
     text: &[u8],
@@ -111,6 +90,5 @@ pub fn evaluate_reached(
     let kept = kept_start();
     clear_forms(work, table, 65, kept);
     let s = first_state();
-    let n = h.count;
-    evaluate_from(library, text, work, t, h, set, n, 0, 0, 64, s)
+    evaluate_set(library, text, work, t, h, set, s)
 }
