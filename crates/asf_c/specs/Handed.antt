@@ -1,31 +1,13 @@
--- What a caller in C is handed: the values and names of an answer, the places of a line and of a module's text, laid over what is lent for
--- them. What has no room is left out.
+-- What a caller in C is handed of a call: the values and names of an answer, laid over what is lent for them. What has no room is left out.
 use mathlib.Core.Path.{_≡_, sym, _∙_}
-use Prim.Native.Nat.{ℕ, _+_, _-_}
-use mathlib.Core.Bool.{Bool}
+use Prim.Native.Nat.{ℕ, _+_}
 use mathlib.Core.List.{List, [], _∷_}
-use lib.Dec.{eqb}
-use lib.ListN.{length, set}
-use Rattle.types.specs.declared.Part.{Part}
-use Rattle.meaning.specs.Lists.{pick}
-use Rattle.meaning.specs.Numbers.{bad-line}
+use lib.ListN.{length}
+use Rattle.values.specs.Values.{laid, bit-of}
 use Rattle.pen.specs.Pen.{pen, written}
-use Rattle.listing_reader.specs.declared.Line.{Line}
-use Rattle.listing_reader.specs.declared.Line.the-variants.{Keyed, End, Bad}
-use Rattle.listing_reader.specs.declared.Places.{Places}
 use Rattle.asf.specs.declared.answers.Name.{Name}
 use Rattle.asf.specs.declared.answers.Answer.{Answer}
 use Rattle.asf.specs.Answers.{Returned}
-
--- values over a list, each at its place from i on
-unfoldable pub laid : ℕ → List ℕ → List ℕ → List ℕ
-laid i [] xs = xs
-laid i (v ∷ vs) xs = laid (i + 1) vs (set xs i v)
-
--- ---- normalising
-
-unfoldable pub bit-of : Bool → ℕ
-bit-of b = pick b 1 0
 
 -- the values of an answer, and last 1 where the place is in the library
 unfoldable pub answer-values : Answer → List ℕ
@@ -60,30 +42,3 @@ handed-call c values names = record {
 -- two results that the contract allows coincide
 pub handed-coincide : (c : Returned) (values names : List ℕ) (h g : Handed) → h ≡ handed-call c values names → g ≡ handed-call c values names → h ≡ g
 handed-coincide c values names h g e k = e ∙ sym k
-
--- ---- what hands over values alone: the number, and the values afterwards
-
-pub record Valued : Type 0 where
-  pub number : ℕ
-  pub values : List ℕ
-
-unfoldable pub valued : ℕ → List ℕ → Valued
-valued number values = record { number = number; values = values }
-
--- the places of a line
-unfoldable pub line-values : Places → List ℕ
-line-values p = p .number ∷ p .mark ∷ p .value ∷ p .end ∷ p .next ∷ []
-
--- a line, the end, or no line: 0, 1 and 21
-unfoldable pub handed-line : Line → List ℕ → Valued
-handed-line (Keyed p) values = valued 0 (laid 0 (line-values p) values)
-handed-line End values = valued 1 values
-handed-line (Bad place) values = valued bad-line values
-
--- 1 where the part is the library's, its place and its length
-unfoldable pub part-values : Part → List ℕ
-part-values p = bit-of (p .marked) ∷ p .start ∷ (p .end - p .start) ∷ []
-
--- a module's text, or none: 0 and 1
-unfoldable pub handed-part : Part → List ℕ → Valued
-handed-part p values = pick (eqb (p .end) 0) (valued 1 values) (valued 0 (laid 0 (part-values p) values))

@@ -1,8 +1,8 @@
--- `asf_c::put_value` meets its contract. Assumes nothing.
-use Rattle.asf_c.proofs.Cases.{cases}
+-- `values::put_value` meets its contract. Assumes nothing.
+use Rattle.values.proofs.Cases.{cases}
 use borrow.Author.Needs.{needs}
-use Rattle.asf_c.proofs.put_value.Statement.{statement}
-use Rattle.asf_c.proofs.put_value.Tie as tie
+use Rattle.values.proofs.put_value.Statement.{statement}
+use Rattle.values.proofs.put_value.Tie as tie
 
 pub put-value-spec : {M : Type 1} → statement M
 put-value-spec =

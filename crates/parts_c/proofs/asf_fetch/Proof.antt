@@ -1,9 +1,9 @@
--- `asf_c::asf_fetch` meets its contract.
+-- `parts_c::asf_fetch` meets its contract.
 -- Assumes nothing.
-use Rattle.asf_c.proofs.Cases.{cases}
+use Rattle.parts_c.proofs.Cases.{cases}
 use borrow.Author.Needs.{needs}
-use Rattle.asf_c.proofs.asf_fetch.Statement.{statement}
-use Rattle.asf_c.proofs.asf_fetch.Tie as tie
+use Rattle.parts_c.proofs.asf_fetch.Statement.{statement}
+use Rattle.parts_c.proofs.asf_fetch.Tie as tie
 
 pub asf-fetch-spec : {M : Type 1} → statement M
 asf-fetch-spec =

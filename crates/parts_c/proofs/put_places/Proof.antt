@@ -1,8 +1,8 @@
--- `asf_c::put_places` meets its contract. Assumes nothing.
-use Rattle.asf_c.proofs.Cases.{cases}
+-- `parts_c::put_places` meets its contract. Assumes nothing.
+use Rattle.parts_c.proofs.Cases.{cases}
 use borrow.Author.Needs.{needs}
-use Rattle.asf_c.proofs.put_places.Statement.{statement}
-use Rattle.asf_c.proofs.put_places.Tie as tie
+use Rattle.parts_c.proofs.put_places.Statement.{statement}
+use Rattle.parts_c.proofs.put_places.Tie as tie
 
 pub put-places-spec : {M : Type 1} → statement M
 put-places-spec =

@@ -1,8 +1,8 @@
--- `asf_c::asf_line` meets its contract. Assumes nothing.
-use Rattle.asf_c.proofs.Cases.{cases}
+-- `parts_c::asf_line` meets its contract. Assumes nothing.
+use Rattle.parts_c.proofs.Cases.{cases}
 use borrow.Author.Needs.{needs}
-use Rattle.asf_c.proofs.asf_line.Statement.{statement}
-use Rattle.asf_c.proofs.asf_line.Tie as tie
+use Rattle.parts_c.proofs.asf_line.Statement.{statement}
+use Rattle.parts_c.proofs.asf_line.Tie as tie
 
 pub asf-line-spec : {M : Type 1} → statement M
 asf-line-spec =

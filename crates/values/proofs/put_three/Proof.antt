@@ -1,8 +1,8 @@
--- `asf_c::put_three` meets its contract. Assumes nothing.
-use Rattle.asf_c.proofs.Cases.{cases}
+-- `values::put_three` meets its contract. Assumes nothing.
+use Rattle.values.proofs.Cases.{cases}
 use borrow.Author.Needs.{needs}
-use Rattle.asf_c.proofs.put_three.Statement.{statement}
-use Rattle.asf_c.proofs.put_three.Tie as tie
+use Rattle.values.proofs.put_three.Statement.{statement}
+use Rattle.values.proofs.put_three.Tie as tie
 
 pub put-three-spec : {M : Type 1} → statement M
 put-three-spec =
