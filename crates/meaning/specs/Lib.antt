@@ -24,6 +24,7 @@ pub mod Contract
 pub mod TextsLaws
 pub mod Base
 pub mod Distinct
+pub mod ElementLaws
 pub mod OrderLaws
 pub mod ListingOrder
 pub mod Mirror

@@ -4,10 +4,10 @@ use mathlib.Core.Bool.{Bool}
 use mathlib.Core.List.{List, []}
 use lib.Dec.{eqb, leb}
 use Rattle.meaning.specs.Lists.{pick}
-use Rattle.meaning.specs.Names.{same, not-after, by-two}
+use Rattle.meaning.specs.Names.{same, bytes-not-after, not-after, by-two}
 use Rattle.meaning.specs.Origins.{Item}
 use Rattle.meaning.specs.Written.{origin-text, shape-text, shape-rank, standing-text, visible-order, hidden-order}
-use Rattle.meaning.specs.OrderLaws.{IsOrder, Levelled, order-of, levelled-of, then-total, then-transitive, numbers-levelled, names-levelled, names-ordered, by-two-ordered}
+use Rattle.meaning.specs.OrderLaws.{IsOrder, Levelled, order-of, levelled-of, then-total, then-transitive, numbers-levelled, bytes-levelled, bytes-ordered, names-levelled, by-two-ordered}
 
 -- ---- items
 
@@ -21,8 +21,8 @@ pub by-rank :
     (λ (a b : Item). leb (shape-rank (a .shape)) (shape-rank (b .shape)))
 by-rank = levelled-of numbers-levelled (λ (i : Item). shape-rank (i .shape))
 
-by-name-and-type : IsOrder (by-two (λ (i : Item). i .name) (λ (i : Item). shape-text [] (i .shape)))
-by-name-and-type = by-two-ordered (λ (i : Item). i .name) (λ (i : Item). shape-text [] (i .shape))
+by-name-and-type : IsOrder (by-two not-after (λ (i : Item). i .name) (λ (i : Item). shape-text [] (i .shape)))
+by-name-and-type = by-two-ordered not-after names-levelled (λ (i : Item). i .name) (λ (i : Item). shape-text [] (i .shape))
 
 pub visible-ordered : IsOrder visible-order
 unfolding visible-order
@@ -39,8 +39,8 @@ hidden-ordered sorts = record {
   transitive = λ a b c e f. then-transitive by-rank a b c _ _ _ (by-origin-and-type .transitive a b c) e f;
 }
   where
-    by-origin-and-type : IsOrder (by-two (λ (i : Item). origin-text (i .origin)) (λ (i : Item). shape-text sorts (i .shape)))
-    by-origin-and-type = by-two-ordered (λ (i : Item). origin-text (i .origin)) (λ (i : Item). shape-text sorts (i .shape))
+    by-origin-and-type : IsOrder (by-two bytes-not-after (λ (i : Item). origin-text (i .origin)) (λ (i : Item). shape-text sorts (i .shape)))
+    by-origin-and-type = by-two-ordered bytes-not-after bytes-levelled (λ (i : Item). origin-text (i .origin)) (λ (i : Item). shape-text sorts (i .shape))
 
 -- ---- equations
 
@@ -51,7 +51,7 @@ pub record Place : Type 0 where
 
 unfoldable pub place-order : Place → Place → Bool
 place-order a b =
-    let by-position = pick (eqb (a .position) (b .position)) (not-after (a .text) (b .text)) (leb (a .position) (b .position)) in
+    let by-position = pick (eqb (a .position) (b .position)) (bytes-not-after (a .text) (b .text)) (leb (a .position) (b .position)) in
     pick (eqb (a .home) (b .home)) by-position (leb (a .home) (b .home))
 
 pub by-home : Levelled (λ (a b : Place). eqb (a .home) (b .home)) (λ (a b : Place). leb (a .home) (b .home))
@@ -68,5 +68,5 @@ place-ordered = record {
       then-transitive by-home a b c _ _ _ (λ g h. then-transitive by-position a b c _ _ _ (by-text .transitive a b c) g h) e f;
 }
   where
-    by-text : IsOrder (λ (a b : Place). not-after (a .text) (b .text))
-    by-text = order-of names-ordered (λ (a : Place). a .text)
+    by-text : IsOrder (λ (a b : Place). bytes-not-after (a .text) (b .text))
+    by-text = order-of bytes-ordered (λ (a : Place). a .text)

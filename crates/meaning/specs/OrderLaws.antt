@@ -1,5 +1,5 @@
--- Laws of order: `same` decides equality, the orders of names and of pairs of texts are total and transitive, and sorting gives the one
--- ordered list of the same items.
+-- Laws of order: `same` decides equality, the orders of bytes, of names and of pairs of texts are total and transitive, names are level only when
+-- their bytes are the same, and sorting gives the one ordered list of the same items.
 use mathlib.Core.Path.{_≡_, refl, sym, ap, ap₂, subst, _∙_}
 use mathlib.Core.Logic.{⊎-elim}
 use Prim.Native.Nat.{ℕ, suc}
@@ -11,7 +11,8 @@ use lib.Dec.{eqb, leb}
 use lib.ListN.{length}
 use borrow.Author.Tests.{leb-true, leb-false, eqb-true, le-leb, eq-eqb, ne-eqb}
 use Rattle.meaning.specs.Lists.{pick, any, place-in, sorted-onto, sorted}
-use Rattle.meaning.specs.Names.{Name, same, not-after, by-name, by-two}
+use Rattle.meaning.specs.Names.{Name, same, bytes-not-after, elements, weights, not-after, by-name, by-two}
+use Rattle.meaning.specs.ElementLaws.{weights-told, name-told}
 use Rattle.meaning.specs.Checks.{at-odds, least-at-odds}
 
 -- ---- orders
@@ -138,67 +139,88 @@ same-equal (x ∷ xs) (y ∷ ys) e = go (eqb x y) refl e (same-equal xs ys)
     go true q e h = ap₂ _∷_ (eqb-true x y q) (h e)
     go false q e h = absurd (false≢true e)
 
-not-after-total : (v w : Name) → not-after v w ≡ false → not-after w v ≡ true
-unfolding not-after
-not-after-total [] w e = absurd (true≢false e)
-not-after-total (x ∷ xs) [] e = refl
-not-after-total (x ∷ xs) (y ∷ ys) e = then-total numbers-levelled x y _ _ (not-after-total xs ys) e
+-- ---- texts, by their bytes
 
-not-after-transitive : (u v w : Name) → not-after u v ≡ true → not-after v w ≡ true → not-after u w ≡ true
-unfolding not-after
-not-after-transitive [] v w e f = refl
-not-after-transitive (x ∷ xs) [] w e f = absurd (false≢true e)
-not-after-transitive (x ∷ xs) (y ∷ ys) [] e f = absurd (false≢true f)
-not-after-transitive (x ∷ xs) (y ∷ ys) (z ∷ zs) e f =
-    then-transitive numbers-levelled x y z _ _ _ (not-after-transitive xs ys zs) e f
+bytes-total : (v w : List ℕ) → bytes-not-after v w ≡ false → bytes-not-after w v ≡ true
+unfolding bytes-not-after
+bytes-total [] w e = absurd (true≢false e)
+bytes-total (x ∷ xs) [] e = refl
+bytes-total (x ∷ xs) (y ∷ ys) e = then-total numbers-levelled x y _ _ (bytes-total xs ys) e
 
-pub not-after-antisymmetric : (v w : Name) → not-after v w ≡ true → not-after w v ≡ true → v ≡ w
-unfolding not-after
-not-after-antisymmetric [] [] e f = refl
-not-after-antisymmetric [] (y ∷ ys) e f = absurd (false≢true f)
-not-after-antisymmetric (x ∷ xs) [] e f = absurd (false≢true e)
-not-after-antisymmetric (x ∷ xs) (y ∷ ys) e f =
-    let r = then-both numbers-levelled x y _ _ e f in ap₂ _∷_ (eqb-true x y (r .0)) (not-after-antisymmetric xs ys (r .1) (r .2))
+bytes-transitive : (u v w : List ℕ) → bytes-not-after u v ≡ true → bytes-not-after v w ≡ true → bytes-not-after u w ≡ true
+unfolding bytes-not-after
+bytes-transitive [] v w e f = refl
+bytes-transitive (x ∷ xs) [] w e f = absurd (false≢true e)
+bytes-transitive (x ∷ xs) (y ∷ ys) [] e f = absurd (false≢true f)
+bytes-transitive (x ∷ xs) (y ∷ ys) (z ∷ zs) e f = then-transitive numbers-levelled x y z _ _ _ (bytes-transitive xs ys zs) e f
+
+pub bytes-antisymmetric : (v w : List ℕ) → bytes-not-after v w ≡ true → bytes-not-after w v ≡ true → v ≡ w
+unfolding bytes-not-after
+bytes-antisymmetric [] [] e f = refl
+bytes-antisymmetric [] (y ∷ ys) e f = absurd (false≢true f)
+bytes-antisymmetric (x ∷ xs) [] e f = absurd (false≢true e)
+bytes-antisymmetric (x ∷ xs) (y ∷ ys) e f =
+    let r = then-both numbers-levelled x y _ _ e f in ap₂ _∷_ (eqb-true x y (r .0)) (bytes-antisymmetric xs ys (r .1) (r .2))
+
+pub bytes-ordered : IsOrder bytes-not-after
+bytes-ordered = record { total = bytes-total; transitive = bytes-transitive }
+
+-- ---- names
 
 pub names-ordered : IsOrder not-after
-names-ordered = record { total = not-after-total; transitive = not-after-transitive }
+unfolding not-after
+names-ordered = order-of bytes-ordered (λ (w : Name). weights (elements w))
+
+-- names are level only when their bytes are the same
+pub not-after-antisymmetric : (v w : Name) → not-after v w ≡ true → not-after w v ≡ true → v ≡ w
+unfolding not-after
+not-after-antisymmetric v w e f = name-told v w (weights-told _ _ (bytes-antisymmetric (weights (elements v)) (weights (elements w)) e f))
 
 pub not-after-self : (w : Name) → not-after w w ≡ true
 not-after-self w = order-reflexive names-ordered w
 
+-- ---- texts that are level have the same bytes, in both orders
+
+module _ (le : List ℕ → List ℕ → Bool) (order : IsOrder le) (told : (v w : List ℕ) → le v w ≡ true → le w v ≡ true → v ≡ w) where
+  level-texts : Levelled same le
+  level-texts = record { order = order; both-ways = λ v w. go v w (same v w) refl }
+    where
+      both : (v w : List ℕ) → v ≡ w → (le v w && le w v) ≡ true
+      both v w e = rw (e, order-reflexive order w)
+
+      apart : (v w : List ℕ) (p q : Bool) → le v w ≡ p → le w v ≡ q → same v w ≡ false → false ≡ (p && q)
+      apart v w true true p q e = sym e ∙ (rw (told v w p q) (same-self w))
+      apart v w true false p q e = refl
+      apart v w false q′ p q e = refl
+
+      go : (v w : List ℕ) (k : Bool) → same v w ≡ k → same v w ≡ (le v w && le w v)
+      go v w true e = e ∙ sym (both v w (same-equal v w e))
+      go v w false e = e ∙ apart v w _ _ refl refl e
+
+pub bytes-levelled : Levelled same bytes-not-after
+bytes-levelled = level-texts bytes-not-after bytes-ordered bytes-antisymmetric
+
 pub names-levelled : Levelled same not-after
-names-levelled = record { order = names-ordered; both-ways = λ v w. go v w (same v w) refl }
-  where
-    both : (v w : Name) → v ≡ w → (not-after v w && not-after w v) ≡ true
-    both v w e = rw (e, not-after-self w)
+names-levelled = level-texts not-after names-ordered not-after-antisymmetric
 
-    apart : (v w : Name) (p q : Bool) → not-after v w ≡ p → not-after w v ≡ q → same v w ≡ false → false ≡ (p && q)
-    apart v w true true p q e = sym e ∙ (rw (not-after-antisymmetric v w p q) (same-self w))
-    apart v w true false p q e = refl
-    apart v w false q′ p q e = refl
+-- ---- by the first text, then by the bytes of the second
 
-    go : (v w : Name) (k : Bool) → same v w ≡ k → same v w ≡ (not-after v w && not-after w v)
-    go v w true e = e ∙ sym (both v w (same-equal v w e))
-    go v w false e = e ∙ apart v w _ _ refl refl e
+module _ {A : Type 0} (first : List ℕ → List ℕ → Bool) (level : Levelled same first) (f g : A → List ℕ) where
+  by-first : Levelled (λ (a b : A). same (f a) (f b)) (λ (a b : A). first (f a) (f b))
+  by-first = levelled-of level f
 
--- ---- by the first text, then by the second
-
-module _ {A : Type 0} (f g : A → List ℕ) where
-  pub by-two-ordered : IsOrder (by-two f g)
+  pub by-two-ordered : IsOrder (by-two first f g)
   unfolding by-two
   by-two-ordered = record {
-    total = λ a b e. then-total by-first a b _ _ (not-after-total (g a) (g b)) e;
-    transitive = λ a b c e h. then-transitive by-first a b c _ _ _ (not-after-transitive (g a) (g b) (g c)) e h;
+    total = λ a b e. then-total by-first a b _ _ (bytes-total (g a) (g b)) e;
+    transitive = λ a b c e h. then-transitive by-first a b c _ _ _ (bytes-transitive (g a) (g b) (g c)) e h;
   }
-    where
-      by-first : Levelled (λ (a b : A). same (f a) (f b)) (λ (a b : A). not-after (f a) (f b))
-      by-first = levelled-of names-levelled f
 
-  pub by-two-both : (a b : A) → by-two f g a b ≡ true → by-two f g b a ≡ true → (f a ≡ f b) × (g a ≡ g b)
+  pub by-two-both : (a b : A) → by-two first f g a b ≡ true → by-two first f g b a ≡ true → (f a ≡ f b) × (g a ≡ g b)
   unfolding by-two
   by-two-both a b e h =
-      let r = then-both (levelled-of names-levelled f) a b _ _ e h in
-      (same-equal (f a) (f b) (r .0), not-after-antisymmetric (g a) (g b) (r .1) (r .2))
+      let r = then-both by-first a b _ _ e h in
+      (same-equal (f a) (f b) (r .0), bytes-antisymmetric (g a) (g b) (r .1) (r .2))
 
 -- ---- what is made by sorting
 

@@ -5,7 +5,7 @@ use mathlib.Core.List.{List, [], _∷_, _++_, map}
 use lib.Dec.{eqb, leb, ltb}
 use lib.ListN.{length}
 use Rattle.meaning.specs.Lists.{pick, before, sorted}
-use Rattle.meaning.specs.Names.{bytes, Name, same, not-after, by-name, by-two}
+use Rattle.meaning.specs.Names.{bytes, Name, same, bytes-not-after, not-after, by-name, by-bytes, by-two}
 use Rattle.meaning.specs.Origins.{Section, export-section, hidden-section, parameter-section, Declared, declared-sort, declared-function, declared-variable, Origin, same-origin, Sort, visible-sort, hidden-sort, FunctionType, Head, visible-head, hidden-head, ResolvedTerm, var, app, ResolvedTerms, none-left, _and-then_, ResolvedSides, ResolvedEquation, Shape, sort-shape, function-shape, variable-shape, same-shape, Item}
 use Rattle.meaning.specs.Normal.{Visible, Hidden, Normal, sorts-among}
 
@@ -105,8 +105,8 @@ module _ (hidden : List Item) where
   -- equations go by module order, position, then bytes
   unfoldable pub equation-order : ResolvedEquation → ResolvedEquation → Bool
   equation-order a b =
-      let by-bytes = not-after (equation-text a) (equation-text b) in
-      let by-position = pick (eqb (a .position) (b .position)) by-bytes (leb (a .position) (b .position)) in
+      let by-line = bytes-not-after (equation-text a) (equation-text b) in
+      let by-position = pick (eqb (a .position) (b .position)) by-line (leb (a .position) (b .position)) in
       pick (eqb (a .home) (b .home)) by-position (leb (a .home) (b .home))
 
 -- ---- a normal form in order
@@ -123,10 +123,10 @@ standing-text export-section = []
 standing-text hidden-section = []
 standing-text (parameter-section p) = p
 
--- visible items ascend by name bytes, then type bytes
+-- visible items ascend by name, then by the bytes of their type
 unfoldable pub visible-order : Item → Item → Bool
 visible-order a b =
-    let by-name-and-type = by-two (λ (i : Item). i .name) (λ (i : Item). shape-text [] (i .shape)) a b in
+    let by-name-and-type = by-two not-after (λ (i : Item). i .name) (λ (i : Item). shape-text [] (i .shape)) a b in
     let by-rank = pick (eqb (shape-rank (a .shape)) (shape-rank (b .shape))) by-name-and-type (leb (shape-rank (a .shape)) (shape-rank (b .shape))) in
     let by-standing = not-after (standing-text (a .standing)) (standing-text (b .standing)) in
     pick (same (standing-text (a .standing)) (standing-text (b .standing))) by-rank by-standing
@@ -138,12 +138,12 @@ visible-in-order v = record { parameters = by-name (λ (p : Name). p) (v .parame
 -- hidden ones ascend by the bytes of their origin, then type, in which `sorts` are the hidden sorts in order
 unfoldable pub hidden-order : List Item → Item → Item → Bool
 hidden-order sorts a b =
-    let by-origin-and-type = by-two (λ (i : Item). origin-text (i .origin)) (λ (i : Item). shape-text sorts (i .shape)) a b in
+    let by-origin-and-type = by-two bytes-not-after (λ (i : Item). origin-text (i .origin)) (λ (i : Item). shape-text sorts (i .shape)) a b in
     pick (eqb (shape-rank (a .shape)) (shape-rank (b .shape))) by-origin-and-type (leb (shape-rank (a .shape)) (shape-rank (b .shape)))
 
 unfoldable pub hidden-in-order : Hidden → Hidden
 hidden-in-order h =
-    let sorts = by-name (λ (i : Item). origin-text (i .origin)) (sorts-among (h .items)) in
+    let sorts = by-bytes (λ (i : Item). origin-text (i .origin)) (sorts-among (h .items)) in
     let items = sorted (hidden-order sorts) (h .items) in
     record { items = items; equations = sorted (equation-order items) (h .equations) }
 

@@ -1,6 +1,6 @@
--- Laws of `same` and of `compared`, in the code's terms.
-use mathlib.Core.Path.{_≡_, refl, sym, ap}
-use mathlib.Core.Bool.{Bool, true, false, false≢true}
+-- Laws of `same` and of both comparisons, in the code's terms.
+use mathlib.Core.Path.{_≡_, refl, sym, ap, _∙_}
+use mathlib.Core.Bool.{Bool, true, false}
 use mathlib.Core.List.{List, [], _∷_}
 use Prim.Native.Nat.{ℕ, suc, _+_, _<_, _≤_}
 use native.Mathlib.Omega.{arith}
@@ -10,9 +10,9 @@ use lib.ListN.{length, getD, drop, drop-of-length-le}
 use lib.Seq.{drop-cons}
 use borrow.Author.Tests.{eq-eqb, ne-eqb, le-leb, lt-leb}
 use Rattle.meaning.specs.Lists.{pick}
-use Rattle.meaning.specs.Names.{same, not-after}
-use Rattle.meaning.specs.OrderLaws.{same-self}
-use Rattle.names.specs.Word.{name-of, compared}
+use Rattle.meaning.specs.Names.{same, bytes-not-after, not-after}
+use Rattle.meaning.specs.OrderLaws.{same-self, same-equal, order-reflexive, bytes-ordered, not-after-self}
+use Rattle.names.specs.Word.{name-of, compared, bytes-compared}
 
 same-length : (a b : List ℕ) → (length a ≡ length b → ⊥) → same a b ≡ false
 unfolding same pick
@@ -46,60 +46,60 @@ same-end a b i h l =
     let g : length b ≤ i = omega arith in
     rw (drop-of-length-le a h, drop-of-length-le b g)
 
--- ---- which of two names comes first: x and y are their bytes at i
+-- ---- which of two texts comes first by its bytes: x and y are their bytes at i
 
 module _ (a b : List ℕ) (i : ℕ) where
-  pub compared-long : i < length a → length b ≤ i → compared (drop i a) (drop i b) ≡ 2
-  unfolding compared same not-after pick
+  pub compared-long : i < length a → length b ≤ i → bytes-compared (drop i a) (drop i b) ≡ 2
+  unfolding bytes-compared same bytes-not-after pick
   compared-long h l = rw (drop-cons a i 0, drop-of-length-le b l)
 
-  pub compared-short : length a ≤ i → i < length b → compared (drop i a) (drop i b) ≡ 0
-  unfolding compared same not-after pick
+  pub compared-short : length a ≤ i → i < length b → bytes-compared (drop i a) (drop i b) ≡ 0
+  unfolding bytes-compared same bytes-not-after pick
   compared-short l h = rw (drop-of-length-le a l, drop-cons b i 0)
 
-  pub compared-end : length a ≤ i → length b ≤ i → compared (drop i a) (drop i b) ≡ 1
-  unfolding compared same pick
+  pub compared-end : length a ≤ i → length b ≤ i → bytes-compared (drop i a) (drop i b) ≡ 1
+  unfolding bytes-compared same pick
   compared-end l m = rw (drop-of-length-le a l, drop-of-length-le b m)
 
   module _ (h : i < length a) (g : i < length b) where
-    pub compared-less : getD a i 0 < getD b i 0 → compared (drop i a) (drop i b) ≡ 0
-    unfolding compared same not-after pick
+    pub compared-less : getD a i 0 < getD b i 0 → bytes-compared (drop i a) (drop i b) ≡ 0
+    unfolding bytes-compared same bytes-not-after pick
     compared-less l =
         let x = getD a i 0 in
         let y = getD b i 0 in
         rw (drop-cons a i 0, drop-cons b i 0, ne-eqb x y (λ e. omega arith), le-leb x y (omega arith))
 
-    pub compared-more : getD b i 0 < getD a i 0 → compared (drop i a) (drop i b) ≡ 2
-    unfolding compared same not-after pick
+    pub compared-more : getD b i 0 < getD a i 0 → bytes-compared (drop i a) (drop i b) ≡ 2
+    unfolding bytes-compared same bytes-not-after pick
     compared-more l =
         let x = getD a i 0 in
         let y = getD b i 0 in
         rw (drop-cons a i 0, drop-cons b i 0, ne-eqb x y (λ e. omega arith), lt-leb x y l)
 
-    pub compared-on : getD b i 0 ≤ getD a i 0 → getD a i 0 ≤ getD b i 0 → compared (drop i a) (drop i b) ≡ compared (drop (i + 1) a) (drop (i + 1) b)
-    unfolding compared same not-after pick
+    pub compared-on : getD b i 0 ≤ getD a i 0 → getD a i 0 ≤ getD b i 0 → bytes-compared (drop i a) (drop i b) ≡ bytes-compared (drop (i + 1) a) (drop (i + 1) b)
+    unfolding bytes-compared same bytes-not-after pick
     compared-on l m = rw (drop-cons a i 0, drop-cons b i 0, eq-eqb (getD a i 0) (getD b i 0) (omega arith), add-one)
 
--- what is the same comes not after
-same-not-after : (x y : List ℕ) → same x y ≡ true → not-after x y ≡ true
-unfolding same not-after pick
-same-not-after [] y h = refl
-same-not-after (b ∷ x) [] h = h
-same-not-after (b ∷ x) (c ∷ y) h = go (eqb b c) h (same-not-after x y)
-  where
-    go : (t : Bool) → pick t (same x y) false ≡ true → (same x y ≡ true → not-after x y ≡ true) → pick t (not-after x y) (leb b c) ≡ true
-    go true e rest = rest e
-    go false e rest = absurd (false≢true e)
+-- the first of two is not after the second, by their comparison c
+module _ (x y : List ℕ) (le : List ℕ → List ℕ → Bool) (self : (w : List ℕ) → le w w ≡ true) where
+  told-by : (c : ℕ) → c ≡ pick (same x y) 1 (pick (le x y) 0 2) → ltb c 2 ≡ le x y
+  unfolding pick
+  told-by c h = rw h (go (same x y) (le x y) refl refl)
+    where
+      go : (s n : Bool) → same x y ≡ s → le x y ≡ n → ltb (pick s 1 (pick n 0 2)) 2 ≡ n
+      go true n e f = sym (sym f ∙ ap (le x) (sym (same-equal x y e)) ∙ self x)
+      go false true e f = refl
+      go false false e f = refl
+
+module _ (x y : List ℕ) (c : ℕ) where
+  pub not-after-told : c ≡ compared x y → ltb c 2 ≡ not-after x y
+  unfolding compared
+  not-after-told h = told-by x y not-after not-after-self c h
+
+  pub bytes-told : c ≡ bytes-compared x y → ltb c 2 ≡ bytes-not-after x y
+  unfolding bytes-compared
+  bytes-told h = told-by x y bytes-not-after (order-reflexive bytes-ordered) c h
 
 -- one word is one name
 pub same-words : (text : List ℕ) (a b : ℕ) → a ≡ b → true ≡ same (name-of text a) (name-of text b)
 same-words text a b h = rw h (sym (same-self (name-of text b)))
-
-pub not-after-told : (x y : List ℕ) (k : ℕ) → k ≡ compared x y → ltb k 2 ≡ not-after x y
-unfolding compared pick
-not-after-told x y k h = rw h (go (same x y) (not-after x y) (same-not-after x y))
-  where
-    go : (s n : Bool) → (s ≡ true → n ≡ true) → ltb (pick s 1 (pick n 0 2)) 2 ≡ n
-    go true n e = sym (e refl)
-    go false true e = refl
-    go false false e = refl

@@ -14,9 +14,11 @@ use mir.Val.{Fits}
 use Rattle.meaning.specs.Lists.{pick}
 use Rattle.meaning.specs.Names.{same, not-after}
 use Rattle.names.specs.Word.{name-of, compared}
+use Rattle.names.specs.Runs.{plain-size}
 use Rattle.names.specs.Joint.{joint, have-room, both-behind, joint-length, name-in-library, name-in-text}
 use Rattle.names.proofs.Auto.{told}
-use Rattle.names.proofs.Compared.{same-words, not-after-told, same-lengths, same-on, same-off, same-end, compared-long, compared-short, compared-end, compared-less, compared-more, compared-on}
+use Rattle.names.proofs.Compared.{same-words, not-after-told, same-lengths, same-on, same-off, same-end}
+use Rattle.names.proofs.Elements.{plain-passed}
 use Rattle.names.proofs.Places.{size-of, name-between, name-size}
 
 -- ---- wherever they lie, byte by byte
@@ -45,27 +47,6 @@ module _ (l t : List ℕ) where
     pub joined-past : (i : ℕ) → k ≤ i → 0 ≡ getD (name-of (joint l t) w) i 0
     joined-past i h = sym (List·getD-eq-default (name-of (joint l t) w) 0 (omega (arith, size-of (joint l t) w)))
 
--- two names, of n and m bytes, byte by byte: p and q are their bytes at i
-module _ (a b : List ℕ) (i n m : ℕ) (e : n ≡ length a) (f : m ≡ length b) where
-  pub across-long : i < n → m ≤ i → compared (drop i a) (drop i b) ≡ 2
-  across-long h k = compared-long a b i (omega arith) (omega arith)
-
-  pub across-short : n ≤ i → i < m → compared (drop i a) (drop i b) ≡ 0
-  across-short h k = compared-short a b i (omega arith) (omega arith)
-
-  pub across-end : n ≤ i → m ≤ i → compared (drop i a) (drop i b) ≡ 1
-  across-end h k = compared-end a b i (omega arith) (omega arith)
-
-  module _ (h : i < n) (k : i < m) (p q : ℕ) (x : p ≡ getD a i 0) (y : q ≡ getD b i 0) where
-    pub across-less : p < q → compared (drop i a) (drop i b) ≡ 0
-    across-less z = compared-less a b i (omega arith) (omega arith) (omega arith)
-
-    pub across-more : q < p → compared (drop i a) (drop i b) ≡ 2
-    across-more z = compared-more a b i (omega arith) (omega arith) (omega arith)
-
-    pub across-on : q ≤ p → p ≤ q → compared (drop i a) (drop i b) ≡ compared (drop (i + 1) a) (drop (i + 1) b)
-    across-on z v = compared-on a b i (omega arith) (omega arith) (omega arith) (omega arith)
-
 -- a name of n bytes and the bytes b
 module _ (a b : List ℕ) (n : ℕ) (e : n ≡ length a) where
   pub called-not : (n ≡ length b → ⊥) → false ≡ same a b
@@ -81,7 +62,7 @@ module _ (a b : List ℕ) (n : ℕ) (e : n ≡ length a) where
     pub called-end : n ≤ i → same (drop i a) (drop i b) ≡ true
     called-end h = same-end a b i (omega arith) (omega arith)
 
-same-told : (x y : List ℕ) (k : ℕ) → k ≡ compared x y → eqb k 1 ≡ same x y
+pub same-told : (x y : List ℕ) (k : ℕ) → k ≡ compared x y → eqb k 1 ≡ same x y
 unfolding compared pick
 same-told x y k h = rw h (go (same x y) (not-after x y))
   where
@@ -161,31 +142,42 @@ module _ (l t : List ℕ) where
       second-part : take (b / 64 + k - b / 64) (drop (b / 64) t) ≡ name-of (joint l t) b
       second-part = text-part b k g (second-within (length t) a b q y e k g)
 
-      pub here-compared : (r : ℕ) → r ≡ compared (take (a / 64 + j - a / 64) (drop (a / 64) t)) (take (b / 64 + k - b / 64) (drop (b / 64) t))
-          → r ≡ compared (name-of (joint l t) a) (name-of (joint l t) b)
-      here-compared r h = rw (first-part, second-part) at h
+      pub here-plain : (r : ℕ) → r ≡ plain-size (take (a / 64 + j - a / 64) (drop (a / 64) t)) (take (b / 64 + k - b / 64) (drop (b / 64) t))
+          → compared (name-of (joint l t) a) (name-of (joint l t) b) ≡ compared (drop r (name-of (joint l t) a)) (drop r (name-of (joint l t) b))
+      here-plain r h = plain-passed _ _ r (rw (first-part, second-part) at h)
 
       pub here-same : (r : Bool) → r ≡ same (take (a / 64 + j - a / 64) (drop (a / 64) t)) (take (b / 64 + k - b / 64) (drop (b / 64) t))
           → r ≡ same (name-of (joint l t) a) (name-of (joint l t) b)
       here-same r h = rw (first-part, second-part) at h
 
-    pub there-compared : q ≡ both-behind (length t) a b → (r : ℕ) → r ≡ compared (name-of l (a - length t * 64)) (name-of l (b - length t * 64))
-        → r ≡ compared (name-of (joint l t) a) (name-of (joint l t) b)
-    there-compared e r h =
+    pub there-plain : q ≡ both-behind (length t) a b → (r : ℕ) → r ≡ plain-size (name-of l (a - length t * 64)) (name-of l (b - length t * 64))
+        → compared (name-of (joint l t) a) (name-of (joint l t) b) ≡ compared (drop r (name-of (joint l t) a)) (drop r (name-of (joint l t) b))
+    there-plain e r h =
+        plain-passed _ _ r (rw (library-name a (first-behind (length t) a b q y e), library-name b (second-behind (length t) a b q y e)) at h)
+
+    pub there-same : q ≡ both-behind (length t) a b → (r : Bool) → r ≡ same (name-of l (a - length t * 64)) (name-of l (b - length t * 64))
+        → r ≡ same (name-of (joint l t) a) (name-of (joint l t) b)
+    there-same e r h =
         rw (library-name a (first-behind (length t) a b q y e), library-name b (second-behind (length t) a b q y e)) at h
 
   -- the texts handed on as parts that are all of them
   whole : (s : List ℕ) → take (length s - 0) (drop 0 s) ≡ s
   whole s = let n : length s - 0 ≡ length s = omega arith in rw n (take-length s)
 
-  module _ (a b r : ℕ)
-      (e : r ≡ compared (name-of (joint (take (length l - 0) (drop 0 l)) (take (length t - 0) (drop 0 t))) a)
-      (name-of (joint (take (length l - 0) (drop 0 l)) (take (length t - 0) (drop 0 t))) b)) where
-    pub elsewhere-compared : r ≡ compared (name-of (joint l t) a) (name-of (joint l t) b)
-    elsewhere-compared = rw (whole l, whole t) at e
+  module _ (a b : ℕ) where
+    pub elsewhere-plain : (r : ℕ)
+        → compared (name-of (joint (take (length l - 0) (drop 0 l)) (take (length t - 0) (drop 0 t))) a)
+        (name-of (joint (take (length l - 0) (drop 0 l)) (take (length t - 0) (drop 0 t))) b)
+        ≡ compared (drop r (name-of (joint (take (length l - 0) (drop 0 l)) (take (length t - 0) (drop 0 t))) a))
+        (drop r (name-of (joint (take (length l - 0) (drop 0 l)) (take (length t - 0) (drop 0 t))) b))
+        → compared (name-of (joint l t) a) (name-of (joint l t) b) ≡ compared (drop r (name-of (joint l t) a)) (drop r (name-of (joint l t) b))
+    elsewhere-plain r e = rw (whole l, whole t) at e
 
-    pub elsewhere-same : eqb r 1 ≡ same (name-of (joint l t) a) (name-of (joint l t) b)
-    elsewhere-same = same-told (name-of (joint l t) a) (name-of (joint l t) b) r elsewhere-compared
+    pub elsewhere-same : (r : Bool)
+        → r ≡ same (name-of (joint (take (length l - 0) (drop 0 l)) (take (length t - 0) (drop 0 t))) a)
+        (name-of (joint (take (length l - 0) (drop 0 l)) (take (length t - 0) (drop 0 t))) b)
+        → r ≡ same (name-of (joint l t) a) (name-of (joint l t) b)
+    elsewhere-same r e = rw (whole l, whole t) at e
 
 -- ---- a name of each
 
@@ -197,4 +189,4 @@ between text library v w s room k r e f g h =
     h ∙ ap (same (name-of text w)) (name-between library v s e k (name-size library v s e room k f g))
 
 -- what the answers for these functions hand to `search`
-pub ruleset cases = (byte-left, byte-right, joined-size, joined-byte, joined-past, across-long, across-short, across-end, across-less, across-more, across-on, called-not, called-off, called-on, called-end, room-both, room-not, behind-both, behind-not, first-within, second-within, first-behind, behind-fits, moved-fits, second-behind, here-compared, here-same, there-compared, elsewhere-compared, elsewhere-same, between, same-words, not-after-told, told, needs)
+pub ruleset cases = (byte-left, byte-right, joined-size, joined-byte, joined-past, called-not, called-off, called-on, called-end, room-both, room-not, behind-both, behind-not, first-within, second-within, first-behind, behind-fits, moved-fits, second-behind, here-plain, here-same, there-plain, there-same, elsewhere-plain, elsewhere-same, same-told, between, same-words, not-after-told, told, needs)

@@ -1,5 +1,6 @@
 pub mod Auto
 pub mod Runs
 pub mod Compared
+pub mod Elements
 pub mod Places
 pub mod Joined

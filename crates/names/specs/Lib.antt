@@ -1,2 +1,4 @@
 pub mod Word
+pub mod Runs
+pub mod RunLaws
 pub mod Joint

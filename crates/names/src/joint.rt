@@ -1,15 +1,17 @@
 // Names of two texts as one, the customer's text with the library behind it: a place is one of both together, and so is a name's word.
 // Most names lie in the text, which therefore comes first: their words are as they were read, and are compared there.
 use super::byte_at;
-use super::compare_bytes;
 use super::is_called as is_called_in;
+use super::is_digit;
 use super::lesser;
+use super::plain_size;
 use super::same_bytes;
 ghost use mathlib.Core.Path.{_≡_};
-ghost use Prim.Native.Nat.{_%_, min};
-ghost use lib.ListN.{length, getD};
+ghost use Prim.Native.Nat.{_+_, _%_, _<_, _≤_, min};
+ghost use lib.ListN.{length, getD, take, drop};
 ghost use Rattle.meaning.specs.Names.{same, not-after};
-ghost use Rattle.names.specs.Word.{name-of, compared};
+ghost use Rattle.names.specs.Word.{name-of, compared, bytes-compared};
+ghost use Rattle.names.specs.Runs.{digits-of, zeros-of, by-size, runs-compared, elements-compared, element-size};
 ghost use Rattle.names.specs.Joint.{joint, have-room, both-behind};
 
 // The byte at i of both, and 0 past the end.
@@ -52,25 +54,156 @@ fn name_byte(library: &[u8], text: &[u8], w: u32, i: usize) -> u8
     0
 }
 
-fn compare_across(library: &[u8], text: &[u8], a: u32, b: u32) -> u8
-    ensures { λ r. ⌜ r ≡ compared (name-of (joint (now (library .entry)) (now (text .entry))) a) (name-of (joint (now (library .entry)) (now (text .entry))) b) ⌝ }
+// Past the digits from i on of the name w, which has `size` bytes.
+fn digits_end(library: &[u8], text: &[u8], w: u32, size: usize, i: usize) -> usize
+    requires { ⌜ size ≡ length (name-of (joint (now library) (now text)) w) ⌝ }
+    ensures { λ r. ⌜ r ≡ i + digits-of (drop i (name-of (joint (now (library .entry)) (now (text .entry))) w)) ⌝ }
 {
-    let n = name_size(library, text, a);
-    let m = name_size(library, text, b);
-    let mut i = 0;
-    while i < n {
-        if m <= i {
-            return 2;
+    let mut e = i;
+    while e < size {
+        if is_digit(name_byte(library, text, w, e)) {
+            e += 1;
+        } else {
+            return e;
         }
-        let p = name_byte(library, text, a, i);
-        let q = name_byte(library, text, b, i);
+    }
+    e
+}
+
+// Past the zeros from i on.
+fn zeros_end(library: &[u8], text: &[u8], w: u32, size: usize, i: usize) -> usize
+    requires { ⌜ size ≡ length (name-of (joint (now library) (now text)) w) ⌝ }
+    ensures { λ r. ⌜ r ≡ i + zeros-of (drop i (name-of (joint (now (library .entry)) (now (text .entry))) w)) ⌝ }
+{
+    let mut e = i;
+    while e < size {
+        if name_byte(library, text, w, e) == b'0' {
+            e += 1;
+        } else {
+            return e;
+        }
+    }
+    e
+}
+
+// `left` bytes of the name a from i on, and as many of b from j on: 1 if they are the same, 0 if a's come first, 2 if b's do.
+fn compare_digits(
+    library: &[u8],
+    text: &[u8],
+    a: u32,
+    i: usize,
+    b: u32,
+    j: usize,
+    left: usize,
+) -> u8
+    requires { ⌜ i + left ≤ length (name-of (joint (now library) (now text)) a) ⌝ }
+    requires { ⌜ j + left ≤ length (name-of (joint (now library) (now text)) b) ⌝ }
+    ensures { λ r. ⌜ r ≡ bytes-compared (take left (drop i (name-of (joint (now (library .entry)) (now (text .entry))) a))) (take left (drop j (name-of (joint (now (library .entry)) (now (text .entry))) b))) ⌝ }
+{
+    let mut k = 0;
+    while k < left {
+        let p = name_byte(library, text, a, i + k);
+        let q = name_byte(library, text, b, j + k);
         if p < q {
             return 0;
         }
         if q < p {
             return 2;
         }
-        i += 1;
+        k += 1;
+    }
+    1
+}
+
+// The runs of digits from i on, in a name of n bytes and one of m: by their sizes without leading zeros, then byte by byte, then by their zeros.
+fn compare_runs(library: &[u8], text: &[u8], a: u32, n: usize, b: u32, m: usize, i: usize) -> u8
+    requires { ⌜ n ≡ length (name-of (joint (now library) (now text)) a) ⌝ }
+    requires { ⌜ m ≡ length (name-of (joint (now library) (now text)) b) ⌝ }
+    requires { ⌜ i ≤ n ⌝ }
+    requires { ⌜ i ≤ m ⌝ }
+    ensures { λ r. ⌜ r ≡ runs-compared (drop i (name-of (joint (now (library .entry)) (now (text .entry))) a)) (drop i (name-of (joint (now (library .entry)) (now (text .entry))) b)) ⌝ }
+{
+    let x = zeros_end(library, text, a, n, i);
+    let y = zeros_end(library, text, b, m, i);
+    let j = digits_end(library, text, a, n, i) - x;
+    let k = digits_end(library, text, b, m, i) - y;
+    if j < k {
+        return 0;
+    }
+    if k < j {
+        return 2;
+    }
+    let c = compare_digits(library, text, a, x, b, y, j);
+    if c == 1 {
+        return by_size(x, y);
+    }
+    c
+}
+
+// 0 if n is less, 2 if it is more, 1 if both are the same.
+fn by_size(n: usize, m: usize) -> u8
+    ensures { λ r. ⌜ r ≡ by-size n m 1 ⌝ }
+{
+    if n < m {
+        return 0;
+    }
+    if m < n {
+        return 2;
+    }
+    1
+}
+
+// The elements at i of a name of n bytes and one of m: 1 if they are the same, 0 if a's comes first, 2 if b's does.
+fn compare_elements(library: &[u8], text: &[u8], a: u32, n: usize, b: u32, m: usize, i: usize) -> u8
+    requires { ⌜ n ≡ length (name-of (joint (now library) (now text)) a) ⌝ }
+    requires { ⌜ m ≡ length (name-of (joint (now library) (now text)) b) ⌝ }
+    requires { ⌜ i < n ⌝ }
+    requires { ⌜ i < m ⌝ }
+    ensures { λ r. ⌜ r ≡ elements-compared (drop i (name-of (joint (now (library .entry)) (now (text .entry))) a)) (drop i (name-of (joint (now (library .entry)) (now (text .entry))) b)) ⌝ }
+{
+    let p = name_byte(library, text, a, i);
+    let q = name_byte(library, text, b, i);
+    if is_digit(p) {
+        if is_digit(q) {
+            return compare_runs(library, text, a, n, b, m, i);
+        }
+        return 0;
+    }
+    if is_digit(q) {
+        return 2;
+    }
+    by_size(p as usize, q as usize)
+}
+
+// Past the element at i of the name w, which has `size` bytes.
+fn element_end(library: &[u8], text: &[u8], w: u32, size: usize, i: usize) -> usize
+    requires { ⌜ size ≡ length (name-of (joint (now library) (now text)) w) ⌝ }
+    requires { ⌜ i < size ⌝ }
+    ensures { λ r. ⌜ r ≡ i + element-size (drop i (name-of (joint (now (library .entry)) (now (text .entry))) w)) ⌝ }
+{
+    let e = digits_end(library, text, w, size, i);
+    if e == i {
+        return i + 1;
+    }
+    e
+}
+
+// What is left of two names from `from` on, element by element.
+fn compare_from(library: &[u8], text: &[u8], a: u32, b: u32, from: usize) -> u8
+    ensures { λ r. ⌜ r ≡ compared (drop from (name-of (joint (now (library .entry)) (now (text .entry))) a)) (drop from (name-of (joint (now (library .entry)) (now (text .entry))) b)) ⌝ }
+{
+    let n = name_size(library, text, a);
+    let m = name_size(library, text, b);
+    let mut i = from;
+    while i < n {
+        if m <= i {
+            return 2;
+        }
+        let c = compare_elements(library, text, a, n, b, m, i);
+        if c != 1 {
+            return c;
+        }
+        i = element_end(library, text, a, n, i);
     }
     if i < m {
         return 0;
@@ -120,30 +253,49 @@ fn both_behind(text: &[u8], a: u32, b: u32) -> bool
     false
 }
 
-// Names of the library are compared there, and all others byte by byte.
-fn compare_elsewhere(library: &[u8], text: &[u8], a: u32, b: u32) -> u8
-    ensures { λ r. ⌜ r ≡ compared (name-of (joint (now (library .entry)) (now (text .entry))) a) (name-of (joint (now (library .entry)) (now (text .entry))) b) ⌝ }
+// Of names of the library it is told how many bytes they have in common up to the first digit; of others nothing is passed over.
+fn plain_elsewhere(library: &[u8], text: &[u8], a: u32, b: u32) -> usize
+    ensures { λ r. ⌜ compared (name-of (joint (now (library .entry)) (now (text .entry))) a) (name-of (joint (now (library .entry)) (now (text .entry))) b) ≡ compared (drop r (name-of (joint (now (library .entry)) (now (text .entry))) a)) (drop r (name-of (joint (now (library .entry)) (now (text .entry))) b)) ⌝ }
 {
     if both_behind(text, a, b) {
         let by = text.len() as u32 * 64;
-        return super::compare(library, a - by, b - by);
+        return super::plain_front(library, a - by, b - by);
     }
-    compare_across(library, text, a, b)
+    0
 }
 
-// 1 if a and b are the same name, 0 if a comes first, 2 if b does. They are compared where they stand in the texts.
-pub fn compare(library: &[u8], text: &[u8], a: u32, b: u32) -> u8
-    ensures { λ r. ⌜ r ≡ compared (name-of (joint (now (library .entry)) (now (text .entry))) a) (name-of (joint (now (library .entry)) (now (text .entry))) b) ⌝ }
+// So many bytes of two names need not be looked at again.
+fn plain_front(library: &[u8], text: &[u8], a: u32, b: u32) -> usize
+    ensures { λ r. ⌜ compared (name-of (joint (now (library .entry)) (now (text .entry))) a) (name-of (joint (now (library .entry)) (now (text .entry))) b) ≡ compared (drop r (name-of (joint (now (library .entry)) (now (text .entry))) a)) (drop r (name-of (joint (now (library .entry)) (now (text .entry))) b)) ⌝ }
 {
     if have_room(text, a, b) {
         let x = (a / 64) as usize;
         let y = (b / 64) as usize;
         let n = x + name_room(a);
         let m = y + name_room(b);
-        return compare_bytes(&text[x..n], &text[y..m]);
+        return plain_size(&text[x..n], &text[y..m]);
     }
     // handed on as parts, so that what is here stays in registers
-    compare_elsewhere(&library[0..], &text[0..], a, b)
+    plain_elsewhere(&library[0..], &text[0..], a, b)
+}
+
+// 1 if a and b are the same name, 0 if a comes first, 2 if b does. They are compared where they stand in the texts.
+pub fn compare(library: &[u8], text: &[u8], a: u32, b: u32) -> u8
+    ensures { λ r. ⌜ r ≡ compared (name-of (joint (now (library .entry)) (now (text .entry))) a) (name-of (joint (now (library .entry)) (now (text .entry))) b) ⌝ }
+{
+    let from = plain_front(library, text, a, b);
+    compare_from(library, text, a, b, from)
+}
+
+// Names of the library are looked at there, and all others byte by byte.
+fn same_elsewhere(library: &[u8], text: &[u8], a: u32, b: u32) -> bool
+    ensures { λ r. ⌜ r ≡ same (name-of (joint (now (library .entry)) (now (text .entry))) a) (name-of (joint (now (library .entry)) (now (text .entry))) b) ⌝ }
+{
+    if both_behind(text, a, b) {
+        let by = text.len() as u32 * 64;
+        return super::same_name(library, a - by, b - by);
+    }
+    compare_from(library, text, a, b, 0) == 1
 }
 
 // Are a and b the same name? One word is one name, with no look at the texts.
@@ -160,7 +312,7 @@ pub fn same_name(library: &[u8], text: &[u8], a: u32, b: u32) -> bool
         let m = y + name_room(b);
         return same_bytes(&text[x..n], &text[y..m]);
     }
-    compare_elsewhere(&library[0..], &text[0..], a, b) == 1
+    same_elsewhere(&library[0..], &text[0..], a, b)
 }
 
 // Are a and b the same name, or does a come first?

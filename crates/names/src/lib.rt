@@ -1,13 +1,14 @@
-// Names of a text: its bytes by place, where an identifier ends, and which of two names comes first.
+// Names of a text: its bytes by place, where an identifier ends, whether two are the same, and which of two texts comes first by its bytes.
 // A name is one word: the place where it starts times 64, and its length.
 pub mod joint;
 
 ghost use mathlib.Core.Path.{_≡_};
 ghost use Prim.Native.Nat.{_/_, min};
 ghost use lib.ListN.{length, getD};
-ghost use Rattle.meaning.specs.Names.{same, not-after};
+ghost use Rattle.meaning.specs.Names.{same, is-digit};
 ghost use Rattle.meaning.specs.Tokens.{is-word, run-end, at-hyphen, at-word};
-ghost use Rattle.names.specs.Word.{name-of, compared};
+ghost use Rattle.names.specs.Word.{name-of, bytes-compared};
+ghost use Rattle.names.specs.Runs.{plain-size};
 
 // The byte at i, and 0 past the end.
 pub fn byte_at(text: &[u8], i: usize) -> u8
@@ -30,6 +31,15 @@ pub fn is_word(b: u8) -> bool
         return b <= b'9';
     }
     b == b'\''
+}
+
+pub fn is_digit(b: u8) -> bool
+    ensures { λ r. ⌜ r ≡ is-digit b ⌝ }
+{
+    if b'0' <= b {
+        return b <= b'9';
+    }
+    false
 }
 
 // Past the hyphens at `at`.
@@ -82,7 +92,7 @@ pub fn same_bytes(a: &[u8], b: &[u8]) -> bool
 
 // 1 if a and b have the same bytes, 0 if a comes first, 2 if b does.
 pub fn compare_bytes(a: &[u8], b: &[u8]) -> u8
-    ensures { λ r. ⌜ r ≡ compared (now (a .entry)) (now (b .entry)) ⌝ }
+    ensures { λ r. ⌜ r ≡ bytes-compared (now (a .entry)) (now (b .entry)) ⌝ }
 {
     let mut i = 0;
     while i < a.len() {
@@ -101,6 +111,26 @@ pub fn compare_bytes(a: &[u8], b: &[u8]) -> u8
         return 0;
     }
     1
+}
+
+// How many bytes a and b have in common from the first on, up to the first digit.
+fn plain_size(a: &[u8], b: &[u8]) -> usize
+    ensures { λ r. ⌜ r ≡ plain-size (now (a .entry)) (now (b .entry)) ⌝ }
+{
+    let mut i = 0;
+    while i < a.len() {
+        if b.len() <= i {
+            return i;
+        }
+        if a[i] != b[i] {
+            return i;
+        }
+        if is_digit(a[i]) {
+            return i;
+        }
+        i += 1;
+    }
+    i
 }
 
 fn lesser(a: usize, b: usize) -> usize
@@ -124,15 +154,15 @@ fn name_length(text: &[u8], w: u32) -> usize
     lesser(lesser((w % 64) as usize, 40), left)
 }
 
-// 1 if a and b are the same name, 0 if a comes first, 2 if b does. They are compared where they stand in the text.
-pub fn compare(text: &[u8], a: u32, b: u32) -> u8
-    ensures { λ r. ⌜ r ≡ compared (name-of (now (text .entry)) a) (name-of (now (text .entry)) b) ⌝ }
+// How many bytes two names have in common from the first on, up to the first digit.
+pub fn plain_front(text: &[u8], a: u32, b: u32) -> usize
+    ensures { λ r. ⌜ r ≡ plain-size (name-of (now (text .entry)) a) (name-of (now (text .entry)) b) ⌝ }
 {
     let x = name_start(text, a);
     let y = name_start(text, b);
     let n = x + name_length(text, a);
     let m = y + name_length(text, b);
-    compare_bytes(&text[x..n], &text[y..m])
+    plain_size(&text[x..n], &text[y..m])
 }
 
 // Are a and b the same name? One word is one name, with no look at the text.
@@ -147,13 +177,6 @@ pub fn same_name(text: &[u8], a: u32, b: u32) -> bool
     let n = x + name_length(text, a);
     let m = y + name_length(text, b);
     same_bytes(&text[x..n], &text[y..m])
-}
-
-// Are a and b the same name, or does a come first?
-pub fn not_after(text: &[u8], a: u32, b: u32) -> bool
-    ensures { λ r. ⌜ r ≡ not-after (name-of (now (text .entry)) a) (name-of (now (text .entry)) b) ⌝ }
-{
-    compare(text, a, b) < 2
 }
 
 // Has the name a the bytes of `asked`?

@@ -5,14 +5,14 @@ use mathlib.Core.Bool.{Bool, true, false, not, false≢true}
 use mathlib.Core.List.{List, [], _∷_, map, List·Memᴰ, List·Memᴰ·head, List·Memᴰ·tail, List·Memᴰ·cases-cons, List·Permᴰ·nil, List·Permᴰ·cons, List·Permᴰ·swap, List·Permᴰ·trans, Permᴰ·refl, Permᴰ·map}
 use borrow.Author.Tests.{eqb-true}
 use Rattle.meaning.specs.Lists.{pick, keep, any, sorted}
-use Rattle.meaning.specs.Names.{Name, same, by-name}
+use Rattle.meaning.specs.Names.{Name, same, bytes-not-after, not-after, by-bytes}
 use Rattle.meaning.specs.Origins.{Shape, sort-shape, function-shape, variable-shape, is-sort, Item, ResolvedEquation}
 use Rattle.meaning.specs.Normal.{Visible, Normal, sorts-among}
 use Rattle.meaning.specs.Written.{origin-text, shape-text, equation-text, equation-order, shape-rank, standing-text, visible-order, visible-in-order, hidden-order, hidden-in-order, in-order}
 use Rattle.meaning.specs.Listing.{line, lines-text, equation-line, hidden-lines, listing-lines}
 use Rattle.meaning.specs.Grammar.{name, equation, is}
 use Rattle.meaning.specs.Answer.{listing}
-use Rattle.meaning.specs.OrderLaws.{Rearranged, NoTie, order-of, then-both, names-ordered, same-equal, not-after-antisymmetric, by-two-both, sorted-map, sorted-one}
+use Rattle.meaning.specs.OrderLaws.{Rearranged, NoTie, order-of, then-both, bytes-ordered, bytes-antisymmetric, bytes-levelled, names-ordered, names-levelled, same-equal, not-after-antisymmetric, by-two-both, sorted-map, sorted-one}
 use Rattle.meaning.specs.ListingOrder.{by-standing, by-rank, visible-ordered, hidden-ordered, Place, place-order, by-home, by-position, place-ordered}
 
 -- ---- the same items and equations, in whatever order
@@ -44,7 +44,7 @@ EquationsTold hidden es =
     → equation-text hidden a ≡ equation-text hidden b → a ≡ b
 
 abbrev pub sorts-in-order : List Item → List Item
-sorts-in-order is = by-name (λ (i : Item). origin-text (i .origin)) (sorts-among is)
+sorts-in-order is = by-bytes (λ (i : Item). origin-text (i .origin)) (sorts-among is)
 
 -- parameters are their names; and of equations nothing is asked, since those that tie are written alike
 pub record ItemsTold (n : Normal) : Type 0 where
@@ -58,7 +58,7 @@ unfolding visible-order
 visible-no-tie is told a b m k e f =
     let r = then-both by-standing a b _ _ e f in
     let s = then-both by-rank a b _ _ (r .1) (r .2) in
-    let t = by-two-both (λ (i : Item). i .name) (λ (i : Item). shape-text [] (i .shape)) a b (s .1) (s .2) in
+    let t = by-two-both not-after names-levelled (λ (i : Item). i .name) (λ (i : Item). shape-text [] (i .shape)) a b (s .1) (s .2) in
     told a b m k (same-equal _ _ (r .0)) (eqb-true _ _ (s .0)) (t .0) (t .1)
 
 pub visible-one : (v v′ : Visible) → Rearranged (v .parameters) (v′ .parameters) → Rearranged (v .items) (v′ .items) → VisibleTold (v .items)
@@ -109,18 +109,18 @@ module _ (is is′ : List Item) (d : Rearranged is is′) (told : HiddenTold (so
   hidden-sorts-one : sorts-in-order is ≡ sorts-in-order is′
   unfolding sorts-among
   hidden-sorts-one =
-      sorted-one (order-of names-ordered (λ (i : Item). origin-text (i .origin))) (keep-rearranged (λ (i : Item). is-sort (i .shape)) d)
+      sorted-one (order-of bytes-ordered (λ (i : Item). origin-text (i .origin))) (keep-rearranged (λ (i : Item). is-sort (i .shape)) d)
       (λ a b m k e f.
       let p = kept-member (λ (i : Item). is-sort (i .shape)) is m in
       let q = kept-member (λ (i : Item). is-sort (i .shape)) is k in
       let shapes = sort-only (a .shape) (p .1) ∙ sym (sort-only (b .shape) (q .1)) in
-      told a b (p .0) (q .0) (ap shape-rank shapes) (not-after-antisymmetric _ _ e f) (ap (shape-text (sorts-in-order is)) shapes))
+      told a b (p .0) (q .0) (ap shape-rank shapes) (bytes-antisymmetric _ _ e f) (ap (shape-text (sorts-in-order is)) shapes))
 
 hidden-no-tie : (sorts is : List Item) → HiddenTold sorts is → NoTie (hidden-order sorts) is
 unfolding hidden-order
 hidden-no-tie sorts is told a b m k e f =
     let r = then-both by-rank a b _ _ e f in
-    let t = by-two-both (λ (i : Item). origin-text (i .origin)) (λ (i : Item). shape-text sorts (i .shape)) a b (r .1) (r .2) in
+    let t = by-two-both bytes-not-after bytes-levelled (λ (i : Item). origin-text (i .origin)) (λ (i : Item). shape-text sorts (i .shape)) a b (r .1) (r .2) in
     told a b m k (eqb-true _ _ (r .0)) (t .0) (t .1)
 
 abbrev pub items-in-order : List Item → List Item
@@ -141,7 +141,7 @@ place-told a b e f =
     let s = then-both by-position a b _ _ (r .1) (r .2) in
     let homes = eqb-true (a .home) (b .home) (r .0) in
     let positions = eqb-true (a .position) (b .position) (s .0) in
-    let texts = not-after-antisymmetric (a .text) (b .text) (s .1) (s .2) in
+    let texts = bytes-antisymmetric (a .text) (b .text) (s .1) (s .2) in
     λ i. record { home = homes i; position = positions i; text = texts i }
 
 module _ (hidden : List Item) where

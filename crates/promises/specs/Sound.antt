@@ -12,7 +12,7 @@ use lib.ListN.{length}
 use borrow.Author.Tests.{not-false}
 use Rattle.meaning.specs.Laws.{by-cases}
 use Rattle.meaning.specs.Lists.{pick, keep, any, union}
-use Rattle.meaning.specs.Names.{Name, same, not-after, by-name}
+use Rattle.meaning.specs.Names.{Name, same, bytes-not-after, not-after, by-name}
 use Rattle.meaning.specs.Origins.{Section, export-section, parameter-section, hidden-section, Origin, Sort, visible-sort, hidden-sort, Shape, sort-shape, function-shape, variable-shape, is-sort, is-function, FunctionType, one-item, one-equation, Head, visible-head, hidden-head, ResolvedTerm, var, app, ResolvedTerms, none-left, _and-then_, ResolvedSides, Item, ResolvedEquation}
 use Rattle.meaning.specs.Checks.{Outcome, fine, stop, _>>=_, _>>_, Check, unless, least-at-odds, other-origin, sorts-clash, functions-clash, consistent}
 use Rattle.meaning.specs.Normal.{move-sort, move-type, move-shape, move-name, move-item, move-hidden-item, move-head, move-term, move-terms, move-sides, move-equation, move-visible, move-hidden, move, unite, unite-visible, unite-hidden, Visible, Normal, sorts-among}
@@ -124,7 +124,7 @@ hidden-told is few sound a b m k rank origin text =
     λ x. record { standing = standings x; name = names x; shape = shapes x; origin = origins x }
   where
     by-origin : Item → Item → Bool
-    by-origin i j = not-after (origin-text (i .origin)) (origin-text (j .origin))
+    by-origin i j = bytes-not-after (origin-text (i .origin)) (origin-text (j .origin))
 
     placed : (o : Origin) → List·Memᴰ o (origins-of (sorts-among is)) → List·Memᴰ o (origins-of (sorts-in-order is))
     placed o q =

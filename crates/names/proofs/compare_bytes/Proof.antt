@@ -3,7 +3,7 @@
 use mathlib.Core.Path.{_≡_}
 use Prim.Native.Nat.{_-_}
 use lib.ListN.{length, drop}
-use Rattle.names.specs.Word.{compared}
+use Rattle.names.specs.Word.{bytes-compared}
 use Rattle.names.proofs.Auto.{on, done}
 use Rattle.names.proofs.Compared.{compared-long, compared-less, compared-more, compared-on, compared-short, compared-end}
 use borrow.Author.Needs.{needs}
@@ -11,7 +11,7 @@ use Rattle.names.proofs.compare_bytes.Statement.{statement}
 use Rattle.names.proofs.compare_bytes.Tie as tie
 
 abbrev Inv-loop : tie.InvT-loop
-Inv-loop a b i₀ i = compared a b ≡ compared (drop i a) (drop i b)
+Inv-loop a b i₀ i = bytes-compared a b ≡ bytes-compared (drop i a) (drop i b)
 
 abbrev μ-loop : tie.MeasureT-loop
 μ-loop a b i₀ i = length a - i

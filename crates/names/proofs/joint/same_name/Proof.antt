@@ -25,12 +25,12 @@ same-name-spec =
     (λ c. search cases)  -- part-same-bytes-end-2
     (λ c κs. search needs)  -- same-bytes-requires
     (λ c. search cases)  -- returns-2
-    (λ c. search needs)  -- sub-compare-elsewhere
-    (λ c. search needs)  -- part-compare-elsewhere-start
-    (λ c. search needs)  -- part-compare-elsewhere-end
-    (λ c. search needs)  -- sub-compare-elsewhere-2
-    (λ c. search needs)  -- part-compare-elsewhere-start-2
-    (λ c. search needs)  -- part-compare-elsewhere-end-2
-    (λ c κs. search needs)  -- compare-elsewhere-requires
+    (λ c. search needs)  -- sub-same-elsewhere
+    (λ c. search needs)  -- part-same-elsewhere-start
+    (λ c. search needs)  -- part-same-elsewhere-end
+    (λ c. search needs)  -- sub-same-elsewhere-2
+    (λ c. search needs)  -- part-same-elsewhere-start-2
+    (λ c. search needs)  -- part-same-elsewhere-end-2
+    (λ c κs. search needs)  -- same-elsewhere-requires
     (λ c. search cases)  -- returns-3
     )

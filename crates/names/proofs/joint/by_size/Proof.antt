@@ -1,0 +1,14 @@
+-- `names::joint::by_size` meets its contract.
+-- Assumes nothing.
+use Rattle.names.proofs.Elements.{cases}
+use Rattle.names.proofs.joint.by_size.Statement.{statement}
+use Rattle.names.proofs.joint.by_size.Tie as tie
+
+pub by-size-spec : {M : Type 1} → statement M
+by-size-spec =
+    tie.close
+    (tie.spec
+    (λ c. search cases)  -- returns
+    (λ c. search cases)  -- returns-2
+    (λ c. search cases)  -- returns-3
+    )

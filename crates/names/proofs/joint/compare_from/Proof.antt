@@ -1,0 +1,44 @@
+-- `names::joint::compare_from` meets its contract.
+-- Assumes nothing.
+use Prim.Native.Nat.{_-_}
+use mathlib.Core.Path.{_≡_}
+use lib.ListN.{drop}
+use Rattle.names.specs.Word.{name-of, compared}
+use Rattle.names.specs.Joint.{joint}
+use Rattle.names.proofs.Auto.{on, done}
+use Rattle.names.proofs.Elements.{cases, left-on}
+use Rattle.names.proofs.joint.compare_from.Statement.{statement}
+use Rattle.names.proofs.joint.compare_from.Tie as tie
+
+abbrev Inv-loop : tie.InvT-loop
+Inv-loop library text a b from n m i₀ i = compared (drop from (name-of (joint library text) a)) (drop from (name-of (joint library text) b))
+    ≡ compared (drop i (name-of (joint library text) a)) (drop i (name-of (joint library text) b))
+
+abbrev μ-loop : tie.MeasureT-loop
+μ-loop library text a b from n m i₀ i = n - i
+
+pub compare-from-spec : {M : Type 1} → statement M
+compare-from-spec =
+    tie.close
+    (tie.spec
+    Inv-loop
+    μ-loop
+    (λ c κs. search cases)  -- name-size-requires
+    (λ c κs. search cases)  -- name-size-requires-2
+    (λ c. search cases)  -- loop-holds
+    (λ c. search (done, cases))  -- returns
+    (λ c κs. search cases)  -- compare-elements-requires
+    (λ c. search (done, cases))  -- returns-2
+    (λ c κs. search cases)  -- element-end-requires
+    (λ c. search cases)  -- loop-less
+    (λ c.
+    let stepped = c .before .before in
+    let tested = stepped .before .before in
+    let turn = tested .before in
+    let sizes = turn .before in
+    on (turn .loop .inv)
+    (left-on _ _ _ _ _ (sizes .before .name-size .ensures) (sizes .name-size2 .ensures) _ (tested .loop-test .taken) (stepped .before .if1 .left)
+    (stepped .compare-elements .ensures) _ (c .before .if2 .left) (c .element-end .ensures)))  -- loop-again
+    (λ c. search (done, cases))  -- returns-3
+    (λ c. search (done, cases))  -- returns-4
+    )

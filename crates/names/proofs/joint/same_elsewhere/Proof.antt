@@ -1,0 +1,21 @@
+-- `names::joint::same_elsewhere` meets its contract.
+-- Assumes nothing.
+use Rattle.names.proofs.Joined.{cases}
+use borrow.Author.Needs.{needs}
+use Rattle.names.proofs.joint.same_elsewhere.Statement.{statement}
+use Rattle.names.proofs.joint.same_elsewhere.Tie as tie
+
+pub same-elsewhere-spec : {M : Type 1} → statement M
+same-elsewhere-spec =
+    tie.close
+    (tie.spec
+    (λ c κs. search needs)  -- both-behind-requires
+    (λ c. search cases)  -- cast-by
+    (λ c. search cases)  -- mul-by
+    (λ c. search cases)  -- sub-same-name
+    (λ c. search cases)  -- sub-same-name-2
+    (λ c κs. search needs)  -- same-name-requires
+    (λ c. search cases)  -- returns
+    (λ c κs. search needs)  -- compare-from-requires
+    (λ c. search cases)  -- returns-2
+    )

@@ -1,0 +1,36 @@
+-- `names::plain_size` meets its contract.
+-- Assumes nothing.
+use Prim.Native.Nat.{_+_, _-_}
+use mathlib.Core.Path.{_≡_}
+use lib.ListN.{length, drop}
+use Rattle.names.specs.Runs.{plain-size}
+use Rattle.names.proofs.Auto.{on, done}
+use Rattle.names.proofs.Elements.{cases}
+use Rattle.names.proofs.plain_size.Statement.{statement}
+use Rattle.names.proofs.plain_size.Tie as tie
+
+abbrev Inv-loop : tie.InvT-loop
+Inv-loop a b i₀ i = plain-size a b ≡ i + plain-size (drop i a) (drop i b)
+
+abbrev μ-loop : tie.MeasureT-loop
+μ-loop a b i₀ i = length a - i
+
+pub plain-size-spec : {M : Type 1} → statement M
+plain-size-spec =
+    tie.close
+    (tie.spec
+    Inv-loop
+    μ-loop
+    (λ c. search cases)  -- loop-holds
+    (λ c. search (done, cases))  -- returns
+    (λ c. search cases)  -- shared-slice-read-if2
+    (λ c. search cases)  -- shared-slice-read-if2-2
+    (λ c. search (done, cases))  -- returns-2
+    (λ c. search cases)  -- shared-slice-read-is-digit
+    (λ c κs. search cases)  -- is-digit-requires
+    (λ c. search (done, cases))  -- returns-3
+    (λ c. search cases)  -- add-i
+    (λ c. search cases)  -- loop-less
+    (λ c. search (on, cases))  -- loop-again
+    (λ c. search (done, cases))  -- returns-4
+    )
