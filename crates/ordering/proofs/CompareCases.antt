@@ -9,11 +9,11 @@ use lib.ListN.{getD, take}
 use borrow.Author.Needs.{needs}
 use borrow.Author.Tests.{eq-eqb, ne-eqb, ltb-true, ltb-false, leb-true, leb-false}
 use Rattle.meaning.specs.Lists.{pick}
-use Rattle.meaning.specs.Names.{same, not-after, by-two}
+use Rattle.meaning.specs.Names.{bytes-not-after, by-two}
 use Rattle.meaning.specs.Origins.{Item, sort-shape, function-shape, variable-shape}
 use Rattle.meaning.specs.Written.{origin-text, shape-text, shape-rank, standing-text, visible-order, hidden-order}
 use Rattle.meaning.specs.ListingOrder.{place-order}
-use Rattle.names.specs.Word.{name-of, compared}
+use Rattle.names.specs.Word.{name-of, compared, bytes-compared}
 use Rattle.tables.specs.declared.Section.{Section}
 use Rattle.tables.specs.declared.Section.the-variants as section
 use Rattle.tables.specs.declared.Row.{Row}
@@ -25,23 +25,23 @@ use Rattle.ordering.specs.declared.Table.{Table}
 use Rattle.ordering.specs.declared.Table.the-variants.{Visible, Sorts, Hidden, Equations}
 use Rattle.printing.specs.Terms.{equation-at}
 use Rattle.ordering.specs.Orders.{line-size, standing-word, kind-rank, by-name-then-type, by-kind-then-name, by-origin-then-type, row-place, by-position-then-line, Small, row-order}
-use Rattle.names.proofs.Compared.{not-after-told}
+use Rattle.names.proofs.Compared.{bytes-told}
 
 -- ---- by one thing, then by another
 
--- level by the comparison c: the second decides
-level : (x y : List ℕ) (c : ℕ) (r s : Bool) → c ≡ compared x y → c ≡ 1 → r ≡ s → r ≡ pick (same x y) s (not-after x y)
-unfolding compared pick
-level x y c r s e h f = f ∙ go (same x y) (not-after x y) (sym e ∙ h)
+-- level by the comparison c: the second decides. The texts are the same by p, and the first is not after the second by q
+level : (p q : Bool) (c : ℕ) (r s : Bool) → c ≡ pick p 1 (pick q 0 2) → c ≡ 1 → r ≡ s → r ≡ pick p s q
+unfolding pick
+level p q c r s e h f = f ∙ go p q (sym e ∙ h)
   where
     go : (p q : Bool) → _≡_ {A = ℕ} (pick p 1 (pick q 0 2)) 1 → s ≡ pick p s q
     go true q g = refl
     go false true g = absurd (omega arith)
     go false false g = absurd (omega arith)
 
-decided : (x y : List ℕ) (c : ℕ) (s : Bool) → c ≡ compared x y → (c ≡ 1 → ⊥) → eqb c 0 ≡ pick (same x y) s (not-after x y)
-unfolding compared pick
-decided x y c s e h = ap (λ (k : ℕ). eqb k 0) e ∙ go (same x y) (not-after x y) (λ g. h (e ∙ g))
+decided : (p q : Bool) (c : ℕ) (s : Bool) → c ≡ pick p 1 (pick q 0 2) → (c ≡ 1 → ⊥) → eqb c 0 ≡ pick p s q
+unfolding pick
+decided p q c s e h = ap (λ (k : ℕ). eqb k 0) e ∙ go p q (λ g. h (e ∙ g))
   where
     go : (p q : Bool) → (_≡_ {A = ℕ} (pick p 1 (pick q 0 2)) 1 → ⊥) → eqb (pick p 1 (pick q 0 2)) 0 ≡ pick p s q
     go true q g = absurd (g refl)
@@ -119,14 +119,14 @@ module _ (text tape : List ℕ) (a b : Row) where
 
   module _ (c : ℕ) (ec : c ≡ compared (name-of text (a .name)) (name-of text (b .name))) where
     pub names-level : (w : List ℕ) (r : Bool) → c ≡ 1
-        → r ≡ not-after (shape-text (items-at text tape w 0 0) (shape-of text tape (a .kind) (a .sorts)))
+        → r ≡ bytes-not-after (shape-text (items-at text tape w 0 0) (shape-of text tape (a .kind) (a .sorts)))
         (shape-text (items-at text tape w 0 0) (shape-of text tape (b .kind) (b .sorts)))
         → r ≡ by-name-then-type (item-of text tape a) (item-of text tape b)
-    unfolding by-name-then-type by-two item-of items-at
+    unfolding by-name-then-type by-two item-of items-at compared
     names-level w r h e = level _ _ c r _ ec h e
 
     pub names-decided : (c ≡ 1 → ⊥) → eqb c 0 ≡ by-name-then-type (item-of text tape a) (item-of text tape b)
-    unfolding by-name-then-type by-two item-of
+    unfolding by-name-then-type by-two item-of compared
     names-decided h = decided _ _ c _ ec h
 
   module _ (k l : ℕ) (ek : k ≡ kind-rank (a .kind)) (el : l ≡ kind-rank (b .kind)) where
@@ -166,29 +166,29 @@ module _ (text tape : List ℕ) (a b : Row) where
 
     pub standing-level : (r : Bool) → c ≡ 1 → r ≡ by-kind-then-name (item-of text tape a) (item-of text tape b)
         → r ≡ visible-order (item-of text tape a) (item-of text tape b)
-    unfolding visible-order by-kind-then-name by-name-then-type
+    unfolding visible-order by-kind-then-name by-name-then-type compared
     standing-level r h e = level _ _ c r _ told h e
 
     pub standing-decided : (c ≡ 1 → ⊥) → eqb c 0 ≡ visible-order (item-of text tape a) (item-of text tape b)
-    unfolding visible-order
+    unfolding visible-order compared
     standing-decided h = decided _ _ c _ told h
 
-  module _ (sorts : List Item) (c : ℕ) (ec : c ≡ compared (origin-text (origin-of text tape (a .origin))) (origin-text (origin-of text tape (b .origin)))) where
+  module _ (sorts : List Item) (c : ℕ) (ec : c ≡ bytes-compared (origin-text (origin-of text tape (a .origin))) (origin-text (origin-of text tape (b .origin)))) where
     pub origins-level : (r : Bool) → c ≡ 1
-        → r ≡ not-after (shape-text sorts (shape-of text tape (a .kind) (a .sorts))) (shape-text sorts (shape-of text tape (b .kind) (b .sorts)))
+        → r ≡ bytes-not-after (shape-text sorts (shape-of text tape (a .kind) (a .sorts))) (shape-text sorts (shape-of text tape (b .kind) (b .sorts)))
         → r ≡ by-origin-then-type sorts (item-of text tape a) (item-of text tape b)
-    unfolding by-origin-then-type by-two item-of
+    unfolding by-origin-then-type by-two item-of bytes-compared
     origins-level r h e = level _ _ c r _ ec h e
 
     pub origins-decided : (c ≡ 1 → ⊥) → eqb c 0 ≡ by-origin-then-type sorts (item-of text tape a) (item-of text tape b)
-    unfolding by-origin-then-type by-two item-of
+    unfolding by-origin-then-type by-two item-of bytes-compared
     origins-decided h = decided _ _ c _ ec h
 
 -- ---- equations
 
 module _ (text w : List ℕ) (v n : ℕ) (a b : EquationRow) where
   pub positions-level : (r : Bool) → a .position ≡ b .position
-      → r ≡ not-after (take line-size (equation-at text w v n a)) (take line-size (equation-at text w v n b))
+      → r ≡ bytes-not-after (take line-size (equation-at text w v n a)) (take line-size (equation-at text w v n b))
       → r ≡ by-position-then-line (row-place text w v n a) (row-place text w v n b)
   unfolding by-position-then-line row-place
   positions-level r h e = ranks-level (a .position) (b .position) _ r h e
@@ -214,10 +214,10 @@ module _ (text tape w : List ℕ) (base i j : ℕ) (a b : Row) (ea : a ≡ row-a
       → r ≡ visible-order (row-item text tape w base i) (row-item text tape w base j)
   visible-read r e = rw (ea, eb) at e
 
-  pub sorts-read : (c : ℕ) → c ≡ compared (origin-text (origin-of text tape (a .origin))) (origin-text (origin-of text tape (b .origin)))
-      → ltb c 2 ≡ not-after (origin-text (row-item text tape w base i .origin)) (origin-text (row-item text tape w base j .origin))
+  pub sorts-read : (c : ℕ) → c ≡ bytes-compared (origin-text (origin-of text tape (a .origin))) (origin-text (origin-of text tape (b .origin)))
+      → ltb c 2 ≡ bytes-not-after (origin-text (row-item text tape w base i .origin)) (origin-text (row-item text tape w base j .origin))
   unfolding item-of
-  sorts-read c e = rw (← ea, ← eb) (not-after-told _ _ c e)
+  sorts-read c e = rw (← ea, ← eb) (bytes-told _ _ c e)
 
   pub hidden-read : (sorts : List Item) (r : Bool) → r ≡ hidden-order sorts (item-of text tape a) (item-of text tape b)
       → r ≡ hidden-order sorts (row-item text tape w base i) (row-item text tape w base j)
@@ -239,7 +239,7 @@ module _ (table : Table) where
     unfolding row-order
     of-visible b e h = rw e h
 
-    pub of-sorts : (b : ℕ) → table ≡ Sorts b → r ≡ not-after (origin-text (row-item text tape w b i .origin)) (origin-text (row-item text tape w b j .origin))
+    pub of-sorts : (b : ℕ) → table ≡ Sorts b → r ≡ bytes-not-after (origin-text (row-item text tape w b i .origin)) (origin-text (row-item text tape w b j .origin))
         → r ≡ row-order text tape w table i j
     unfolding row-order
     of-sorts b e h = rw e h

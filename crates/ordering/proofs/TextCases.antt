@@ -1,4 +1,4 @@
--- What the code that compares texts asks: both are compared part by part.
+-- What the code that compares texts asks: both are bytes-compared part by part.
 use mathlib.Core.Path.{_≡_, refl, sym, ap, ap₂, _∙_}
 use mathlib.Core.Bool.{Bool, true, false, false≢true}
 use mathlib.Core.List.{List, [], _∷_}
@@ -11,12 +11,12 @@ use lib.Seq.{take-all, take-nil, take-take, drop-drop}
 use borrow.Author.Needs.{needs}
 use borrow.Author.Tests.{eq-eqb, ne-eqb, ltb-true, ltb-false}
 use Rattle.meaning.specs.Lists.{pick}
-use Rattle.meaning.specs.Names.{same, not-after}
+use Rattle.meaning.specs.Names.{same, bytes-not-after}
 use Rattle.meaning.specs.Origins.{Item}
 use Rattle.meaning.specs.Written.{origin-text, shape-text}
 use Rattle.meaning.specs.OrderLaws.{same-equal}
-use Rattle.names.specs.Word.{compared}
-use Rattle.names.proofs.Compared.{not-after-told}
+use Rattle.names.specs.Word.{bytes-compared}
+use Rattle.names.proofs.Compared.{bytes-told}
 use Rattle.tables.specs.declared.Row.{Row}
 use Rattle.tables.specs.Rows.{origin-of, shape-of}
 use Rattle.forms.specs.Forms.{items-at}
@@ -63,26 +63,26 @@ module _ (before n k : ℕ) (bs o o′ : List ℕ) (size : length o ≡ part-siz
 pub part-fits : (x : Part) (before : ℕ) (bs : List ℕ) → PartOf x before bs → x .size ≤ length (x .bytes)
 part-fits x before bs h = h .fits
 
-module _ (a b : Part) (c : ℕ) (ec : c ≡ compared (part (a .bytes) 0 (a .size)) (part (b .bytes) 0 (b .size))) where
+module _ (a b : Part) (c : ℕ) (ec : c ≡ bytes-compared (part (a .bytes) 0 (a .size)) (part (b .bytes) 0 (b .size))) where
   abbrev x : List ℕ
   x = take (a .size) (a .bytes)
 
   abbrev y : List ℕ
   y = take (b .size) (b .bytes)
 
-  told : c ≡ compared x y
+  told : c ≡ bytes-compared x y
   told =
       let z : a .size - 0 ≡ a .size = omega arith in
       let u : b .size - 0 ≡ b .size = omega arith in
-      ec ∙ ap₂ (λ (i j : ℕ). compared (take i (a .bytes)) (take j (b .bytes))) z u
+      ec ∙ ap₂ (λ (i j : ℕ). bytes-compared (take i (a .bytes)) (take j (b .bytes))) z u
 
   pub parts-level : a .size ≡ 32 → c ≡ 1 → 3 ≡ parts-compared (a .size) (take (a .size) (a .bytes)) (take (b .size) (b .bytes))
   unfolding parts-compared pick
-  parts-level h k = rw (eq-eqb (a .size) part-size h, eq-eqb (compared x y) 1 (sym told ∙ k))
+  parts-level h k = rw (eq-eqb (a .size) part-size h, eq-eqb (bytes-compared x y) 1 (sym told ∙ k))
 
   pub parts-differ : a .size ≡ 32 → (c ≡ 1 → ⊥) → c ≡ parts-compared (a .size) (take (a .size) (a .bytes)) (take (b .size) (b .bytes))
   unfolding parts-compared pick
-  parts-differ h k = rw (eq-eqb (a .size) part-size h, ne-eqb (compared x y) 1 (λ e. k (told ∙ e))) told
+  parts-differ h k = rw (eq-eqb (a .size) part-size h, ne-eqb (bytes-compared x y) 1 (λ e. k (told ∙ e))) told
 
   pub parts-last : (a .size ≡ 32 → ⊥) → c ≡ parts-compared (a .size) (take (a .size) (a .bytes)) (take (b .size) (b .bytes))
   unfolding parts-compared pick
@@ -91,8 +91,8 @@ module _ (a b : Part) (c : ℕ) (ec : c ≡ compared (part (a .bytes) 0 (a .size
 -- ---- lines by their fronts
 
 -- the same fronts: what follows them decides
-front-passed : (n : ℕ) (a b : List ℕ) → same (take n a) (take n b) ≡ true → compared a b ≡ compared (drop n a) (drop n b)
-unfolding compared same not-after pick
+front-passed : (n : ℕ) (a b : List ℕ) → same (take n a) (take n b) ≡ true → bytes-compared a b ≡ bytes-compared (drop n a) (drop n b)
+unfolding bytes-compared same bytes-not-after pick
 front-passed zero a b h = refl
 front-passed (suc n) [] [] h = refl
 front-passed (suc n) [] (y ∷ b) h = absurd (false≢true h)
@@ -100,14 +100,14 @@ front-passed (suc n) (x ∷ a) [] h = absurd (false≢true h)
 front-passed (suc n) (x ∷ a) (y ∷ b) h = go (eqb x y) h (front-passed n a b)
   where
     go : (t : Bool) → pick t (same (take n a) (take n b)) false ≡ true
-        → (same (take n a) (take n b) ≡ true → compared a b ≡ compared (drop n a) (drop n b))
-        → pick (pick t (same a b) false) 1 (pick (pick t (not-after a b) (leb x y)) 0 2) ≡ compared (drop n a) (drop n b)
+        → (same (take n a) (take n b) ≡ true → bytes-compared a b ≡ bytes-compared (drop n a) (drop n b))
+        → pick (pick t (same a b) false) 1 (pick (pick t (bytes-not-after a b) (leb x y)) 0 2) ≡ bytes-compared (drop n a) (drop n b)
     go true e f = f e
     go false e f = absurd (false≢true e)
 
 -- other fronts decide
-front-decides : (n : ℕ) (a b : List ℕ) → same (take n a) (take n b) ≡ false → compared a b ≡ compared (take n a) (take n b)
-unfolding compared same not-after pick
+front-decides : (n : ℕ) (a b : List ℕ) → same (take n a) (take n b) ≡ false → bytes-compared a b ≡ bytes-compared (take n a) (take n b)
+unfolding bytes-compared same bytes-not-after pick
 front-decides zero a b h = absurd (false≢true (sym h))
 front-decides (suc n) [] [] h = refl
 front-decides (suc n) [] (y ∷ b) h = refl
@@ -115,9 +115,9 @@ front-decides (suc n) (x ∷ a) [] h = refl
 front-decides (suc n) (x ∷ a) (y ∷ b) h = go (eqb x y) h (front-decides n a b)
   where
     go : (t : Bool) → pick t (same (take n a) (take n b)) false ≡ false
-        → (same (take n a) (take n b) ≡ false → compared a b ≡ compared (take n a) (take n b))
-        → _≡_ {A = ℕ} (pick (pick t (same a b) false) 1 (pick (pick t (not-after a b) (leb x y)) 0 2))
-        (pick (pick t (same (take n a) (take n b)) false) 1 (pick (pick t (not-after (take n a) (take n b)) (leb x y)) 0 2))
+        → (same (take n a) (take n b) ≡ false → bytes-compared a b ≡ bytes-compared (take n a) (take n b))
+        → _≡_ {A = ℕ} (pick (pick t (same a b) false) 1 (pick (pick t (bytes-not-after a b) (leb x y)) 0 2))
+        (pick (pick t (same (take n a) (take n b)) false) 1 (pick (pick t (bytes-not-after (take n a) (take n b)) (leb x y)) 0 2))
     go true e f = f e
     go false e f = refl
 
@@ -127,8 +127,8 @@ drop-take (suc n) m [] = ap (drop (suc n)) (take-nil (suc n + m)) ∙ sym (take-
 drop-take (suc n) m (x ∷ a) = ap (λ (k : ℕ). drop (suc n) (take k (x ∷ a))) (suc-add n m) ∙ drop-take n m a
 
 -- where the fronts are the same and shorter than asked, all is the same
-short-same : (n : ℕ) (a b : List ℕ) → same (take n a) (take n b) ≡ true → length (take n a) < n → compared a b ≡ 1
-unfolding compared same pick
+short-same : (n : ℕ) (a b : List ℕ) → same (take n a) (take n b) ≡ true → length (take n a) < n → bytes-compared a b ≡ 1
+unfolding bytes-compared same pick
 short-same n a b h k =
     let equal : length (take n a) ≡ length (take n b) = ap length (same-equal (take n a) (take n b) h) in
     front-passed n a b h
@@ -142,9 +142,9 @@ module _ (n : ℕ) (x y : List ℕ) where
   abbrev shown : Bool → ℕ → ℕ
   shown full c = pick full (pick (eqb c 1) 3 c) c
 
-  parts-told : Told (parts-compared n x y) (compared x y) (same x y)
-  unfolding parts-compared compared pick
-  parts-told = go (eqb n part-size) (same x y) (not-after x y) refl
+  parts-told : Told (parts-compared n x y) (bytes-compared x y) (same x y)
+  unfolding parts-compared bytes-compared pick
+  parts-told = go (eqb n part-size) (same x y) (bytes-not-after x y) refl
     where
       go : (full s t : Bool) → eqb n part-size ≡ full → Told (shown full (pick s 1 (pick t 0 2))) (pick s 1 (pick t 0 2)) s
       go true true t e = ((λ h. refl), (λ h g k. absurd (omega (arith, h))), (λ h. absurd (omega (arith, h))))
@@ -167,15 +167,15 @@ abbrev pub left-of : ℕ → List ℕ → List ℕ
 left-of i a = take (line-size - i * 32) (drop (i * 32) a)
 
 pub record Level (a b : List ℕ) (i : ℕ) : Type 0 where
-  pub level : compared (take line-size a) (take line-size b) ≡ compared (left-of i a) (left-of i b)
+  pub level : bytes-compared (take line-size a) (take line-size b) ≡ bytes-compared (left-of i a) (left-of i b)
 
 module _ (a b : List ℕ) where
   pub level-start : Level a b 0
   level-start = record { level = refl }
 
   module _ (i : ℕ) (v : Level a b i) where
-    pub level-end : 128 ≤ i → 1 ≡ compared (take line-size a) (take line-size b)
-    unfolding compared same pick
+    pub level-end : 128 ≤ i → 1 ≡ bytes-compared (take line-size a) (take line-size b)
+    unfolding bytes-compared same pick
     level-end h = let none : line-size - i * 32 ≡ 0 = omega arith in sym (v .level ∙ rw none)
 
     module _ (c : ℕ) (p q : Part) (h : i < 128) (ep : PartOf p (i * 32) a) (eq : PartOf q (i * 32) b)
@@ -196,7 +196,7 @@ module _ (a b : List ℕ) where
       abbrev there : List ℕ
       there = take part-size (left-of i b)
 
-      tells : Told (p .size) here there c (compared here there) (same here there)
+      tells : Told (p .size) here there c (bytes-compared here there) (same here there)
       tells =
           let first = ep .shows ∙ sym (part-of-left a) in
           let second = eq .shows ∙ sym (part-of-left b) in
@@ -204,14 +204,14 @@ module _ (a b : List ℕ) where
 
       pub level-on : 3 ≤ c → Level a b (i + 1)
       level-on k = record {
-        level = v .level ∙ front-passed 32 (left-of i a) (left-of i b) (tells .0 k) ∙ ap₂ compared (after-part a) (after-part b);
+        level = v .level ∙ front-passed 32 (left-of i a) (left-of i b) (tells .0 k) ∙ ap₂ bytes-compared (after-part a) (after-part b);
       }
 
-      pub level-decided : c < 3 → c ≡ compared (take line-size a) (take line-size b)
-      unfolding compared pick
+      pub level-decided : c < 3 → c ≡ bytes-compared (take line-size a) (take line-size b)
+      unfolding bytes-compared pick
       level-decided k = go (same here there) refl
         where
-          go : (s : Bool) → same here there ≡ s → c ≡ compared (take line-size a) (take line-size b)
+          go : (s : Bool) → same here there ≡ s → c ≡ bytes-compared (take line-size a) (take line-size b)
           go true g =
               let size : p .size ≡ length here = ep .sized ∙ ap length (sym (part-of-left a)) in
               let full : p .size ≡ 32 → ⊥ = tells .1 k g in
@@ -219,27 +219,27 @@ module _ (a b : List ℕ) where
               tells .2 k ∙ rw g (sym (v .level ∙ short-same 32 (left-of i a) (left-of i b) g short))
           go false g = tells .2 k ∙ sym (v .level ∙ front-decides 32 (left-of i a) (left-of i b) g)
 
--- ---- what is compared
+-- ---- what is bytes-compared
 
 module _ (text tape w : List ℕ) (c : ℕ) where
-  whole-compared : (a b : List ℕ) → length a ≤ line-size → length b ≤ line-size → c ≡ compared (take line-size a) (take line-size b) → c ≡ compared a b
-  whole-compared a b h k e = e ∙ ap₂ compared (take-all line-size a h) (take-all line-size b k)
+  whole-compared : (a b : List ℕ) → length a ≤ line-size → length b ≤ line-size → c ≡ bytes-compared (take line-size a) (take line-size b) → c ≡ bytes-compared a b
+  whole-compared a b h k e = e ∙ ap₂ bytes-compared (take-all line-size a h) (take-all line-size b k)
 
-  pub origins-compared : (r s : Row) → c ≡ compared (take line-size (facet-text text tape w Origin r)) (take line-size (facet-text text tape w Origin s))
-      → c ≡ compared (origin-text (origin-of text tape (r .origin))) (origin-text (origin-of text tape (s .origin)))
+  pub origins-compared : (r s : Row) → c ≡ bytes-compared (take line-size (facet-text text tape w Origin r)) (take line-size (facet-text text tape w Origin s))
+      → c ≡ bytes-compared (origin-text (origin-of text tape (r .origin))) (origin-text (origin-of text tape (s .origin)))
   unfolding facet-text
   origins-compared r s e = whole-compared _ _ (origin-size text tape (r .origin)) (origin-size text tape (s .origin)) e
 
   pub types-told : (r s : Row) (b n : ℕ)
-      → c ≡ compared (take line-size (facet-text text tape w (Shape b n) r)) (take line-size (facet-text text tape w (Shape b n) s))
+      → c ≡ bytes-compared (take line-size (facet-text text tape w (Shape b n) r)) (take line-size (facet-text text tape w (Shape b n) s))
       → length (r .sorts) ≡ 9 → length (s .sorts) ≡ 9
-      → ltb c 2 ≡ not-after (shape-text (items-at text tape w b n) (shape-of text tape (r .kind) (r .sorts)))
+      → ltb c 2 ≡ bytes-not-after (shape-text (items-at text tape w b n) (shape-of text tape (r .kind) (r .sorts)))
       (shape-text (items-at text tape w b n) (shape-of text tape (s .kind) (s .sorts)))
   unfolding facet-text
   types-told r s b n e h k =
       let first = shape-size text tape (items-at text tape w b n) (r .kind) (r .sorts) h in
       let second = shape-size text tape (items-at text tape w b n) (s .kind) (s .sorts) k in
-      not-after-told _ _ c (whole-compared _ _ first second e)
+      bytes-told _ _ c (whole-compared _ _ first second e)
 
 pub ruleset cases = (
   origin-put,
@@ -256,6 +256,6 @@ pub ruleset cases = (
   level-decided,
   origins-compared,
   types-told,
-  not-after-told,
+  bytes-told,
   needs,
 )

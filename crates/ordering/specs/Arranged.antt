@@ -10,7 +10,7 @@ use lib.Dec.{eqb}
 use lib.ListN.{length, getD, drop, length-map}
 use lib.Seq.{getD-take, getD-drop}
 use Rattle.meaning.specs.Lists.{pick, keep, sorted}
-use Rattle.meaning.specs.Names.{not-after, by-name}
+use Rattle.meaning.specs.Names.{bytes-not-after, by-bytes}
 use Rattle.meaning.specs.Origins.{is-sort, sort-shape, function-shape, variable-shape, Sort, FunctionType, Item}
 use Rattle.meaning.specs.Normal.{sorts-among}
 use Rattle.meaning.specs.Written.{origin-text, visible-order, hidden-order}
@@ -219,13 +219,13 @@ module _ (text : List ℕ) (t from n order to m : ℕ) (w w′ : List ℕ) (sour
       go false false s f = refl
 
   pub sorts-arranged : Arranged text t (Sorts from) from n order to 16 m w w′
-      → items-at text (part w 0 t) w′ to m ≡ by-name (λ (i : Item). origin-text (i .origin)) (sorts-among (items-at text (part w 0 t) w from n))
+      → items-at text (part w 0 t) w′ to m ≡ by-bytes (λ (i : Item). origin-text (i .origin)) (sorts-among (items-at text (part w 0 t) w from n))
   unfolding row-order row-numbers is-listed sorts-among
   sorts-arranged a =
       let tape = part w 0 t in
       let low = part w 0 order in
       let item = row-item text tape low from in
-      let le : Item → Item → Bool = λ x y. not-after (origin-text (x .origin)) (origin-text (y .origin)) in
+      let le : Item → Item → Bool = λ x y. bytes-not-after (origin-text (x .origin)) (origin-text (y .origin)) in
       let chosen : ℕ → Bool = λ i. eqb (getD low (from + i * 16 + 2) 0) 0 in
       numbered text t (Sorts from) from n order to m w w′ source a
       ∙ sorted-map item (λ i j. le (item i) (item j)) le (λ i j. refl) [] (keep chosen (upto n))

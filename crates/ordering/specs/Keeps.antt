@@ -9,7 +9,7 @@ use native.Mathlib.Nat.{add-zero}
 use lib.ListN.{length, getD, take, drop, length-take, length-drop}
 use lib.Seq.{take-all}
 use Rattle.meaning.specs.Lists.{place-in, sorted-onto, sorted, sum}
-use Rattle.meaning.specs.Names.{Name, by-name}
+use Rattle.meaning.specs.Names.{Name, by-name, by-bytes}
 use Rattle.meaning.specs.Numbers.{node-limit}
 use Rattle.meaning.specs.Origins.{export-section, declared-sort, Origin, visible-sort, var, ResolvedSides, ResolvedEquation, Item}
 use Rattle.meaning.specs.Normal.{Visible, Normal, sorts-among}
@@ -202,7 +202,7 @@ module _ (text : List ℕ) (t : ℕ) (f k : Form) (p order : ℕ) (w u w′ : Li
     unfolding hidden-in-order
     distinct-ordered =
         pairwise-rearranged (λ (a b : Item). a .origin ≡ b .origin → a .shape ≡ b .shape → ⊥) (λ a b h e d. h (sym e) (sym d))
-        (sorted-rearranged (hidden-order (by-name (λ (i : Item). origin-text (i .origin)) (sorts-among (n .hidden .items)))) (n .hidden .items)) distinct
+        (sorted-rearranged (hidden-order (by-bytes (λ (i : Item). origin-text (i .origin)) (sorts-among (n .hidden .items)))) (n .hidden .items)) distinct
 
     -- a memory that has the copied nodes, the items and the notes
     module _ (z : List ℕ) (long : p ≤ length z)

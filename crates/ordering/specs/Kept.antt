@@ -7,7 +7,7 @@ use Prim.Native.Nat.{ℕ, zero, suc, _+_, _*_, _≤_, _<_}
 use native.Mathlib.Omega.{arith}
 use native.Mathlib.Nat.{add-zero}
 use lib.ListN.{length, getD}
-use Rattle.meaning.specs.Names.{Name, by-name}
+use Rattle.meaning.specs.Names.{Name, by-name, by-bytes}
 use Rattle.meaning.specs.Lists.{sorted}
 use Rattle.meaning.specs.Origins.{Item}
 use Rattle.meaning.specs.Normal.{sorts-among}
@@ -93,7 +93,7 @@ pub record ItemsPut (text : List ℕ) (t : ℕ) (le : Item → Item → Bool) (f
 
 -- the hidden sorts of hidden items in order
 unfoldable pub sorts-in-order : List Item → List Item
-sorts-in-order is = by-name (λ (i : Item). origin-text (i .origin)) (sorts-among is)
+sorts-in-order is = by-bytes (λ (i : Item). origin-text (i .origin)) (sorts-among is)
 
 -- the notes of an arranged table
 module _ (text : List ℕ) (t : ℕ) (table : Table) (from n order to notes m : ℕ) (w w′ : List ℕ) (source : from + n * 16 ≤ order)
@@ -144,7 +144,7 @@ sorts-then-items text t from n order to notes c m w u w′ room ht sorts put =
     tape-same w u t (sorts .kept .size) (λ i h l. sorts .kept .kept i (inl (omega arith)) (inl (omega (arith, room .sorting .tape)))) in
     let stays = kept-two-same to (to + n * 16) order (order + n) from (from + n * 16) w u (room .sorting .apart) (inl source) (sorts .kept) in
     let items : items-at text (part w 0 t) u from n ≡ items-at text (part w 0 t) w from n = items-same w u text (part w 0 t) from n stays in
-    let ordered : items-at text (part w 0 t) (part u 0 order) to c ≡ by-name (λ (i : Item). origin-text (i .origin))
+    let ordered : items-at text (part w 0 t) (part u 0 order) to c ≡ by-bytes (λ (i : Item). origin-text (i .origin))
     (sorts-among (items-at text (part w 0 t) w from n)) =
     low-items text (part w 0 t) u order to c (omega arith) ∙ sorts-arranged text t from n order to c w u source (sorts .arranged) in
     let hidden = hidden-put text t from n order to notes m u w′ source to c put in

@@ -6,12 +6,12 @@ use mathlib.Core.List.{List, []}
 use lib.Dec.{eqb, leb}
 use lib.ListN.{length, getD, take, drop}
 use Rattle.meaning.specs.Lists.{pick}
-use Rattle.meaning.specs.Names.{not-after, by-two}
+use Rattle.meaning.specs.Names.{bytes-not-after, not-after, by-two}
 use Rattle.meaning.specs.Origins.{Item}
 use Rattle.meaning.specs.Written.{origin-text, shape-text, shape-rank, visible-order, hidden-order}
-use Rattle.meaning.specs.OrderLaws.{IsOrder, order-of, names-ordered}
+use Rattle.meaning.specs.OrderLaws.{IsOrder, order-of, bytes-ordered}
 use Rattle.meaning.specs.ListingOrder.{visible-ordered, hidden-ordered, Place, place-order, place-ordered}
-use Rattle.names.specs.Word.{compared}
+use Rattle.names.specs.Word.{bytes-compared}
 use Rattle.tables.specs.declared.Row.{Row}
 use Rattle.tables.specs.Rows.{origin-of, shape-of}
 use Rattle.tables.specs.declared.Section.{Section}
@@ -52,7 +52,7 @@ pub record PartOf (r : Part) (before : ℕ) (bs : List ℕ) : Type 0 where
 
 -- two parts of lines, the first of n bytes: 3 where what follows them decides, for both are full and the same
 unfoldable pub parts-compared : ℕ → List ℕ → List ℕ → ℕ
-parts-compared n x y = pick (eqb n part-size) (pick (eqb (compared x y) 1) 3 (compared x y)) (compared x y)
+parts-compared n x y = pick (eqb n part-size) (pick (eqb (bytes-compared x y) 1) 3 (bytes-compared x y)) (bytes-compared x y)
 
 -- ---- items
 
@@ -67,14 +67,14 @@ unfoldable pub kind-rank : ℕ → ℕ
 kind-rank k = pick (eqb k 0) 0 (pick (eqb k 1) 2 1)
 
 unfoldable pub by-name-then-type : Item → Item → Bool
-by-name-then-type a b = by-two (λ (i : Item). i .name) (λ (i : Item). shape-text [] (i .shape)) a b
+by-name-then-type a b = by-two not-after (λ (i : Item). i .name) (λ (i : Item). shape-text [] (i .shape)) a b
 
 unfoldable pub by-kind-then-name : Item → Item → Bool
 by-kind-then-name a b =
     pick (eqb (shape-rank (a .shape)) (shape-rank (b .shape))) (by-name-then-type a b) (leb (shape-rank (a .shape)) (shape-rank (b .shape)))
 
 unfoldable pub by-origin-then-type : List Item → Item → Item → Bool
-by-origin-then-type sorts a b = by-two (λ (i : Item). origin-text (i .origin)) (λ (i : Item). shape-text sorts (i .shape)) a b
+by-origin-then-type sorts a b = by-two bytes-not-after (λ (i : Item). origin-text (i .origin)) (λ (i : Item). shape-text sorts (i .shape)) a b
 
 -- ---- equations
 
@@ -86,7 +86,7 @@ row-place text w visible nodes r = record {
 }
 
 unfoldable pub by-position-then-line : Place → Place → Bool
-by-position-then-line a b = pick (eqb (a .position) (b .position)) (not-after (a .text) (b .text)) (leb (a .position) (b .position))
+by-position-then-line a b = pick (eqb (a .position) (b .position)) (bytes-not-after (a .text) (b .text)) (leb (a .position) (b .position))
 
 -- ---- rows of a table
 
@@ -99,7 +99,7 @@ Small (Equations v b a) = Unit {0}
 
 unfoldable pub row-order : List ℕ → List ℕ → List ℕ → Table → ℕ → ℕ → Bool
 row-order text tape w (Visible b) i j = visible-order (row-item text tape w b i) (row-item text tape w b j)
-row-order text tape w (Sorts b) i j = not-after (origin-text (row-item text tape w b i .origin)) (origin-text (row-item text tape w b j .origin))
+row-order text tape w (Sorts b) i j = bytes-not-after (origin-text (row-item text tape w b i .origin)) (origin-text (row-item text tape w b j .origin))
 row-order text tape w (Hidden b s n) i j = hidden-order (items-at text tape w s n) (row-item text tape w b i) (row-item text tape w b j)
 row-order text tape w (Equations v b a) i j =
     place-order (row-place text w v a (equation-row-at w (b + i * 8))) (row-place text w v a (equation-row-at w (b + j * 8)))
@@ -114,6 +114,6 @@ is-listed w (Equations v b a) i = true
 pub rows-ordered : (text tape w : List ℕ) (table : Table) → IsOrder (row-order text tape w table)
 unfolding row-order
 rows-ordered text tape w (Visible b) = order-of visible-ordered (row-item text tape w b)
-rows-ordered text tape w (Sorts b) = order-of names-ordered (λ (i : ℕ). origin-text (row-item text tape w b i .origin))
+rows-ordered text tape w (Sorts b) = order-of bytes-ordered (λ (i : ℕ). origin-text (row-item text tape w b i .origin))
 rows-ordered text tape w (Hidden b s n) = order-of (hidden-ordered (items-at text tape w s n)) (row-item text tape w b)
 rows-ordered text tape w (Equations v b a) = order-of place-ordered (λ (i : ℕ). row-place text w v a (equation-row-at w (b + i * 8)))

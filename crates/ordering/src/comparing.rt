@@ -11,7 +11,7 @@ use tables::Section;
 use tables::rows::read_row;
 ghost use mathlib.Core.Path.{_≡_};
 ghost use Prim.Native.Nat.{_+_, _*_, _^_, _<_};
-ghost use Rattle.meaning.specs.Names.{not-after};
+ghost use Rattle.meaning.specs.Names.{bytes-not-after};
 ghost use Rattle.meaning.specs.Written.{origin-text, visible-order, hidden-order};
 ghost use Rattle.meaning.specs.ListingOrder.{place-order};
 ghost use Rattle.names.specs.Joint.{joint};
@@ -201,7 +201,7 @@ fn sort_rows(
     i: u32,
     j: u32,
 ) -> bool
-    ensures { λ r. ⌜ r ≡ not-after (origin-text (row-item (joint (now (library .entry)) (now (text .entry))) (now (tape .entry)) (now (work .entry)) base i .origin)) (origin-text (row-item (joint (now (library .entry)) (now (text .entry))) (now (tape .entry)) (now (work .entry)) base j .origin)) ⌝ }
+    ensures { λ r. ⌜ r ≡ bytes-not-after (origin-text (row-item (joint (now (library .entry)) (now (text .entry))) (now (tape .entry)) (now (work .entry)) base i .origin)) (origin-text (row-item (joint (now (library .entry)) (now (text .entry))) (now (tape .entry)) (now (work .entry)) base j .origin)) ⌝ }
 {
     let a = read_row(work, base, i);
     let b = read_row(work, base, j);

@@ -11,9 +11,9 @@ use writing::put_origin;
 ghost use mathlib.Core.Path.{_≡_};
 ghost use Prim.Native.Nat.{_-_, _^_, _<_, _≤_, min};
 ghost use lib.ListN.{length, take};
-ghost use Rattle.meaning.specs.Names.{not-after};
+ghost use Rattle.meaning.specs.Names.{bytes-not-after};
 ghost use Rattle.meaning.specs.Written.{origin-text, shape-text};
-ghost use Rattle.names.specs.Word.{compared};
+ghost use Rattle.names.specs.Word.{bytes-compared};
 ghost use Rattle.names.specs.Joint.{joint};
 ghost use Rattle.pen.specs.Pen.{pen, written};
 ghost use Rattle.tables.specs.Rows.{origin-of, shape-of};
@@ -133,7 +133,7 @@ fn compare_items(
     b: Row,
 ) -> u8
     requires { ⌜ Countable by ⌝ }
-    ensures { λ r. ⌜ r ≡ compared (take line-size (facet-text (joint (now (library .entry)) (now (text .entry))) (now (tape .entry)) (now (work .entry)) by a)) (take line-size (facet-text (joint (now (library .entry)) (now (text .entry))) (now (tape .entry)) (now (work .entry)) by b)) ⌝ }
+    ensures { λ r. ⌜ r ≡ bytes-compared (take line-size (facet-text (joint (now (library .entry)) (now (text .entry))) (now (tape .entry)) (now (work .entry)) by a)) (take line-size (facet-text (joint (now (library .entry)) (now (text .entry))) (now (tape .entry)) (now (work .entry)) by b)) ⌝ }
 {
     let mut i: usize = 0;
     while i < 128 {
@@ -158,7 +158,7 @@ fn compare_equations(
     a: EquationRow,
     b: EquationRow,
 ) -> u8
-    ensures { λ r. ⌜ r ≡ compared (take line-size (equation-at (joint (now (library .entry)) (now (text .entry))) (now (work .entry)) visible nodes a)) (take line-size (equation-at (joint (now (library .entry)) (now (text .entry))) (now (work .entry)) visible nodes b)) ⌝ }
+    ensures { λ r. ⌜ r ≡ bytes-compared (take line-size (equation-at (joint (now (library .entry)) (now (text .entry))) (now (work .entry)) visible nodes a)) (take line-size (equation-at (joint (now (library .entry)) (now (text .entry))) (now (work .entry)) visible nodes b)) ⌝ }
 {
     let mut i: usize = 0;
     while i < 128 {
@@ -182,7 +182,7 @@ pub fn compare_origins(
     a: Row,
     b: Row,
 ) -> u8
-    ensures { λ r. ⌜ r ≡ compared (origin-text (origin-of (joint (now (library .entry)) (now (text .entry))) (now (tape .entry)) (a .origin))) (origin-text (origin-of (joint (now (library .entry)) (now (text .entry))) (now (tape .entry)) (b .origin))) ⌝ }
+    ensures { λ r. ⌜ r ≡ bytes-compared (origin-text (origin-of (joint (now (library .entry)) (now (text .entry))) (now (tape .entry)) (a .origin))) (origin-text (origin-of (joint (now (library .entry)) (now (text .entry))) (now (tape .entry)) (b .origin))) ⌝ }
 {
     compare_items(library, text, tape, work, Facet::Origin, a, b)
 }
@@ -199,7 +199,7 @@ pub fn type_not_after(
     b: Row,
 ) -> bool
     requires { ⌜ count < 2 ^ 31 ⌝ }
-    ensures { λ r. ⌜ r ≡ not-after (shape-text (items-at (joint (now (library .entry)) (now (text .entry))) (now (tape .entry)) (now (work .entry)) base count) (shape-of (joint (now (library .entry)) (now (text .entry))) (now (tape .entry)) (a .kind) (a .sorts))) (shape-text (items-at (joint (now (library .entry)) (now (text .entry))) (now (tape .entry)) (now (work .entry)) base count) (shape-of (joint (now (library .entry)) (now (text .entry))) (now (tape .entry)) (b .kind) (b .sorts))) ⌝ }
+    ensures { λ r. ⌜ r ≡ bytes-not-after (shape-text (items-at (joint (now (library .entry)) (now (text .entry))) (now (tape .entry)) (now (work .entry)) base count) (shape-of (joint (now (library .entry)) (now (text .entry))) (now (tape .entry)) (a .kind) (a .sorts))) (shape-text (items-at (joint (now (library .entry)) (now (text .entry))) (now (tape .entry)) (now (work .entry)) base count) (shape-of (joint (now (library .entry)) (now (text .entry))) (now (tape .entry)) (b .kind) (b .sorts))) ⌝ }
 {
     let by = Facet::Shape { base, count };
     compare_items(library, text, tape, work, by, a, b) < 2
@@ -215,7 +215,7 @@ pub fn line_not_after(
     a: EquationRow,
     b: EquationRow,
 ) -> bool
-    ensures { λ r. ⌜ r ≡ not-after (take line-size (equation-at (joint (now (library .entry)) (now (text .entry))) (now (work .entry)) visible nodes a)) (take line-size (equation-at (joint (now (library .entry)) (now (text .entry))) (now (work .entry)) visible nodes b)) ⌝ }
+    ensures { λ r. ⌜ r ≡ bytes-not-after (take line-size (equation-at (joint (now (library .entry)) (now (text .entry))) (now (work .entry)) visible nodes a)) (take line-size (equation-at (joint (now (library .entry)) (now (text .entry))) (now (work .entry)) visible nodes b)) ⌝ }
 {
     compare_equations(library, text, work, visible, nodes, a, b) < 2
 }
