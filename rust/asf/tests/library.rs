@@ -252,7 +252,7 @@ fn the_vectors() {
     let vectors = Path::new(env!("CARGO_MANIFEST_DIR")).join("../reference/vectors");
     let mut memory = Memory::new();
     let mut count = 0;
-    for folder in ["appendix", "readings", "one", "nine"] {
+    for folder in ["appendix", "readings", "one", "nine", "twelve"] {
         for input in inputs(&vectors.join(folder)) {
             let expected = fs::read(input.with_extension("out")).expect("an output");
             let text = fs::read(&input).expect("an input");
@@ -262,7 +262,7 @@ fn the_vectors() {
             }
         }
     }
-    assert!(count > 200, "{} vectors", count);
+    assert!(count > 230, "{} vectors", count);
 }
 
 /// The help sheet's heading for each number: `### 7: there is no module of this name`.

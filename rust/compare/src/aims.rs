@@ -75,6 +75,19 @@ fn insert<T>(list: &mut Vec<T>, element: T, random: &mut Random) {
     list.insert(place, element);
 }
 
+/// One to four of the elements, none twice: the least of them is then told.
+fn several<T: Clone + PartialEq>(elements: &[T], random: &mut Random) -> Vec<T> {
+    let mut chosen = Vec::new();
+    for _ in 0..random.between(1, 4) {
+        if let Some(element) = random.pick(elements) {
+            if !chosen.contains(element) {
+                chosen.push(element.clone());
+            }
+        }
+    }
+    chosen
+}
+
 fn pair(old: &Name, new: &Name) -> Pair {
     Pair {
         old: old.clone(),
@@ -170,16 +183,19 @@ fn shown(specification: &Specification, index: usize) -> View {
     view(specification, &specification.modules[index].name).unwrap_or_default()
 }
 
-/// A visible name declared again elsewhere, two modules with one name, or two names made one.
+/// Visible names declared again elsewhere, two modules with the same names, or two names made one.
 fn clash(specification: &mut Specification, index: usize, random: &mut Random) {
     let shown = shown(specification, index);
     let module = &mut specification.modules[index];
-    match random.below(5) {
-        4 => hidden_parameter(module, random),
-        0 => {
-            let sort = random.pick(&shown.sorts).cloned();
-            let sort = sort.unwrap_or_else(|| name("A"));
-            insert(&mut signature(module, random).sorts, sort, random);
+    match random.below(8) {
+        0..=1 => {
+            let mut sorts = several(&shown.sorts, random);
+            if sorts.is_empty() {
+                sorts.push(name("A"));
+            }
+            for sort in sorts {
+                insert(&mut signature(module, random).sorts, sort, random);
+            }
             if random.chance(30) {
                 let twins = ["A'", "z"].map(|called| function(called, &["Own"], "Own"));
                 module.exports.sorts.push(name("Own"));
@@ -187,12 +203,13 @@ fn clash(specification: &mut Specification, index: usize, random: &mut Random) {
                 module.hidden.functions.extend(twins);
             }
         }
-        1 => {
-            if let Some(twin) = random.pick(&shown.functions).cloned() {
+        2..=3 => {
+            for twin in several(&shown.functions, random) {
                 insert(&mut signature(module, random).functions, twin, random);
             }
         }
-        2 => two_exporters(specification, index, random),
+        4..=5 => two_exporters(specification, index, random),
+        6 => hidden_parameter(module, random),
         _ => made_one(specification, index, random),
     }
 }
@@ -217,6 +234,10 @@ fn hidden_parameter(module: &mut Module, random: &mut Random) {
 
 /// Two new modules before the one at the index, which imports both.
 fn two_exporters(specification: &mut Specification, index: usize, random: &mut Random) {
+    let mut same = vec![name("Same")];
+    if random.chance(70) {
+        same.extend(several(&["Alike", "Equal"].map(name), random));
+    }
     let mut exporters = Vec::new();
     for called in ["One'", "Other'"] {
         let mut module = Module {
@@ -224,7 +245,9 @@ fn two_exporters(specification: &mut Specification, index: usize, random: &mut R
             ..Module::default()
         };
         module.exports.sorts.push(names::sort(random));
-        module.exports.sorts.push(name("Same"));
+        for sort in &same {
+            insert(&mut module.exports.sorts, sort.clone(), random);
+        }
         module
             .exports
             .functions
@@ -266,14 +289,16 @@ fn made_one(specification: &mut Specification, index: usize, random: &mut Random
     );
 }
 
-/// A function that differs from another in its output alone, or stands twice in a parameter.
+/// Functions that differ from others in their output alone, or stand twice in a parameter.
 fn overloading(specification: &mut Specification, index: usize, random: &mut Random) {
     let seen = shown(specification, index);
     let module = &mut specification.modules[index];
     if random.chance(25) {
         let mut twins = Signature::default();
-        twins.functions.push(function("p", &["T1"], "T1"));
-        twins.functions.push(function("p", &["T1", "T1"], "T1"));
+        for called in several(&["p", "q", "r"], random) {
+            twins.functions.push(function(called, &["T1"], "T1"));
+            twins.functions.push(function(called, &["T1", "T1"], "T1"));
+        }
         twins.sorts.push(name("T1"));
         module.parameters.push(Parameter {
             name: name("Twins"),
@@ -287,13 +312,11 @@ fn overloading(specification: &mut Specification, index: usize, random: &mut Ran
     let new_sort = name("Else");
     let mut functions = seen.functions.clone();
     functions.extend(module.hidden.functions.iter().cloned());
-    if let Some(twin) = random.pick(&functions) {
-        let mut twin = twin.clone();
+    for mut twin in several(&functions, random) {
         twin.output = new_sort.clone();
-        let signature = signature(module, random);
-        insert(&mut signature.functions, twin, random);
-        insert(&mut module.exports.sorts, new_sort, random);
+        insert(&mut signature(module, random).functions, twin, random);
     }
+    insert(&mut module.exports.sorts, new_sort, random);
 }
 
 fn variable(specification: &mut Specification, index: usize, random: &mut Random) {
@@ -399,7 +422,7 @@ fn parameter(specification: &mut Specification, index: usize, random: &mut Rando
     let module = &mut specification.modules[index];
     let bound = Clause::Binding(generic.binding.clone());
     let imported = name("Generic'");
-    match random.below(5) {
+    match random.below(7) {
         0 => {
             generic.binding.parameter = names::parameter(random);
             let clause = Clause::Binding(generic.binding);
@@ -409,16 +432,18 @@ fn parameter(specification: &mut Specification, index: usize, random: &mut Rando
             let clauses = vec![bound.clone(), bound];
             module.imports.push(import(&imported, clauses));
         }
-        2 => {
+        2..=4 => {
             insert(&mut module.imports, import(&imported, Vec::new()), random);
             insert(&mut module.imports, import(&imported, Vec::new()), random);
         }
-        3 => {
+        5 => {
             insert(&mut module.imports, import(&imported, Vec::new()), random);
-            module.parameters.push(Parameter {
-                name: name("P"),
-                signature: Signature::default(),
-            });
+            for called in several(&["P", "Q", "R"], random) {
+                module.parameters.push(Parameter {
+                    name: name(called),
+                    signature: Signature::default(),
+                });
+            }
         }
         _ => {
             module.imports.push(import(&imported, vec![bound]));
@@ -431,12 +456,12 @@ fn parameter(specification: &mut Specification, index: usize, random: &mut Rando
 fn binding(specification: &mut Specification, index: usize, random: &mut Random) {
     let mut generic = Generic::new(random);
     let index = generic.place(specification, index);
-    for _ in 0..random.below(3) {
-        spoil(&mut generic.binding.pairs, random);
-    }
-    if random.chance(15) {
-        let kept = random.between(1, generic.binding.pairs.len());
-        generic.binding.pairs.truncate(kept);
+    if random.chance(45) {
+        leave_unpaired(&mut generic.binding.pairs, random);
+    } else {
+        for _ in 0..random.below(3) {
+            spoil(&mut generic.binding.pairs, random);
+        }
     }
     let mut clauses = vec![Clause::Binding(generic.binding)];
     if random.chance(20) {
@@ -447,6 +472,14 @@ fn binding(specification: &mut Specification, index: usize, random: &mut Random)
     let module = &mut specification.modules[index];
     let generic = import(&name("Generic'"), clauses);
     insert(&mut module.imports, generic, random);
+}
+
+/// Takes pairs away; often those of all functions, which would be wrong without a pair for each of their sorts.
+fn leave_unpaired(pairs: &mut Vec<Pair>, random: &mut Random) {
+    if random.chance(70) {
+        pairs.retain(|pair| [name("X"), name("Y")].contains(&pair.old));
+    }
+    pairs.truncate(random.between(1, pairs.len()));
 }
 
 fn spoil(pairs: &mut Vec<Pair>, random: &mut Random) {

@@ -7,6 +7,7 @@ use crate::diamonds;
 use crate::division;
 use crate::draft::{self, Plan};
 use crate::names;
+use crate::numbering;
 use crate::random::Random;
 use crate::sizes;
 use crate::spelling::{self, Tokens};
@@ -95,12 +96,21 @@ fn asked(specification: &Specification, random: &mut Random) -> Name {
     specification.modules[index].name.clone()
 }
 
-fn from_tokens(kind: &'static str, asked: Name, tokens: &Tokens, random: &mut Random) -> Case {
+/// Names with runs of digits stand in most of these texts.
+fn from_tokens(
+    kind: &'static str,
+    mut asked: Name,
+    mut tokens: Tokens,
+    random: &mut Random,
+) -> Case {
+    if random.chance(70) {
+        numbering::rename(&mut tokens, &mut asked, random);
+    }
     let layout = spelling::some_layout(random);
     Case {
         kind,
         asked,
-        text: spelling::lay_out(tokens, layout, random),
+        text: spelling::lay_out(&tokens, layout, random),
         output: OUTPUT_BYTES,
         ..Case::default()
     }
@@ -109,7 +119,7 @@ fn from_tokens(kind: &'static str, asked: Name, tokens: &Tokens, random: &mut Ra
 fn from_draft(kind: &'static str, specification: &Specification, random: &mut Random) -> Case {
     let asked = asked(specification, random);
     let tokens = spelling::spell(specification, random);
-    from_tokens(kind, asked, &tokens, random)
+    from_tokens(kind, asked, tokens, random)
 }
 
 fn accepted(random: &mut Random) -> Case {
@@ -138,7 +148,7 @@ fn aimed(random: &mut Random) -> Case {
         aims::aim(other, &mut specification, random);
     }
     let tokens = spelling::spell(&specification, random);
-    from_tokens("aimed", asked, &tokens, random)
+    from_tokens("aimed", asked, tokens, random)
 }
 
 fn damaged_tokens(
@@ -150,7 +160,7 @@ fn damaged_tokens(
     let asked = asked(&specification, random);
     let mut tokens = spelling::spell(&specification, random);
     damage(&mut tokens, random);
-    from_tokens(kind, asked, &tokens, random)
+    from_tokens(kind, asked, tokens, random)
 }
 
 fn damaged_text(
@@ -166,7 +176,7 @@ fn damaged_text(
 
 fn soup(random: &mut Random) -> Case {
     let tokens = damage::soup(random);
-    from_tokens("soup", b"M".to_vec(), &tokens, random)
+    from_tokens("soup", b"M".to_vec(), tokens, random)
 }
 
 fn sized(random: &mut Random) -> Case {

@@ -46,7 +46,8 @@ const OFFENCES: [&[u8]; 16] = [
     b" ----",
 ];
 
-fn identifier(token: &[u8]) -> bool {
+/// Whether a token begins as a name does and is no keyword.
+pub fn identifier(token: &[u8]) -> bool {
     token
         .first()
         .is_some_and(|&byte| byte.is_ascii_alphanumeric() || byte == b'\'')

@@ -10,6 +10,14 @@ pub struct Generic {
     pub binding: Binding,
 }
 
+/// What parameters stand behind P.
+const BEHIND_P: [&str; 4] = [
+    "",
+    ", Q begin sorts Z end Q",
+    ", Q begin end Q",
+    ", Q begin end Q, R begin end R",
+];
+
 /// One of some phrases.
 fn one<'p>(phrases: &[&'p str], random: &mut Random) -> &'p str {
     phrases[random.below(phrases.len())]
@@ -53,10 +61,7 @@ fn generic(on_ground: bool, extra: bool, random: &mut Random) -> String {
     let sorts_of_p = one(&["X, Y", "Y, X"], random);
     let extra = if extra { "A0: X -> Y" } else { "" };
     let ground = if on_ground { "q: X -> G" } else { "" };
-    let second = one(
-        &["", "", ", Q begin sorts Z end Q", ", Q begin end Q"],
-        random,
-    );
+    let second = one(&BEHIND_P, random);
     let sorts = one(&["", "", "sorts Out", "sorts D", "sorts m"], random);
     let overloaded = one(
         &["", "o: X -> X o: Y -> Y", "m: X -> Y", "o: -> Y o: X -> Y"],

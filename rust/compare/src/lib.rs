@@ -12,6 +12,7 @@ pub mod engines;
 pub mod generic;
 pub mod loads;
 pub mod names;
+pub mod numbering;
 pub mod proved;
 pub mod random;
 pub mod shrink;

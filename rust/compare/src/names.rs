@@ -1,7 +1,7 @@
 //! Names of all shapes, from pools so small that they meet again by other ways.
 
 use crate::random::Random;
-use reference::Name;
+use reference::{Name, NAME_BYTES};
 
 const SORTS: [&str; 10] = ["A", "B", "C", "S", "T", "A'", "NAT", "6", "S-1", "hidden"];
 const FUNCTIONS: [&str; 12] = [
@@ -11,6 +11,11 @@ const VARIABLES: [&str; 8] = ["x", "y", "z", "x'", "i", "i1", "f", "x--y"];
 const PARAMETERS: [&str; 6] = ["P", "Q", "Items", "hidden", "export", "P'"];
 const TAGS: [&str; 6] = ["e", "e1", "1", "'", "E-2", "Begin"];
 const MODULES: [&str; 8] = ["M", "N", "A", "Base", "M'", "M-1", "0", "Lists"];
+const STEMS: [&str; 8] = ["role", "role", "a", "S", "", "x'", "x-", "v1-"];
+const NUMBERS: [&str; 12] = [
+    "0", "1", "2", "9", "10", "11", "19", "90", "99", "100", "109", "1000",
+];
+const TAILS: [&str; 9] = ["b", "z", "'", "-b", "-9", "-10", "'9", "'010", "b1"];
 
 fn from(pool: &[&str], random: &mut Random) -> Name {
     if random.chance(1) {
@@ -65,4 +70,43 @@ pub fn long(length: usize, random: &mut Random) -> Name {
 /// A name that the pools do not have.
 pub fn fresh(random: &mut Random) -> Name {
     format!("n{}", random.below(1_000_000)).into_bytes()
+}
+
+/// What numbered names of one text begin with.
+pub fn stem(random: &mut Random) -> &'static str {
+    STEMS[random.below(STEMS.len())]
+}
+
+/// A stem, mostly a run of digits, and now and then a tail: names of one stem whose order the numbers decide.
+pub fn numbered(stem: &str, random: &mut Random) -> Name {
+    let tail = if random.chance(25) {
+        TAILS[random.below(TAILS.len())]
+    } else {
+        ""
+    };
+    let number = NUMBERS[random.below(NUMBERS.len())];
+    let run = match random.below(20) {
+        0..=10 => number.to_string(),
+        11..=15 => "0".repeat(random.between(1, 3)) + number,
+        16..=18 => long_run(NAME_BYTES - stem.len() - tail.len(), random),
+        _ if stem.is_empty() || stem.ends_with('-') => number.to_string(),
+        _ => String::new(),
+    };
+    format!("{stem}{run}{tail}").into_bytes()
+}
+
+/// Digits around what 64 bits hold, or as many as there is room for: all the same but one, so that two such runs differ
+/// late or in their zeros.
+fn long_run(room: usize, random: &mut Random) -> String {
+    let lengths = [19, 20, room - 1, room];
+    let length = lengths[random.below(lengths.len())].min(room);
+    let place = random.below(length);
+    let same = random.below(3);
+    (0..length)
+        .map(|index| match index == place {
+            true => b"0123456789"[random.below(10)],
+            false => b"019"[same],
+        })
+        .map(char::from)
+        .collect()
 }

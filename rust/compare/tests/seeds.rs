@@ -36,6 +36,26 @@ fn listings_are_read_back() {
     }
 }
 
+/// Many listings have lines that the order of bytes would put otherwise.
+#[test]
+fn numbers_decide_the_order() {
+    let listings = (0..1_500).map(|seed| reference(&case(seed)).listing);
+    let otherwise = listings.filter(|listing| !sorts(listing).is_sorted());
+    let count = otherwise.count();
+    assert!(count > 75, "{count}");
+}
+
+/// The exported sorts of a listing.
+fn sorts(listing: &[u8]) -> Vec<Name> {
+    let mut sorts = Vec::new();
+    let mut place = 0;
+    while let Step::Line { key, value, next } = next_line(listing, place) {
+        sorts.extend((key == b"sort").then_some(value));
+        place = next;
+    }
+    sorts
+}
+
 #[test]
 fn a_seed_is_one_case() {
     for seed in 0..50 {

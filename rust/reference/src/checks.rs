@@ -1,6 +1,7 @@
 //! What is checked after each clause and each union: 15, 10, 11 and 18 ("Evaluating").
 
 use crate::form::{Form, Function, Section, Sort};
+use crate::order;
 use crate::syntax::Name;
 
 const PARAMETERS: usize = 8;
@@ -57,7 +58,7 @@ pub fn room(form: &Form) -> Result<(), Refusal> {
     Ok(())
 }
 
-/// The least by name among the elements that stand in the relation to a later one.
+/// The least in the order of names among the elements that stand in the relation to a later one.
 fn least_twin<'e, T>(
     elements: &'e [T],
     related: impl Fn(&T, &T) -> bool,
@@ -65,7 +66,7 @@ fn least_twin<'e, T>(
 ) -> Option<&'e T> {
     let mut least: Option<&T> = None;
     for (index, one) in elements.iter().enumerate() {
-        let smaller = least.is_none_or(|least| name(one) < name(least));
+        let smaller = least.is_none_or(|least| order::of_names(name(one), name(least)).is_lt());
         if smaller
             && elements[index + 1..]
                 .iter()

@@ -2,6 +2,7 @@
 
 use crate::checks::{refuse, Refusal};
 use crate::form::{Form, Function, Replacement, Section, Sort};
+use crate::order;
 use crate::syntax::{Binding, Name, Pair};
 use std::rc::Rc;
 
@@ -118,7 +119,7 @@ impl Bound<'_> {
         self.formal_sorts()
             .chain(functions)
             .filter(|name| first_pair(self.pairs, name).is_none())
-            .min()
+            .min_by(|one, other| order::of_names(one, other))
     }
 
     /// A formal sort by its first pair; any other sort stays. None where the pair is lacking or names no visible sort.

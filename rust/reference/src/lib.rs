@@ -8,6 +8,7 @@ mod form;
 mod grammar;
 mod lexis;
 mod listing;
+mod order;
 mod own;
 mod parts;
 mod program;

@@ -1,6 +1,7 @@
 //! A normal form written as a listing ("The listing").
 
 use crate::form::{Declared, Equation, Form, Function, Origin, Section, Sort, Term, Variable};
+use crate::order;
 use crate::syntax::{Name, Specification};
 use std::rc::Rc;
 
@@ -18,7 +19,7 @@ pub fn write(form: &Form, specification: &Specification) -> Vec<u8> {
     line(&mut out, "module", &form.module);
     section(&mut out, form, &numbers, &Section::Export, "");
     let mut parameters = form.parameters.clone();
-    parameters.sort();
+    parameters.sort_by(|one, other| order::of_names(one, other));
     for name in parameters {
         line(&mut out, "parameter", &name);
         let inside = Section::Parameter(name);
@@ -37,7 +38,7 @@ fn line(out: &mut Vec<u8>, key: &str, value: &[u8]) {
     out.push(b'\n');
 }
 
-/// The hidden items put in order: by written origin, then by written type.
+/// The hidden items put in order: by the bytes of the written origin, then of the written type.
 fn numbers(form: &Form) -> Numbers {
     let mut numbers = Numbers::default();
     for sort in &form.sorts {
@@ -62,7 +63,7 @@ fn numbers(form: &Form) -> Numbers {
     numbers
 }
 
-/// The visible items of one section: by name, then by written type.
+/// The visible items of one section: in the order of names, then by the bytes of the written type.
 fn section(out: &mut Vec<u8>, form: &Form, numbers: &Numbers, section: &Section, prefix: &str) {
     let mut sorts = Vec::new();
     for sort in &form.sorts {
@@ -72,7 +73,7 @@ fn section(out: &mut Vec<u8>, form: &Form, numbers: &Numbers, section: &Section,
             }
         }
     }
-    sorts.sort_by_key(|(name, _)| *name);
+    sorts.sort_by(|one, other| order::of_names(one.0, other.0));
     for (name, origin) in sorts {
         line(out, &format!("{prefix}sort"), name);
         line(out, "origin", &origin_text(origin));
@@ -83,7 +84,8 @@ fn section(out: &mut Vec<u8>, form: &Form, numbers: &Numbers, section: &Section,
             functions.push((name, type_text(function, numbers), &function.origin));
         }
     }
-    functions.sort_by(|one, other| (one.0, &one.1).cmp(&(other.0, &other.1)));
+    functions
+        .sort_by(|one, other| order::of_names(one.0, other.0).then_with(|| one.1.cmp(&other.1)));
     for (name, typed, origin) in functions {
         let value = [name, &b":"[..], &typed].concat();
         line(out, &format!("{prefix}function"), &value);

@@ -5,7 +5,7 @@ use std::env;
 use std::fs;
 use std::path::{Path, PathBuf};
 
-/// The folder with `appendix/`, `readings/`, `one/` and `nine/`: from the environment, or beside this crate.
+/// The folder with `appendix/`, `readings/`, `one/`, `nine/` and `twelve/`: from the environment, or beside this crate.
 fn folder() -> PathBuf {
     match env::var_os("ASF_VECTORS") {
         Some(path) => PathBuf::from(path),
@@ -61,4 +61,9 @@ fn one() {
 #[test]
 fn nine() {
     run("nine", 6);
+}
+
+#[test]
+fn twelve() {
+    run("twelve", 31);
 }
