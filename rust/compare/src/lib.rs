@@ -3,6 +3,7 @@
 pub mod aims;
 pub mod cases;
 pub mod damage;
+pub mod deep;
 pub mod diamonds;
 pub mod divided;
 pub mod division;

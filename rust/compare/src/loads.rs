@@ -1,8 +1,9 @@
 //! The texts whose times are measured: small ones, a specification near every limit, and texts made to take long; and
 //! some of them with a library.
 
+use crate::cases::Case;
 use crate::division::divisions;
-use reference::{Texts, TEXT_BYTES};
+use reference::{Texts, OUTPUT_BYTES, TEXT_BYTES};
 
 const L: &str = include_str!("../../reference/vectors/appendix/L.in");
 const NSTRINGS: &str = include_str!("../../reference/vectors/appendix/3.1-Nstrings.in");
@@ -11,6 +12,8 @@ const NSTRINGS: &str = include_str!("../../reference/vectors/appendix/3.1-Nstrin
 pub struct Load {
     pub title: &'static str,
     pub asked: &'static str,
+    /// Under an emulator a call takes seconds.
+    pub long: bool,
     library: Vec<u8>,
     text: Vec<u8>,
 }
@@ -21,6 +24,27 @@ impl Load {
             library: &self.library,
             customer: &self.text,
         }
+    }
+
+    pub fn case(&self) -> Case {
+        Case {
+            asked: self.asked.as_bytes().to_vec(),
+            library: self.library.clone(),
+            text: self.text.clone(),
+            output: OUTPUT_BYTES,
+            ..Case::default()
+        }
+    }
+
+    /// The title, with a hyphen for all between its words.
+    pub fn file_name(&self) -> String {
+        let between = |letter: char| !letter.is_ascii_alphanumeric();
+        let words = self.title.split(between).filter(|word| !word.is_empty());
+        format!("{}.in", words.collect::<Vec<&str>>().join("-"))
+    }
+
+    fn long(self) -> Load {
+        Load { long: true, ..self }
     }
 }
 
@@ -49,12 +73,12 @@ fn undivided() -> Vec<Load> {
             "M",
             sorts(&repeated(16_000), true),
         ),
-        load("9,000 sorts exported", "M", sorts(&names(9_000), true)),
-        load("9,000 sorts hidden", "M", sorts(&names(9_000), false)),
-        load("constants to the brim", "M", constants()),
-        load("variables to the brim", "M", variables()),
-        load("one function over 3,600 types", "M", overloaded()),
-        load("terms over 3,000 constants", "M", terms()),
+        load("9,000 sorts exported", "M", sorts(&names(9_000), true)).long(),
+        load("9,000 sorts hidden", "M", sorts(&names(9_000), false)).long(),
+        load("constants to the brim", "M", constants()).long(),
+        load("variables to the brim", "M", variables()).long(),
+        load("one function over 3,600 types", "M", overloaded()).long(),
+        load("terms over 3,000 constants", "M", terms()).long(),
         load(
             "64 modules, each imported 16 times",
             "m63",
@@ -70,29 +94,31 @@ fn of_vector(input: &str) -> String {
     text.to_string()
 }
 
-fn load(title: &'static str, asked: &'static str, text: String) -> Load {
+pub fn load(title: &'static str, asked: &'static str, text: String) -> Load {
     assert!(text.len() <= TEXT_BYTES, "{title}: {} bytes", text.len());
     Load {
         title,
         asked,
+        long: false,
         library: Vec::new(),
         text: text.into_bytes(),
     }
 }
 
 /// Half of the modules stand in the library.
-fn divided(title: &'static str, asked: &'static str, text: String) -> Load {
+pub fn divided(title: &'static str, asked: &'static str, text: String) -> Load {
     let divisions = divisions(text.as_bytes());
     let half = divisions[divisions.len() / 2];
     Load {
         title,
         asked,
+        long: false,
         library: half.library.to_vec(),
         text: half.customer.to_vec(),
     }
 }
 
-fn joined(count: usize, separator: &str, element: impl Fn(usize) -> String) -> String {
+pub fn joined(count: usize, separator: &str, element: impl Fn(usize) -> String) -> String {
     let elements: Vec<String> = (0..count).map(element).collect();
     elements.join(separator)
 }

@@ -1,15 +1,19 @@
 //! `compare`: tallies the answers over seeds, or looks for the first seed on which two implementations differ.
 
 use compare::cases::{case, undivided, Case};
+use compare::deep::deep_loads;
 use compare::divided;
 use compare::engines::{self, Difference};
+use compare::loads::loads;
 use compare::proved::Proved;
 use compare::shrink::shrink;
 use compare::timing;
 use std::collections::BTreeMap;
 use std::env;
 use std::error::Error;
+use std::fs;
 use std::io::{self, Write};
+use std::path::Path;
 use std::process::ExitCode;
 
 const USAGE: &str = "usage:
@@ -18,6 +22,7 @@ const USAGE: &str = "usage:
   compare proved COUNT FIRST DRIVER..    the proved library, behind its driver in C, against the reference
   compare divided COUNT FIRST DRIVER..   the proved library on texts divided at each module against the same undivided
   compare time TIMES DRIVER..            times of the library and of the reference, as a table
+  compare texts FOLDER                   the texts that are timed, and deep ones, each as a standard input of asfnorm
   compare input SEED                     the standard input of asfnorm for a seed";
 
 fn main() -> Result<ExitCode, Box<dyn Error>> {
@@ -44,6 +49,7 @@ fn main() -> Result<ExitCode, Box<dyn Error>> {
             timing::table(times.parse()?, &arguments[2..])?;
             Ok(ExitCode::SUCCESS)
         }
+        ["texts", folder] => texts(Path::new(folder)),
         ["input", seed] => input(seed.parse()?),
         _ => {
             eprintln!("{USAGE}");
@@ -54,6 +60,17 @@ fn main() -> Result<ExitCode, Box<dyn Error>> {
 
 fn input(seed: u64) -> Result<ExitCode, Box<dyn Error>> {
     io::stdout().write_all(&engines::input(&case(seed)))?;
+    Ok(ExitCode::SUCCESS)
+}
+
+/// Writes the texts that are timed and deep ones; those that take long stand apart.
+fn texts(folder: &Path) -> Result<ExitCode, Box<dyn Error>> {
+    let apart = folder.join("long");
+    fs::create_dir_all(&apart)?;
+    for load in loads().iter().chain(&deep_loads()) {
+        let place = if load.long { &apart } else { folder };
+        fs::write(place.join(load.file_name()), engines::input(&load.case()))?;
+    }
     Ok(ExitCode::SUCCESS)
 }
 
