@@ -1,12 +1,13 @@
--- What the program's output does not show, computed: the listing reader, what is lent, and readings that look right.
+-- What the program's output does not show, computed: the listing reader, what is lent, readings that look right, and the order of names.
 use mathlib.Core.Path.{_≡_, refl}
 use Prim.Native.Nat.{ℕ}
-use mathlib.Core.Bool.{Bool, true}
+use Prim.Native.String.{String}
+use mathlib.Core.Bool.{Bool, true, false}
 use mathlib.Core.List.{[]}
 use lib.Dec.{ltb}
 use lib.ListN.{length}
 use Rattle.meaning.specs.Lists.{pick}
-use Rattle.meaning.specs.Names.{bytes, Name}
+use Rattle.meaning.specs.Names.{bytes, Name, bytes-not-after, not-after}
 use Rattle.meaning.specs.Numbers.{memory-size, clashing, lent-short, bad-line}
 use Rattle.meaning.specs.Texts.{Texts, two-texts}
 use Rattle.meaning.specs.Answer.{listing, refusal, answer}
@@ -91,3 +92,30 @@ hidden-names :
     ≡ bytes "module=N\nsort=A\norigin=[B,export,sort,A]\nsort=S\norigin=[C,export,sort,S]\nhidden-sort={1}\norigin=[B,hidden,sort,S]\nhidden-sort={2}\norigin=[C,hidden,sort,A]\nend=N\n"
 unfolding all-opened
 hidden-names = refl
+
+-- ---- the order of names
+
+-- the first comes before the second
+abbrev Before : String → String → Type 0
+Before a b = (not-after (bytes a) (bytes b) ≡ true) × (not-after (bytes b) (bytes a) ≡ false)
+
+-- runs of digits are numbers
+by-number : Before "role9" "role10" × Before "a01" "a2" × Before "x9y" "x10a" × Before "999999999999999999999999999999999999999" "1000000000000000000000000000000000000000"
+    × Before "1234567890123456789012345678901234567890" "1234567890123456789012345678901234567891"
+unfolding all-opened
+by-number = ((refl, refl), (refl, refl), (refl, refl), (refl, refl), (refl, refl))
+
+-- equal numbers go by their leading zeros, at that run
+by-zeros : Before "a1b" "a01b" × Before "a1z" "a01b" × Before "0" "00" × Before "00" "000" × Before "000" "1" × Before "1" "01"
+unfolding all-opened
+by-zeros = ((refl, refl), (refl, refl), (refl, refl), (refl, refl), (refl, refl), (refl, refl))
+
+-- the end comes before anything, a run before any other byte
+by-kind : Before "a" "a1" × Before "a" "a-b" × Before "a1" "a-" × Before "a7" "a'" × Before "7" "A"
+unfolding all-opened
+by-kind = ((refl, refl), (refl, refl), (refl, refl), (refl, refl), (refl, refl))
+
+-- types, origins and equations go by bytes
+by-bytes-alone : (bytes-not-after (bytes "A10") (bytes "A9") ≡ true) × (not-after (bytes "A10") (bytes "A9") ≡ false)
+unfolding all-opened
+by-bytes-alone = (refl, refl)
