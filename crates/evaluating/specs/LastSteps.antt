@@ -4,7 +4,7 @@ use Prim.Native.Nat.{ℕ, _+_}
 use native.Mathlib.Omega.{arith}
 use mathlib.Core.List.{List, List·Permᴰ·nil, List·Permᴰ·cons, List·Permᴰ·swap, List·Permᴰ·trans}
 use Rattle.meaning.specs.Lists.{sorted, sum}
-use Rattle.meaning.specs.Names.{by-name}
+use Rattle.meaning.specs.Names.{by-bytes}
 use Rattle.meaning.specs.Syntax.{Module}
 use Rattle.meaning.specs.Origins.{hidden-section, Origin, Item, ResolvedEquation}
 use Rattle.meaning.specs.Normal.{Normal, sorts-among}
@@ -84,7 +84,7 @@ sum-rearranged f (List·Permᴰ·trans d d′) = sum-rearranged f d ∙ sum-rear
 pub ordered-size : (n : Normal) → size (in-order n) ≡ size n
 unfolding size in-order visible-in-order hidden-in-order
 ordered-size n =
-    let sorts = by-name (λ (x : Item). origin-text (x .origin)) (sorts-among (n .hidden .items)) in
+    let sorts = by-bytes (λ (x : Item). origin-text (x .origin)) (sorts-among (n .hidden .items)) in
     let items = sorted (hidden-order sorts) (n .hidden .items) in
     let order = equation-order items in
     λ i. record {
