@@ -1,8 +1,9 @@
 -- One law for each way through the code that writes terms and equations, in the code's terms.
-use mathlib.Core.Path.{_≡_, refl, ap}
+use mathlib.Core.Path.{_≡_, refl, ap, _∙_}
 use mathlib.Core.List.{List, [], _∷_, _++_}
 use Prim.Native.Nat.{ℕ, zero, suc, _+_, _-_, _*_, _/_, _%_, _<_, _≤_}
 use native.Mathlib.Numerals.{sub-one}
+use native.Mathlib.Omega.{arith}
 use borrow.Author.Needs.{needs}
 use borrow.Author.Tests.{eq-eqb, ne-eqb, lt-ltb, le-ltb}
 use lib.ListN.{length, getD}
@@ -26,43 +27,46 @@ module _ (l : ℕ) (text w : List ℕ) (b v : ℕ) (p q : Pen) where
   unfolding node-text pick
   item-hidden z f = rw (ne-eqb (v / 16 % 2) 0 z) f
 
--- a list, whatever is listed
-module _ (l : ℕ) (one : ℕ → Spelt) (at : ℕ) (o : List ℕ) (i k : ℕ) where
-  list-none : k ≡ 0 → Shown l at (listed one k i) o (record { at = at; next = i }) o
-  unfolding listed written
-  list-none z = rw z (record { node = refl; content = refl })
+-- a list, whatever is listed: k from node i on. The loop is at node j with m left, the next place is t, the output is o
+pub record Listing (l : ℕ) (one : ℕ → Spelt) (at : ℕ) (o₀ : List ℕ) (k i m j t : ℕ) (o : List ℕ) : Type 0 where
+  pub size : length o ≡ length o₀
+  pub goes-on : (r : Printed) (o′ : List ℕ) → Shown l t (listed one m j) o r o′ → Shown l at (listed one k i) o₀ r o′
 
-  list-last : (r : Printed) (o′ : List ℕ) → k ≡ 1 → Shown l at (one i) o r o′ → Shown l at (listed one k i) o r o′
-  unfolding listed pick
-  list-last r o′ z h = rw z h
+module _ (l : ℕ) (one : ℕ → Spelt) (at : ℕ) (o₀ : List ℕ) (k i : ℕ) where
+  pub listing-first : Listing l one at o₀ k i k i at o₀
+  listing-first = record { size = refl; goes-on = λ r o′ s. s }
 
-list-more : (l : ℕ) (one : ℕ → Spelt) (at : ℕ) (o : List ℕ) (i k : ℕ) (r q : Printed) (t : ℕ) (o₁ o₂ o₃ : List ℕ) → (k ≡ 0 → ⊥) → (k ≡ 1 → ⊥) → Shown l at (one i) o r o₁
-    → pen t o₂ ≡ written l (44 ∷ []) (pen (r .at) o₁) → Shown l t (listed one (k - 1) (r .next)) o₂ q o₃ → Shown l at (listed one k i) o q o₃
-unfolding listed pick
-list-more l one at o i zero r q t o₁ o₂ o₃ z y h e f = absurd (z refl)
-list-more l one at o i (suc k) r q t o₁ o₂ o₃ z y h e f =
-    let v = rw (sub-one, h .node) at f in
-    let rest = listed one k (one i .next) .bytes in
-    rw (ne-eqb k 0 (λ u. y (ap suc u)))
-    (record {
-      node = v .node;
-      content =
-          then l (one i .bytes) (44 ∷ rest) (pen at o) (pen (r .at) o₁) (pen (q .at) o₃) (h .content)
-          (then l (44 ∷ []) rest (pen (r .at) o₁) (pen t o₂) (pen (q .at) o₃) e (v .content));
-    })
+  module _ (m j t : ℕ) (o : List ℕ) (v : Listing l one at o₀ k i m j t o) where
+    pub listing-none : m ≤ 0 → Shown l at (listed one k i) o₀ (record { at = t; next = j }) o
+    unfolding listed written
+    listing-none h =
+        let z : m ≡ 0 = omega arith in
+        v .goes-on (record { at = t; next = j }) o (rw z (record { node = refl; content = refl }))
+
+    module _ (r : Printed) (o₁ : List ℕ) (h : Shown l t (one j) o r o₁) where
+      pub listing-last : m ≡ 1 → Shown l at (listed one k i) o₀ r o₁
+      unfolding listed pick
+      listing-last z = v .goes-on r o₁ (rw z h)
+
+      pub listing-again : (t′ : ℕ) (o₂ : List ℕ) → 0 < m → (m ≡ 1 → ⊥) → length o₂ ≡ length o → pen t′ o₂ ≡ written l (44 ∷ []) (pen (r .at) o₁)
+          → Listing l one at o₀ k i (m - 1) (r .next) t′ o₂
+      unfolding listed pick
+      listing-again t′ o₂ y z s e = record {
+        size = s ∙ v .size;
+        goes-on = λ q o₃ f.
+            let x : m ≡ suc (m - 1) = omega arith in
+            let g = rw (h .node) at f in
+            let rest = listed one (m - 1) (one j .next) .bytes in
+            v .goes-on q o₃ (rw (x, ne-eqb (m - 1) 0 (λ u. z (x ∙ ap suc u)))
+            (record {
+              node = g .node;
+              content =
+                  then l (one j .bytes) (44 ∷ rest) (pen t o) (pen (r .at) o₁) (pen (q .at) o₃) (h .content)
+                  (then l (44 ∷ []) rest (pen (r .at) o₁) (pen t′ o₂) (pen (q .at) o₃) e (g .content));
+            }));
+      }
 
 module _ (l : ℕ) (text w : List ℕ) (b d at : ℕ) (o : List ℕ) where
-  -- arguments
-  pub arguments-none : (i k : ℕ) → k ≡ 0 → Shown l at (listed (term-at text w b d) k i) o (record { at = at; next = i }) o
-  arguments-none i k z = list-none l (term-at text w b d) at o i k z
-
-  pub arguments-last : (i k : ℕ) (r : Printed) (o′ : List ℕ) → k ≡ 1 → Shown l at (term-at text w b d i) o r o′ → Shown l at (listed (term-at text w b d) k i) o r o′
-  arguments-last i k r o′ z h = list-last l (term-at text w b d) at o i k r o′ z h
-
-  pub arguments-more : (i k : ℕ) (r q : Printed) (t : ℕ) (o₁ o₂ o₃ : List ℕ) → (k ≡ 0 → ⊥) → (k ≡ 1 → ⊥) → Shown l at (term-at text w b d i) o r o₁
-      → pen t o₂ ≡ written l (44 ∷ []) (pen (r .at) o₁) → Shown l t (listed (term-at text w b d) (k - 1) (r .next)) o₂ q o₃ → Shown l at (listed (term-at text w b d) k i) o q o₃
-  arguments-more i k r q t o₁ o₂ o₃ z y h e f = list-more l (term-at text w b d) at o i k r q t o₁ o₂ o₃ z y h e f
-
   -- terms
   pub term-deep : (i : ℕ) → d ≡ 0 → Shown l at (term-at text w b d i) o (record { at = at; next = i }) o
   unfolding term-at written
@@ -102,7 +106,7 @@ module _ (l : ℕ) (text w : List ℕ) (b d at : ℕ) (o : List ℕ) where
               (then l inner (41 ∷ []) (pen u o₂) (pen (r .at) o₃) (pen x o₄) (c .content) k));
         })
 
-  -- two terms, and conditions
+  -- two terms
   pub sides-done : (i : ℕ) (r q : Printed) (t : ℕ) (o₁ o₂ o₃ : List ℕ) → Shown l at (term-at text w b d i) o r o₁ → pen t o₂ ≡ written l (61 ∷ []) (pen (r .at) o₁)
       → Shown l t (term-at text w b d (r .next)) o₂ q o₃ → Shown l at (sides-at text w b d i) o q o₃
   unfolding sides-at
@@ -115,16 +119,6 @@ module _ (l : ℕ) (text w : List ℕ) (b d at : ℕ) (o : List ℕ) where
             then l (term-at text w b d i .bytes) (61 ∷ right) (pen at o) (pen (r .at) o₁) (pen (q .at) o₃) (h .content)
             (then l (61 ∷ []) right (pen (r .at) o₁) (pen t o₂) (pen (q .at) o₃) e (v .content));
       }
-
-  pub conditions-none : (i k : ℕ) → k ≡ 0 → Shown l at (listed (sides-at text w b d) k i) o (record { at = at; next = i }) o
-  conditions-none i k z = list-none l (sides-at text w b d) at o i k z
-
-  pub conditions-last : (i k : ℕ) (r : Printed) (o′ : List ℕ) → k ≡ 1 → Shown l at (sides-at text w b d i) o r o′ → Shown l at (listed (sides-at text w b d) k i) o r o′
-  conditions-last i k r o′ z h = list-last l (sides-at text w b d) at o i k r o′ z h
-
-  pub conditions-more : (i k : ℕ) (r q : Printed) (t : ℕ) (o₁ o₂ o₃ : List ℕ) → (k ≡ 0 → ⊥) → (k ≡ 1 → ⊥) → Shown l at (sides-at text w b d i) o r o₁
-      → pen t o₂ ≡ written l (44 ∷ []) (pen (r .at) o₁) → Shown l t (listed (sides-at text w b d) (k - 1) (r .next)) o₂ q o₃ → Shown l at (listed (sides-at text w b d) k i) o q o₃
-  conditions-more i k r q t o₁ o₂ o₃ z y h e f = list-more l (sides-at text w b d) at o i k r q t o₁ o₂ o₃ z y h e f
 
   pub when-none : (i k : ℕ) → k ≡ 0 → pen at o ≡ written l (when-at text w b d k i) (pen at o)
   unfolding when-at pick written
@@ -151,4 +145,4 @@ equation-done l text w b n row p a c e q f g h k =
     let name = name-of text (row .tag) in
     then l (bytes "[") (name ++ (bytes "] " ++ rule)) p a q f (then l name (bytes "] " ++ rule) a c q g (then l (bytes "] ") rule c e q h k))
 
-pub ruleset terms = (item-visible, item-hidden, arguments-none, arguments-last, arguments-more, term-deep, term-past, term-name, term-applied, sides-done, conditions-none, conditions-last, conditions-more, when-none, when-some, rule-done, equation-done, needs)
+pub ruleset terms = (item-visible, item-hidden, listing-first, listing-none, listing-last, listing-again, term-deep, term-past, term-name, term-applied, sides-done, when-none, when-some, rule-done, equation-done, needs)

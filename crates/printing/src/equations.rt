@@ -43,28 +43,20 @@ fn put_conditions(
 ) -> Printed
     ensures { λ r. ⌜ Shown limit at (listed (sides-at (joint (now (library .entry)) (now (text .entry))) (now (work .entry)) visible depth) left i) (now (out .entry)) r (now (out .exit)) ⌝ }
 {
-    if left == 0 {
-        return Printed { at, next: i };
+    let mut to = at;
+    let mut node = i;
+    let mut more = left;
+    while 0 < more {
+        let p = put_sides(out, to, limit, library, text, work, visible, depth, node);
+        if more == 1 {
+            return p;
+        }
+        let filled = p.at;
+        node = p.next;
+        to = pen::put(out, filled, limit, b',');
+        more -= 1;
     }
-    let p = put_sides(out, at, limit, library, text, work, visible, depth, i);
-    if left == 1 {
-        return p;
-    }
-    let filled = p.at;
-    let next = p.next;
-    let parted = pen::put(out, filled, limit, b',');
-    put_conditions(
-        out,
-        parted,
-        limit,
-        library,
-        text,
-        work,
-        visible,
-        depth,
-        left - 1,
-        next,
-    )
+    Printed { at: to, next: node }
 }
 
 // What follows an equation's conclusion.

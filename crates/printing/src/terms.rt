@@ -2,7 +2,6 @@
 use super::Printed;
 use tables::entries::word_at;
 ghost use mathlib.Core.Path.{_≡_};
-ghost use Prim.Native.Nat.{_<_};
 ghost use Rattle.names.specs.Joint.{joint};
 ghost use Rattle.pen.specs.Pen.{pen, written};
 ghost use Rattle.printing.specs.Terms.{node-text, listed, term-at, Shown};
@@ -89,29 +88,20 @@ fn put_arguments(
     left: usize,
     i: usize,
 ) -> Printed
-    requires { ⌜ left < 16 ⌝ }
     ensures { λ r. ⌜ Shown limit at (listed (term-at (joint (now (library .entry)) (now (text .entry))) (now (work .entry)) visible depth) left i) (now (out .entry)) r (now (out .exit)) ⌝ }
 {
-    if left == 0 {
-        return Printed { at, next: i };
+    let mut to = at;
+    let mut node = i;
+    let mut more = left;
+    while 0 < more {
+        let p = put_term(out, to, limit, library, text, work, visible, depth, node);
+        if more == 1 {
+            return p;
+        }
+        let filled = p.at;
+        node = p.next;
+        to = pen::put(out, filled, limit, b',');
+        more -= 1;
     }
-    let p = put_term(out, at, limit, library, text, work, visible, depth, i);
-    if left == 1 {
-        return p;
-    }
-    let filled = p.at;
-    let next = p.next;
-    let parted = pen::put(out, filled, limit, b',');
-    put_arguments(
-        out,
-        parted,
-        limit,
-        library,
-        text,
-        work,
-        visible,
-        depth,
-        left - 1,
-        next,
-    )
+    Printed { at: to, next: node }
 }
