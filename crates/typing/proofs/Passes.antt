@@ -2,8 +2,7 @@
 use mathlib.Core.Path.{_≡_, refl, sym, ap, _∙_}
 use mathlib.Core.Bool.{Bool, true, false}
 use mathlib.Core.List.{List, [], _∷_}
-use Prim.Native.Nat.{ℕ, zero, suc, _+_, _-_, _*_, _<_, _≤_}
-use native.Mathlib.Numerals.{sub-one}
+use Prim.Native.Nat.{ℕ, suc, _+_, _-_, _*_, _<_, _≤_}
 use native.Mathlib.Omega.{arith}
 use lib.Dec.{eqb}
 use lib.ListN.{length, set}
@@ -65,43 +64,60 @@ module _ (tape : List ℕ) (i end : ℕ) where
     unfolding begins-at pick
     begins-head g = rw (lt-ltb i end h, ← e, ne-eqb role 20 g)
 
--- ---- the sides of an equation; b tells whether a term begins at i
+-- ---- the sides of an equation: what is wanted is what is wanted from here. b tells whether a term begins at i
 
-module _ (text : List ℕ) (k : Known) (role end i q n : ℕ) (w : List ℕ) where
-  pub pass-full : (left : ℕ) → left ≡ 0 → passed Wrong w ≡ sides-from text k role end left i q n w
-  unfolding sides-from
-  pass-full left h = rw h
+pub record Passing (text : List ℕ) (k : Known) (role end left₀ i₀ q₀ n₀ : ℕ) (w₀ : List ℕ) (left i q n : ℕ) (w : List ℕ) : Type 0 where
+  pub size : length w ≡ length w₀
+  pub few : n + left ≤ 65536
+  pub rest : sides-from text k role end left₀ i₀ q₀ n₀ w₀ ≡ sides-from text k role end left i q n w
 
-  module _ (b : Bool) (e : b ≡ begins-at (tape-in k w) i end) where
-    pub pass-end : (left : ℕ) → (left ≡ 0 → ⊥) → b ≡ false → passed (Counted n i q) w ≡ sides-from text k role end left i q n w
-    unfolding sides-from pick
-    pass-end zero z h = absurd (z refl)
-    pass-end (suc left) z h = rw (← e, h)
+module _ (text : List ℕ) (k : Known) (role end left₀ i₀ q₀ n₀ : ℕ) (w₀ : List ℕ) where
+  pub pass-start : n₀ + left₀ ≤ 65536 → Passing text k role end left₀ i₀ q₀ n₀ w₀ left₀ i₀ q₀ n₀ w₀
+  pass-start h = record { size = refl; few = h; rest = refl }
 
-    module _ (h : b ≡ true) (r : Answer) (u : List ℕ) (f : out r u ≡ sides-at text k i q w) where
-      pub pass-ill : (left : ℕ) → (left ≡ 0 → ⊥) → r ≡ Ill → passed Wrong u ≡ sides-from text k role end left i q n w
-      unfolding sides-from after-sides pick
-      pass-ill zero z g = absurd (z refl)
-      pass-ill (suc left) z g = rw (← e, h, ← f, g)
+  module _ (left i q n : ℕ) (w : List ℕ) (inv : Passing text k role end left₀ i₀ q₀ n₀ w₀ left i q n w) where
+    pub pass-full : left ≤ 0 → passed Wrong w ≡ sides-from text k role end left₀ i₀ q₀ n₀ w₀
+    unfolding sides-from
+    pass-full h = let z : left ≡ 0 = omega arith in sym (inv .rest ∙ rw z)
 
-      module _ (s next free : ℕ) (g : r ≡ Sorted s next free) where
-        pub pass-past : (left : ℕ) → (left ≡ 0 → ⊥) → k .tape ≤ next → passed Wrong u ≡ sides-from text k role end left i q n w
+    module _ (l : 0 < left) (b : Bool) (e : b ≡ begins-at (tape-in k w) i end) where
+      abbrev some : left ≡ suc (left - 1)
+      some = omega arith
+
+      pub pass-end : b ≡ false → passed (Counted n i q) w ≡ sides-from text k role end left₀ i₀ q₀ n₀ w₀
+      unfolding sides-from pick
+      pass-end h = sym (inv .rest ∙ rw (some, ← e, h))
+
+      module _ (h : b ≡ true) (r : Answer) (u : List ℕ) (f : out r u ≡ sides-at text k i q w) where
+        pub pass-ill : r ≡ Ill → passed Wrong u ≡ sides-from text k role end left₀ i₀ q₀ n₀ w₀
         unfolding sides-from after-sides pick
-        pass-past zero z c = absurd (z refl)
-        pass-past (suc left) z c = rw (← e, h, ← f, g, le-ltb next (k .tape) c)
+        pass-ill g = sym (inv .rest ∙ rw (some, ← e, h, ← f, g))
 
-        module _ (c : next < k .tape) (mark : ℕ) (d : mark ≡ role-at (tape-in k u) next) where
-          pub pass-kept : (left : ℕ) (o : Pass) → (left ≡ 0 → ⊥) → mark ≡ role → o ≡ sides-from text k role end (left - 1) (next + 1) free (n + 1) u
-              → o ≡ sides-from text k role end left i q n w
+        module _ (s next free : ℕ) (g : r ≡ Sorted s next free) where
+          pub pass-past : k .tape ≤ next → passed Wrong u ≡ sides-from text k role end left₀ i₀ q₀ n₀ w₀
           unfolding sides-from after-sides pick
-          pass-kept zero o z m t = absurd (z refl)
-          pass-kept (suc left) o z m t = rw (← e, h, ← f, g, lt-ltb next (k .tape) c, ← d, eq-eqb mark role m) (rw sub-one at t)
+          pass-past c = sym (inv .rest ∙ rw (some, ← e, h, ← f, g, le-ltb next (k .tape) c))
 
-          pub pass-dropped : (left : ℕ) (o : Pass) → (left ≡ 0 → ⊥) → (mark ≡ role → ⊥) → o ≡ sides-from text k role end (left - 1) (next + 1) q n u
-              → o ≡ sides-from text k role end left i q n w
-          unfolding sides-from after-sides pick
-          pass-dropped zero o z m t = absurd (z refl)
-          pass-dropped (suc left) o z m t = rw (← e, h, ← f, g, lt-ltb next (k .tape) c, ← d, ne-eqb mark role m) (rw sub-one at t)
+          module _ (c : next < k .tape) (mark : ℕ) (d : mark ≡ role-at (tape-in k u) next) (t : length u ≡ length w) where
+            pub pass-kept : mark ≡ role → Passing text k role end left₀ i₀ q₀ n₀ w₀ (left - 1) (next + 1) free (n + 1) u
+            unfolding sides-from after-sides pick
+            pass-kept m = record {
+              size = t ∙ inv .size;
+              few = omega (arith, inv .few);
+              rest =
+                  inv .rest ∙ ap (λ (x : ℕ). sides-from text k role end x i q n w) some
+                  ∙ rw (← e, h, ← f, g, lt-ltb next (k .tape) c, ← d, eq-eqb mark role m);
+            }
+
+            pub pass-dropped : (mark ≡ role → ⊥) → Passing text k role end left₀ i₀ q₀ n₀ w₀ (left - 1) (next + 1) q n u
+            unfolding sides-from after-sides pick
+            pass-dropped m = record {
+              size = t ∙ inv .size;
+              few = omega (arith, inv .few);
+              rest =
+                  inv .rest ∙ ap (λ (x : ℕ). sides-from text k role end x i q n w) some
+                  ∙ rw (← e, h, ← f, g, lt-ltb next (k .tape) c, ← d, ne-eqb mark role m);
+            }
 
 -- ---- an equation
 
@@ -194,6 +210,8 @@ module _ (text : List ℕ) (k : Known) (m : Module) (i₀ q₀ : ℕ) (w₀ : Li
           }
 
 -- what the answers of the typer of equations hand to `search`
-pub ruleset passes = (right-ill, right-one, right-other, left-ill, left-well, begins-past, begins-alone, begins-head, pass-full, pass-end, pass-ill, pass-past, pass-kept, pass-dropped, equation-wrong, equation-on, span-none, span-told, span-over, row-told, three-written, equation-written, row-stored, turn-wrong, turn-done, needs)
+pub ruleset passes = (right-ill, right-one, right-other, left-ill, left-well, begins-past, begins-alone, begins-head, equation-wrong, equation-on, span-none, span-told, span-over, row-told, three-written, equation-written, row-stored, turn-wrong, turn-done, needs)
+
+pub ruleset passing = (pass-start, pass-full, pass-end, pass-ill, pass-past, pass-kept, pass-dropped, needs)
 
 pub ruleset onward = (onward-start, onward-none, onward-end, onward-stop, onward-again, needs)

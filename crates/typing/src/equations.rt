@@ -92,47 +92,44 @@ fn type_marked(
     requires { ⌜ (k .tape ≤ length (now work)) × (k .count ≤ 65536) × (k .hidden ≤ 65536) × (n + left ≤ 65536) ⌝ }
     ensures { λ r. ⌜ passed r (now (work .exit)) ≡ sides-from (joint (now (library .entry)) (now (text .entry))) k role end left i q n (now (work .entry)) ⌝ }
 {
-    if left == 0 {
-        return Passed::Wrong;
-    }
     let t = k.tape;
-    if begins_at(&work[0..t], i, end) {
-        let a = type_sides(library, text, work, k, i, q);
-        match a {
-            Answer::Ill => Passed::Wrong,
-            Answer::Sorted {
+    let mut rest = left;
+    let mut at = i;
+    let mut free = q;
+    let mut count = n;
+    while 0 < rest {
+        if begins_at(&work[0..t], at, end) {
+            let a = type_sides(library, text, work, k, at, free);
+            let Answer::Sorted {
                 sort: _,
                 next,
-                free,
-            } => {
-                if next < t {
-                    let mark = role_at(&work[0..t], next);
-                    if mark == role {
-                        return type_marked(
-                            library,
-                            text,
-                            work,
-                            k,
-                            role,
-                            end,
-                            left - 1,
-                            next + 1,
-                            free,
-                            n + 1,
-                        );
-                    }
-                    return type_marked(library, text, work, k, role, end, left - 1, next + 1, q, n);
-                }
-                Passed::Wrong
+                free: behind,
+            } = a
+            else {
+                return Passed::Wrong;
+            };
+            if t <= next {
+                return Passed::Wrong;
             }
-        }
-    } else {
-        Passed::Counted {
-            count: n,
-            next: i,
-            free: q,
+            let mark = role_at(&work[0..t], next);
+            if mark == role {
+                free = behind;
+                count += 1;
+                at = next + 1;
+                rest -= 1;
+            } else {
+                at = next + 1;
+                rest -= 1;
+            }
+        } else {
+            return Passed::Counted {
+                count,
+                next: at,
+                free,
+            };
         }
     }
+    Passed::Wrong
 }
 
 // The equation whose tag is at i, before the end: its conditions are counted.
