@@ -1,8 +1,9 @@
 -- One law for each way through the typer of terms, in the code's terms.
-use mathlib.Core.Path.{_≡_, refl}
+use mathlib.Core.Path.{_≡_, refl, sym, _∙_}
 use mathlib.Core.List.{List, map}
 use Prim.Native.Nat.{ℕ, zero, suc, _+_, _-_, _*_, _<_, _≤_}
 use native.Mathlib.Numerals.{sub-one}
+use native.Mathlib.Omega.{arith}
 use borrow.Author.Needs.{needs}
 use borrow.Author.Tests.{eq-eqb, ne-eqb, lt-ltb, le-ltb}
 use lib.ListN.{length, getD, set, take}
@@ -90,11 +91,34 @@ module _ (text : List ℕ) (k : Known) (d head place i q n : ℕ) (sorts w : Lis
         args-ill zero y g = absurd (y refl)
         args-ill (suc left) y g = rw (lt-ltb i (k .tape) h, ← e, ne-eqb role 22 z, ← f, g)
 
-        pub args-more : (left : ℕ) (o : Out) (s next free : ℕ) (more : List ℕ) → (left ≡ 0 → ⊥) → r ≡ Sorted s next free → more ≡ set sorts n s
-            → o ≡ args-at text k d head place (left - 1) next free (n + 1) more u → o ≡ args-at text k d head place left i q n sorts w
+        args-more : (left s next free : ℕ) (more : List ℕ) → (left ≡ 0 → ⊥) → r ≡ Sorted s next free → more ≡ set sorts n s
+            → args-at text k d head place left i q n sorts w ≡ args-at text k d head place (left - 1) next free (n + 1) more u
         unfolding args-by at-close further pick
-        args-more zero o s next free more y g m t = absurd (y refl)
-        args-more (suc left) o s next free more y g m t = rw (lt-ltb i (k .tape) h, ← e, ne-eqb role 22 z, ← f, g, ← m) (rw sub-one at t)
+        args-more zero s next free more y g m = absurd (y refl)
+        args-more (suc left) s next free more y g m = rw (lt-ltb i (k .tape) h, ← e, ne-eqb role 22 z, ← f, g, ← m, sub-one)
+
+-- what is wanted is what is wanted from here
+pub record Arguing (text : List ℕ) (k : Known) (d head place left₀ i₀ q₀ n₀ : ℕ) (sorts₀ w₀ : List ℕ) (left i q n : ℕ) (sorts w : List ℕ) : Type 0 where
+  pub size : length w ≡ length w₀
+  pub few : n + left ≤ 9
+  pub rest : args-at text k d head place left₀ i₀ q₀ n₀ sorts₀ w₀ ≡ args-at text k d head place left i q n sorts w
+
+module _ (text : List ℕ) (k : Known) (d head place left₀ i₀ q₀ n₀ : ℕ) (sorts₀ w₀ : List ℕ) where
+  pub args-start : n₀ + left₀ ≤ 9 → Arguing text k d head place left₀ i₀ q₀ n₀ sorts₀ w₀ left₀ i₀ q₀ n₀ sorts₀ w₀
+  args-start h = record { size = refl; few = h; rest = refl }
+
+  module _ (left i q n : ℕ) (sorts w : List ℕ) (inv : Arguing text k d head place left₀ i₀ q₀ n₀ sorts₀ w₀ left i q n sorts w) where
+    pub args-end : (o : Out) → o ≡ args-at text k d head place left i q n sorts w → o ≡ args-at text k d head place left₀ i₀ q₀ n₀ sorts₀ w₀
+    args-end o e = e ∙ sym (inv .rest)
+
+    pub args-again : (role : ℕ) (r : Answer) (u : List ℕ) (s next free : ℕ) (more : List ℕ) → i < k .tape → role ≡ role-at (tape-in k w) i → (role ≡ 22 → ⊥) → (left ≡ 0 → ⊥)
+        → out r u ≡ term-at text k d i q w → r ≡ Sorted s next free → length u ≡ length w → more ≡ set sorts n s
+        → Arguing text k d head place left₀ i₀ q₀ n₀ sorts₀ w₀ (left - 1) next free (n + 1) more u
+    args-again role r u s next free more h e z y f g l m = record {
+      size = l ∙ inv .size;
+      few = omega (arith, inv .few);
+      rest = inv .rest ∙ args-more text k d head place i q n sorts w h role e z r u f left s next free more y g m;
+    }
 
 -- ---- the term
 
@@ -136,4 +160,4 @@ module _ (text : List ℕ) (k : Known) (d i q : ℕ) (w : List ℕ) where
         term-other x y = rw (term-any z, lt-ltb i (k .tape) h, lt-ltb q (length w) g, ← e, ne-eqb role 20 x, ne-eqb role 21 y)
 
 -- what the answers of this crate hand to `search`
-pub ruleset cases = (node-visible, node-hidden, settle-done, row-of-variable, row-of-function, alone-variable, alone-constant, applied-found, applied-ill, args-past, args-done, args-many, args-ill, args-more, term-deep, term-past, term-full, term-alone, term-args, term-other, needs)
+pub ruleset cases = (node-visible, node-hidden, settle-done, row-of-variable, row-of-function, alone-variable, alone-constant, applied-found, applied-ill, args-past, args-done, args-many, args-ill, args-start, args-again, args-end, term-deep, term-past, term-full, term-alone, term-args, term-other, needs)

@@ -185,37 +185,34 @@ fn type_args(
     ensures { λ r. ⌜ out r (now (work .exit)) ≡ args-at (joint (now (library .entry)) (now (text .entry))) k depth head place left i q n sorts (now (work .entry)) ⌝ }
 {
     let t = k.tape;
-    if i < t {
-        let role = role_at(&work[0..t], i);
+    let mut rest = left;
+    let mut at = i;
+    let mut free = q;
+    let mut count = n;
+    let mut known = sorts;
+    while at < t {
+        let role = role_at(&work[0..t], at);
         if role == 22 {
-            return type_applied(library, text, work, k, head, place, n, sorts, i + 1, q);
+            let end = at + 1;
+            return type_applied(library, text, work, k, head, place, count, known, end, free);
         }
-        if left == 0 {
+        if rest == 0 {
             return Answer::Ill;
         }
-        let a = type_term(library, text, work, k, i, q, depth);
-        match a {
-            Answer::Ill => Answer::Ill,
-            Answer::Sorted { sort, next, free } => {
-                let mut more = sorts;
-                more[n] = sort;
-                type_args(
-                    library,
-                    text,
-                    work,
-                    k,
-                    depth,
-                    head,
-                    place,
-                    left - 1,
-                    next,
-                    free,
-                    n + 1,
-                    more,
-                )
-            }
-        }
-    } else {
-        Answer::Ill
+        let a = type_term(library, text, work, k, at, free, depth);
+        let Answer::Sorted {
+            sort,
+            next,
+            free: behind,
+        } = a
+        else {
+            return Answer::Ill;
+        };
+        known[count] = sort;
+        count += 1;
+        at = next;
+        free = behind;
+        rest -= 1;
     }
+    Answer::Ill
 }

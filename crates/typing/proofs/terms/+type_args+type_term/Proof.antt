@@ -1,6 +1,7 @@
--- The cycle of calls {type_args, type_term} meets its contracts. Twenty for each level that is left, and one for each argument.
+-- The cycle of calls {type_args, type_term} meets its contracts. Two for each level that is left, and one more for its arguments.
 -- Assumes nothing.
-use Rattle.typing.proofs.Cases.{cases}
+use Rattle.names.specs.Joint.{joint}
+use Rattle.typing.proofs.Cases.{Arguing, cases}
 use Prim.Native.Nat.{ℕ, _+_, _*_, _<_}
 use borrow.Fn.Kinds.{In}
 use borrow.Fn.PlainCycle.{Measures, is, falls, and}
@@ -17,10 +18,10 @@ use Rattle.typing.proofs.terms.+type_args+type_term.{statement}
 use Rattle.typing.proofs.terms.+type_args+type_term.Tie.{close}
 
 abbrev μ-type-args : Measures 3 type-args-kinds.ps ℕ
-μ-type-args κs a = a .1 .1 .1 .1 .0 * 20 + a .1 .1 .1 .1 .1 .1 .1 .0 + 1
+μ-type-args κs a = a .1 .1 .1 .1 .0 * 2 + 1
 
 abbrev μ-type-term : Measures 3 type-term-kinds.ps ℕ
-μ-type-term κs a = a .1 .1 .1 .1 .1 .1 .0 * 20
+μ-type-term κs a = a .1 .1 .1 .1 .1 .1 .0 * 2
 
 abbrev type-args-at : ℕ → In 3 type-args-kinds.ps
 type-args-at t = and 3 type-args-kinds.ps (is 3 type-args-kinds.ps μ-type-args t) type-args.Pre
@@ -36,6 +37,14 @@ abbrev type-term-below : ℕ → In 3 type-term-kinds.ps
 type-term-below t =
     and 3 type-term-kinds.ps (falls 3 type-term-kinds.ps _<_ μ-type-term t) type-term.Pre
 
+abbrev type-args-Inv-loop : type-args-lts.InvT-loop
+type-args-Inv-loop library text work₀ k depth head place left i q n t rest₀ at₀ free₀ count₀ known₀ work rest at free count known =
+    Arguing (joint library text) k depth head place left i q n known₀ work₀ rest at free count known work
+
+abbrev type-args-μ-loop : type-args-lts.MeasureT-loop
+type-args-μ-loop library text work₀ k depth head place left i q n t rest₀ at₀ free₀ count₀ known₀ work rest at free count known =
+    rest
+
 pub +type-args+type-term-spec : {M : Type 1} → statement M
 +type-args+type-term-spec = close μ-type-args μ-type-term (λ t. type-args-lts.spec (
   role-at-reads.Asked,
@@ -44,34 +53,35 @@ pub +type-args+type-term-spec : {M : Type 1} → statement M
   type-applied-reads.Learnt,
   type-term-below t,
   type-term.Post,
-  type-args-below t,
-  type-args.Post,
 )
     (type-args-at t)
     type-args.Post
+    type-args-Inv-loop
+    type-args-μ-loop
+    (λ c. search cases)  -- type-args-loop-holds
     (λ c. search cases)  -- type-args-sub-role-at
     (λ c. search cases)  -- type-args-part-role-at-start
     (λ c. search cases)  -- type-args-part-role-at-end
     (λ c κs. search cases)  -- type-args-role-at-requires
-    (λ c. search cases)  -- type-args-add-type-applied
+    (λ c. search cases)  -- type-args-add-end
     (λ c κs. search cases)  -- type-args-type-applied-requires
     (λ c. search cases)  -- type-args-same-length
     (λ c. search cases)  -- type-args-returns
     (λ c. search cases)  -- type-args-same-length-2
     (λ c. search cases)  -- type-args-returns-2
     (λ c κs. search cases)  -- type-args-type-term-requires
-    (λ c. search cases)  -- type-args-enum-told
     (λ c. search cases)  -- type-args-enum-known-a
-    (λ c. search cases)  -- type-args-mul-more
-    (λ c. search cases)  -- type-args-array-write-more
-    (λ c. search cases)  -- type-args-sub-type-args
-    (λ c. search cases)  -- type-args-add-type-args
-    (λ c κs. search cases)  -- type-args-type-args-requires
+    (λ c. search cases)  -- type-args-enum-told
     (λ c. search cases)  -- type-args-same-length-3
     (λ c. search cases)  -- type-args-returns-3
+    (λ c. search cases)  -- type-args-mul-known
+    (λ c. search cases)  -- type-args-array-write-known
+    (λ c. search cases)  -- type-args-add-count
+    (λ c. search cases)  -- type-args-sub-rest
+    (λ c. search cases)  -- type-args-loop-less
+    (λ c. search cases)  -- type-args-loop-again
     (λ c. search cases)  -- type-args-same-length-4
     (λ c. search cases)  -- type-args-returns-4
-    (λ c. search cases)  -- type-args-returns-5
     )
     λ t. type-term-lts.spec (
       role-at-reads.Asked,
