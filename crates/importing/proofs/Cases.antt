@@ -21,7 +21,8 @@ use Rattle.modules.specs.Modules.{declared}
 use Rattle.environment.specs.Environment.{kept-form, number-of}
 use Rattle.importing.specs.Spelling.{runs, run-end}
 use Rattle.importing.specs.Clausal.{turn-block, starts-clause, bound-at, clause-renames, clause-binds}
-use Rattle.importing.specs.Clausal.{turn-room, turn-made, clauses-spent, clauses-over, clauses-refused}
+use Rattle.importing.specs.Clausal.{turn-room, turn-made, tape-short, end-positive}
+use Rattle.importing.specs.Clausal.{clauses-start, clauses-ended, clauses-none, clauses-stop}
 
 -- ---- the form of a module that is named
 
@@ -111,8 +112,11 @@ pub ruleset cases = (
   clause-binds,
   turn-room,
   turn-made,
-  clauses-spent,
-  clauses-over,
-  clauses-refused,
+  tape-short,
+  end-positive,
+  clauses-start,
+  clauses-ended,
+  clauses-none,
+  clauses-stop,
   needs,
 )

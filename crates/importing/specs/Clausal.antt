@@ -436,18 +436,18 @@ module _ (text : List ℕ) (t : ℕ) (w : List ℕ) (h : Heads) (left i : ℕ) (
   unfolding clauses
   done-here cs e env n s = makes-as text (part w 0 t) w (Done g) (fine n) (clauses env cs n) (ap (λ (ds : List Clause). clauses env ds n) e) s
 
-  pub clauses-spent : (first : Bool) → left ≡ 0 → ClausesRoom w t h i g first → ClausesMade text t w h left i g (Done g) w
+  clauses-spent : (first : Bool) → left ≤ 0 → ClausesRoom w t h i g first → ClausesMade text t w h left i g (Done g) w
   clauses-spent first e c = record {
     kept = kept-all (first-block .low) (second-block .high) w;
     source = c .source;
-    made = λ cs env n k l v s. done-here cs (empty cs (subst (λ (j : ℕ). length cs ≤ j) e l)) env n s;
+    made = λ cs env n k l v s. done-here cs (empty cs (le-trans l e)) env n s;
   }
     where
       empty : (cs : List Clause) → length cs ≤ 0 → cs ≡ []
       empty [] l = refl
       empty (d ∷ cs) l = absurd (omega arith)
 
-  pub clauses-over : (first b : Bool) → b ≡ starts-clause (part w 0 t) i → b ≡ false → ClausesRoom w t h i g first → ClausesMade text t w h left i g (Done g) w
+  clauses-over : (first b : Bool) → b ≡ starts-clause (part w 0 t) i → b ≡ false → ClausesRoom w t h i g first → ClausesMade text t w h left i g (Done g) w
   clauses-over first b told over c = record {
     kept = kept-all (first-block .low) (second-block .high) w;
     source = c .source;
@@ -479,7 +479,7 @@ module _ (text : List ℕ) (t : ℕ) (w : List ℕ) (h : Heads) (left i : ℕ) (
         let there = clause-there text (part w 0 t) i d cs k in
         x .made d env n there (at ∙ clause-ends text (part w 0 t) i d there (starts-within (part w 0 t) i starts)) v s
 
-    pub clauses-refused : (j y : ℕ) → r ≡ Refused j y → ClausesMade text t w h left i g (Refused j y) w₁
+    clauses-refused : (j y : ℕ) → r ≡ Refused j y → ClausesMade text t w h left i g (Refused j y) w₁
     unfolding clauses
     clauses-refused j y e = record { kept = wide; source = tt; made = go }
       where
@@ -512,7 +512,7 @@ module _ (text : List ℕ) (t : ℕ) (w : List ℕ) (h : Heads) (left i : ℕ) (
       table-high : turn-block first .high ≤ table-start
       table-high = le-trans (block-laid .below) (kept-table (length w) t laid)
 
-      pub next-room : (next : Bool) → next ≡ not first → ClausesRoom w₁ t h end f next
+      next-room : (next : Bool) → next ≡ not first → ClausesRoom w₁ t h end f next
       next-room next e = rw e (record {
         ground = record {
           laid = laid-still;
@@ -539,9 +539,9 @@ module _ (text : List ℕ) (t : ℕ) (w : List ℕ) (h : Heads) (left i : ℕ) (
           (env-stays text t (turn-block first .low) (turn-block first .high) w w₁ (names-of text t w h) env (block-laid .laid .tape) (block-laid .below)
           (kept-table (length w) t laid) (x .kept) (number-within text (part w 0 t) h (c .ground .heads)) (c .ground .table) v)
 
-      pub clauses-more : (r₂ : Made) (w₂ : List ℕ) → (left ≡ 0 → ⊥) → ClausesMade text t w₁ h (left - 1) end f r₂ w₂ → ClausesMade text t w h left i g r₂ w₂
+      clauses-more : (r₂ : Made) (w₂ : List ℕ) → ClausesMade text t w₁ h (left - 1) end f r₂ w₂ → ClausesMade text t w h left i g r₂ w₂
       unfolding clauses
-      clauses-more r₂ w₂ q y = record {
+      clauses-more r₂ w₂ y = record {
         kept = kept-then (first-block .low) (second-block .high) w w₁ w₂ wide (y .kept);
         source = subst (λ (n : ℕ). Sourced text t w₁ h n r₂) size (y .source);
         made = go;
@@ -559,3 +559,34 @@ module _ (text : List ℕ) (t : ℕ) (w : List ℕ) (h : Heads) (left i : ℕ) (
               makes-as text (part w₂ 0 t) w₂ r₂ (clauses env cs (o .normal)) (clauses env (d ∷ cs) n)
               (then-goes-on (clause env d n) (λ (z : Normal). clauses env cs z) (o .normal) (o .outcome))
               (y .made cs env (o .normal) (clauses-next d cs k) (fewer (length cs) l) (env-next env v) (o .stands))
+
+-- ---- the loop: what is made from here on is what is made from the start
+
+pub record ClausesGoing (text : List ℕ) (t : ℕ) (w₀ : List ℕ) (h : Heads) (all start : ℕ) (source : Form) (left i : ℕ) (g : Form)
+    (first : Bool) (w : List ℕ) : Type 0 where
+  pub size : length w ≡ length w₀
+  pub room : ClausesRoom w t h i g first
+  pub goes-on : (r : Made) (w′ : List ℕ) → ClausesMade text t w h left i g r w′ → ClausesMade text t w₀ h all start source r w′
+
+module _ (text : List ℕ) (t : ℕ) (w₀ : List ℕ) (h : Heads) (all start : ℕ) (source : Form) where
+  pub clauses-start : (first : Bool) → ClausesRoom w₀ t h start source first → ClausesGoing text t w₀ h all start source all start source first w₀
+  clauses-start first c = record { size = refl; room = c; goes-on = λ r w′ x. x }
+
+  module _ (left i : ℕ) (g : Form) (first : Bool) (w : List ℕ) (v : ClausesGoing text t w₀ h all start source left i g first w) where
+    pub clauses-ended : left ≤ 0 → ClausesMade text t w₀ h all start source (Done g) w
+    clauses-ended e = v .goes-on (Done g) w (clauses-spent text t w h left i g first e (v .room))
+
+    pub clauses-none : (b : Bool) → b ≡ starts-clause (part w 0 t) i → b ≡ false → ClausesMade text t w₀ h all start source (Done g) w
+    clauses-none b told over = v .goes-on (Done g) w (clauses-over text t w h left i g first b told over (v .room))
+
+    module _ (b : Bool) (end : ℕ) (w₁ : List ℕ) (r : Made) (told : b ≡ starts-clause (part w 0 t) i) (goes : b ≡ true)
+        (at : end ≡ run-end 14 (part w 0 t) (i + 1) (length (part w 0 t) - (i + 1))) (x : ClauseMade text t w h i end g (turn-block first) r w₁) where
+      pub clauses-stop : (j y : ℕ) → r ≡ Refused j y → ClausesMade text t w₀ h all start source (Refused j y) w₁
+      clauses-stop j y e = v .goes-on (Refused j y) w₁ (clauses-refused text t w h left i g first b end w₁ r told goes at (v .room) x j y e)
+
+      pub clauses-again : (f : Form) (next : Bool) → r ≡ Done f → next ≡ not first → ClausesGoing text t w₀ h all start source (left - 1) end f next w₁
+      clauses-again f next e o = record {
+        size = x .kept .size ∙ v .size;
+        room = next-room text t w h left i g first b end w₁ r told goes at (v .room) x f e next o;
+        goes-on = λ r₂ w₂ y. v .goes-on r₂ w₂ (clauses-more text t w h left i g first b end w₁ r told goes at (v .room) x f e r₂ w₂ y);
+      }

@@ -257,18 +257,18 @@ module _ (text : List ℕ) (t : ℕ) (w : List ℕ) (h : Heads) (i : ℕ) (so-fa
       makes-as text (part w 0 t) w so-far o (expressions env is >>= onto o)
       (ap (λ (js : List Import). expressions env js >>= onto o) e ∙ onto-none env o) m
 
-  pub imports-spent : (left : ℕ) → left ≡ 0 → ImportsRoom w t h i so-far → ImportsMade text t w h left i so-far so-far w
+  imports-spent : (left : ℕ) → left ≤ 0 → ImportsRoom w t h i so-far → ImportsMade text t w h left i so-far so-far w
   imports-spent left e c = record {
     kept = kept-all (joining-block .low) (second-block .high) w;
     made-in = c .there;
-    made = λ is env o k l f v m. nothing-more is (none is (subst (λ (j : ℕ). length is ≤ j) e l)) env o m;
+    made = λ is env o k l f v m. nothing-more is (none is (le-trans l e)) env o m;
   }
     where
       none : (is : List Import) → length is ≤ 0 → is ≡ []
       none [] l = refl
       none (x ∷ is) l = absurd (omega arith)
 
-  pub imports-over : (left role : ℕ) → role ≡ role-at (part w 0 t) i → (role ≡ 11 → ⊥) → ImportsRoom w t h i so-far
+  imports-over : (left role : ℕ) → role ≡ role-at (part w 0 t) i → (role ≡ 11 → ⊥) → ImportsRoom w t h i so-far
       → ImportsMade text t w h left i so-far so-far w
   imports-over left role told other c = record {
     kept = kept-all (joining-block .low) (second-block .high) w;
@@ -300,7 +300,7 @@ module _ (text : List ℕ) (t : ℕ) (w : List ℕ) (h : Heads) (i : ℕ) (so-fa
       wide : Kept (joining-block .low) (second-block .high) w w₁
       wide = kept-wider (first-block .low) (second-block .high) (joining-block .low) (second-block .high) w w₁ joining-low (omega arith) (x .kept)
 
-      pub imports-refused : (left j y : ℕ) → r ≡ Refused j y → ImportsMade text t w h left i so-far (Refused j y) w₁
+      imports-refused : (left j y : ℕ) → r ≡ Refused j y → ImportsMade text t w h left i so-far (Refused j y) w₁
       unfolding expressions
       imports-refused left j y e = record { kept = wide; made-in = tt; made = go }
         where
@@ -347,7 +347,7 @@ module _ (text : List ℕ) (t : ℕ) (w : List ℕ) (h : Heads) (i : ℕ) (so-fa
           tape-still : part w₂ 0 t ≡ part w 0 t
           tape-still = tape-same w w₂ t (both .size) (λ j a b. both .below j (le-trans b (laid .joining .tape)))
 
-          pub next-imports : ImportsRoom w₂ t h end u
+          next-imports : ImportsRoom w₂ t h end u
           next-imports = record {
             ground = record {
               laid = subst (λ (n : ℕ). Laid n t) (sym (both .size)) laid;
@@ -377,10 +377,10 @@ module _ (text : List ℕ) (t : ℕ) (w : List ℕ) (h : Heads) (i : ℕ) (so-fa
               (env-stays text t (joining-block .low) (second-block .high) w w₂ (declared text (part w 0 t) h) env (laid .joining .tape) (laid .second-kept)
               (kept-table (length w) t laid) both (number-within text (part w 0 t) h (c .ground .heads)) (c .ground .table) v)
 
-          pub imports-more : (left : ℕ) (r₃ : Made) (w₃ : List ℕ) → (left ≡ 0 → ⊥) → ImportsMade text t w₂ h (left - 1) end u r₃ w₃
+          imports-more : (left : ℕ) (r₃ : Made) (w₃ : List ℕ) → ImportsMade text t w₂ h (left - 1) end u r₃ w₃
               → ImportsMade text t w h left i so-far r₃ w₃
           unfolding expressions
-          imports-more left r₃ w₃ some s = record {
+          imports-more left r₃ w₃ s = record {
             kept = kept-then (joining-block .low) (second-block .high) w w₂ w₃ both (s .kept);
             made-in = s .made-in;
             made = go;
@@ -404,3 +404,36 @@ module _ (text : List ℕ) (t : ℕ) (w : List ℕ) (h : Heads) (i : ℕ) (so-fa
                   (ap (λ (q : Outcome (List Normal)). q >>= onto o) (then-goes-on one next (d .normal) (d .outcome))
                   ∙ onto-one (expressions env is) o (d .normal))
                   (s .made is env (o >>= λ n. checked (unite n (d .normal))) (behind z is k) (fewer (length is) l) (f .1) (env-next env v) joined)
+
+-- ---- the loop: what is made from here on is what is made from the start
+
+pub record ImportsGoing (text : List ℕ) (t : ℕ) (w₀ : List ℕ) (h : Heads) (all start : ℕ) (given : Made) (left i : ℕ) (so-far : Made)
+    (w : List ℕ) : Type 0 where
+  pub size : length w ≡ length w₀
+  pub room : ImportsRoom w t h i so-far
+  pub goes-on : (r : Made) (w′ : List ℕ) → ImportsMade text t w h left i so-far r w′ → ImportsMade text t w₀ h all start given r w′
+
+module _ (text : List ℕ) (t : ℕ) (w₀ : List ℕ) (h : Heads) (all start : ℕ) (given : Made) where
+  pub imports-start : ImportsRoom w₀ t h start given → ImportsGoing text t w₀ h all start given all start given w₀
+  imports-start c = record { size = refl; room = c; goes-on = λ r w′ x. x }
+
+  module _ (left i : ℕ) (so-far : Made) (w : List ℕ) (v : ImportsGoing text t w₀ h all start given left i so-far w) where
+    pub imports-ended : left ≤ 0 → ImportsMade text t w₀ h all start given so-far w
+    imports-ended e = v .goes-on so-far w (imports-spent text t w h i so-far left e (v .room))
+
+    pub imports-none : (role : ℕ) → role ≡ role-at (part w 0 t) i → (role ≡ 11 → ⊥) → ImportsMade text t w₀ h all start given so-far w
+    imports-none role told other = v .goes-on so-far w (imports-over text t w h i so-far left role told other (v .room))
+
+    module _ (role : ℕ) (told : role ≡ role-at (part w 0 t) i) (goes : role ≡ 11) (end : ℕ) (w₁ : List ℕ) (r : Made)
+        (at : end ≡ run-end 12 (part w 0 t) (i + 1) (length (part w 0 t) - (i + 1))) (x : ExpressionMade text t w h i r w₁) where
+      pub imports-stop : (j y : ℕ) → r ≡ Refused j y → ImportsMade text t w₀ h all start given (Refused j y) w₁
+      imports-stop j y e =
+          v .goes-on (Refused j y) w₁ (imports-refused text t w h i so-far role told goes (v .room) end w₁ r at x left j y e)
+
+      pub imports-again : (g : Form) (u : Made) (w₂ : List ℕ) → r ≡ Done g → UnionMade text t w₁ g so-far u w₂
+          → ImportsGoing text t w₀ h all start given (left - 1) end u w₂
+      imports-again g u w₂ e y = record {
+        size = y .kept .size ∙ x .kept .size ∙ v .size;
+        room = next-imports text t w h i so-far role told goes (v .room) end w₁ r at x g e u w₂ y;
+        goes-on = λ r₃ w₃ s. v .goes-on r₃ w₃ (imports-more text t w h i so-far role told goes (v .room) end w₁ r at x g e u w₂ y left r₃ w₃ s);
+      }

@@ -57,20 +57,25 @@ pub fn imports_from(
     requires { ⌜ ImportsRoom (now work) t h i «so_far» ⌝ }
     ensures { λ r. ⌜ ImportsMade (joint (now (library .entry)) (now (text .entry))) t (now (work .entry)) h left i «so_far» r (now (work .exit)) ⌝ }
 {
-    if left == 0 {
-        return so_far;
-    }
-    if role_at(&work[0..t], i as usize) == 11 {
-        let end = run_end(&work[0..t], 12, i + 1);
-        let r = expression(library, text, work, t, h, i);
-        match r {
-            Made::Refused(k, w) => Made::Refused(k, w),
-            Made::Done(g) => {
-                let u = united_with(library, text, work, t, g, so_far);
-                imports_from(library, text, work, t, h, left - 1, end, u)
+    let mut n = left;
+    let mut at = i;
+    let mut made = so_far;
+    while 0 < n {
+        if role_at(&work[0..t], at as usize) == 11 {
+            let end = run_end(&work[0..t], 12, at + 1);
+            match expression(library, text, work, t, h, at) {
+                Made::Refused(k, w) => {
+                    return Made::Refused(k, w);
+                }
+                Made::Done(g) => {
+                    made = united_with(library, text, work, t, g, made);
+                    n -= 1;
+                    at = end;
+                }
             }
+        } else {
+            return made;
         }
-    } else {
-        so_far
     }
+    made
 }

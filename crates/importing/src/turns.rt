@@ -119,20 +119,27 @@ pub fn clauses_from(
     requires { ⌜ ClausesRoom (now work) t h i g first ⌝ }
     ensures { λ r. ⌜ ClausesMade (joint (now (library .entry)) (now (text .entry))) t (now (work .entry)) h left i g r (now (work .exit)) ⌝ }
 {
-    if left == 0 {
-        return Made::Done(g);
-    }
-    if starts_clause(&work[0..t], i) {
-        let end = run_end(&work[0..t], 14, i + 1);
-        let r = clause_turn(library, text, work, t, h, i, end, g, first);
-        match r {
-            Made::Refused(k, w) => Made::Refused(k, w),
-            Made::Done(f) => {
-                let next = other(first);
-                clauses_from(library, text, work, t, h, left - 1, end, f, next)
+    let mut n = left;
+    let mut at = i;
+    let mut f = g;
+    let mut turn = first;
+    while 0 < n {
+        if starts_clause(&work[0..t], at) {
+            let end = run_end(&work[0..t], 14, at + 1);
+            match clause_turn(library, text, work, t, h, at, end, f, turn) {
+                Made::Refused(k, w) => {
+                    return Made::Refused(k, w);
+                }
+                Made::Done(made) => {
+                    n -= 1;
+                    at = end;
+                    f = made;
+                    turn = other(turn);
+                }
             }
+        } else {
+            return Made::Done(f);
         }
-    } else {
-        Made::Done(g)
     }
+    Made::Done(f)
 }
