@@ -47,13 +47,12 @@ plain-goes (x ∷ a) (y ∷ b) = go (eqb x y) (is-digit x) refl refl (plain-goes
     go true false e f i = ap (λ (z : ℕ). compared (x ∷ a) (z ∷ b)) (sym (eqb-true x y e)) ∙ other-on x a b f ∙ i
     go false d e f i = refl
 
-pub plain-passed : (a b : List ℕ) (r : ℕ) → r ≡ plain-size a b → compared a b ≡ compared (drop r a) (drop r b)
-plain-passed a b r e = rw e (plain-goes a b)
+pub plain-on-from : (a b : List ℕ) (i j : ℕ) → j ≡ i + plain-size (drop i a) (drop i b) → compared (drop i a) (drop i b) ≡ compared (drop j a) (drop j b)
+plain-on-from a b i j e =
+    let k = plain-size (drop i a) (drop i b) in
+    plain-goes (drop i a) (drop i b) ∙ ap₂ compared (drop-drop k i a ∙ ap (λ (l : ℕ). drop l a) (sym e)) (drop-drop k i b ∙ ap (λ (l : ℕ). drop l b) (sym e))
 
 -- a loop over them is at i
-pub plain-start : (a b : List ℕ) → plain-size a b ≡ 0 + plain-size (drop 0 a) (drop 0 b)
-plain-start a b = omega arith
-
 module _ (a b : List ℕ) (i : ℕ) where
   pub plain-short : i < length a → length b ≤ i → i + plain-size (drop i a) (drop i b) ≡ i
   unfolding plain-size
@@ -348,4 +347,4 @@ module _ (a b : List ℕ) (n m i : ℕ) (ln : n ≡ length a) (lm : m ≡ length
     pub left-less : (e : ℕ) → e ≡ i + element-size (drop i a) → n - e < n - i
     left-less e q = omega (arith, element-some (drop i a))
 
-pub ruleset cases = (digit-told, digit-not, plain-start, plain-short, plain-end, plain-apart, plain-digit, plain-on, leads-on, leads-stop, leads-end, digits-less, digits-more, digits-on, digits-over, digit-place, less-told, more-told, level-told, zeros-within, run-within, runs-shorter, runs-longer, runs-by-digits, runs-by-zeros, both-runs, run-before, run-after, both-others, one-byte, whole-run, left-longer, left-shorter, left-none, left-decided, left-on, left-less, needs)
+pub ruleset cases = (digit-told, digit-not, plain-short, plain-end, plain-apart, plain-digit, plain-on, leads-on, leads-stop, leads-end, digits-less, digits-more, digits-on, digits-over, digit-place, less-told, more-told, level-told, zeros-within, run-within, runs-shorter, runs-longer, runs-by-digits, runs-by-zeros, both-runs, run-before, run-after, both-others, one-byte, whole-run, left-longer, left-shorter, left-none, left-decided, left-on, left-less, needs)

@@ -4,7 +4,7 @@ use mathlib.Core.Bool.{Bool, true, false, false≢true}
 use mathlib.Core.List.{List}
 use Prim.Native.Nat.{ℕ, _+_, _-_, _*_, _/_, _%_, _<_, _≤_, min}
 use native.Mathlib.Omega.{arith}
-use lib.Dec.{eqb, leb}
+use lib.Dec.{leb}
 use lib.ListN.{length, getD, take, drop, List·getD-append, List·getD-eq-default}
 use lib.Seq.{getD-append-add, getD-take, getD-drop, take-length}
 use borrow.Author.Needs.{needs}
@@ -12,13 +12,12 @@ use borrow.Author.Tests.{le-leb, lt-leb, leb-true}
 use mir.Syntax.{w32}
 use mir.Val.{Fits}
 use Rattle.meaning.specs.Lists.{pick}
-use Rattle.meaning.specs.Names.{same, not-after}
+use Rattle.meaning.specs.Names.{same}
 use Rattle.names.specs.Word.{name-of, compared}
-use Rattle.names.specs.Runs.{plain-size}
+use Rattle.names.specs.Runs.{Seen}
 use Rattle.names.specs.Joint.{joint, have-room, both-behind, joint-length, name-in-library, name-in-text}
 use Rattle.names.proofs.Auto.{told}
 use Rattle.names.proofs.Compared.{same-words, not-after-told, same-lengths, same-on, same-off, same-end}
-use Rattle.names.proofs.Elements.{plain-passed}
 use Rattle.names.proofs.Places.{size-of, name-between, name-size}
 
 -- ---- wherever they lie, byte by byte
@@ -62,14 +61,25 @@ module _ (a b : List ℕ) (n : ℕ) (e : n ≡ length a) where
     pub called-end : n ≤ i → same (drop i a) (drop i b) ≡ true
     called-end h = same-end a b i (omega arith) (omega arith)
 
-pub same-told : (x y : List ℕ) (k : ℕ) → k ≡ compared x y → eqb k 1 ≡ same x y
+-- the same names are level
+pub level-told : (x y : List ℕ) (s : Bool) → s ≡ same x y → s ≡ true → 1 ≡ compared x y
 unfolding compared pick
-same-told x y k h = rw h (go (same x y) (not-after x y))
-  where
-    go : (s n : Bool) → eqb (pick s 1 (pick n 0 2)) 1 ≡ s
-    go true n = refl
-    go false true = refl
-    go false false = refl
+level-told x y s e h = rw (← e, h)
+
+-- two names, of n bytes the first: p and q are their bytes at i
+module _ (a b : List ℕ) (n m : ℕ) (e : n ≡ length a) (f : m ≡ length b) where
+  pub across-not : (n ≡ m → ⊥) → false ≡ same a b
+  across-not h = same-lengths a b (λ q. h (e ∙ q ∙ sym f))
+
+  module _ (i p q : ℕ) (z : n ≡ m) (h : i < n) (x : p ≡ getD a i 0) (y : q ≡ getD b i 0) where
+    pub across-off : (p ≡ q → ⊥) → same (drop i a) (drop i b) ≡ false
+    across-off w = same-off a b i (omega arith) (omega arith) (λ k. w (x ∙ k ∙ sym y))
+
+    pub across-on : p ≡ q → same (drop i a) (drop i b) ≡ same (drop (i + 1) a) (drop (i + 1) b)
+    across-on w = same-on a b i (omega arith) (omega arith) (sym x ∙ w ∙ y)
+
+  pub across-end : (i : ℕ) → n ≡ m → n ≤ i → same (drop i a) (drop i b) ≡ true
+  across-end i z h = same-end a b i (omega arith) (omega arith)
 
 -- ---- where they stand
 
@@ -142,18 +152,18 @@ module _ (l t : List ℕ) where
       second-part : take (b / 64 + k - b / 64) (drop (b / 64) t) ≡ name-of (joint l t) b
       second-part = text-part b k g (second-within (length t) a b q y e k g)
 
-      pub here-plain : (r : ℕ) → r ≡ plain-size (take (a / 64 + j - a / 64) (drop (a / 64) t)) (take (b / 64 + k - b / 64) (drop (b / 64) t))
-          → compared (name-of (joint l t) a) (name-of (joint l t) b) ≡ compared (drop r (name-of (joint l t) a)) (drop r (name-of (joint l t) b))
-      here-plain r h = plain-passed _ _ r (rw (first-part, second-part) at h)
+      pub here-seen : (r : ℕ) → Seen (take (a / 64 + j - a / 64) (drop (a / 64) t)) (take (b / 64 + k - b / 64) (drop (b / 64) t)) r → r < 3
+          → r ≡ compared (name-of (joint l t) a) (name-of (joint l t) b)
+      here-seen r h z = sym (rw (← first-part, ← second-part) (h .told z))
 
       pub here-same : (r : Bool) → r ≡ same (take (a / 64 + j - a / 64) (drop (a / 64) t)) (take (b / 64 + k - b / 64) (drop (b / 64) t))
           → r ≡ same (name-of (joint l t) a) (name-of (joint l t) b)
       here-same r h = rw (first-part, second-part) at h
 
-    pub there-plain : q ≡ both-behind (length t) a b → (r : ℕ) → r ≡ plain-size (name-of l (a - length t * 64)) (name-of l (b - length t * 64))
-        → compared (name-of (joint l t) a) (name-of (joint l t) b) ≡ compared (drop r (name-of (joint l t) a)) (drop r (name-of (joint l t) b))
-    there-plain e r h =
-        plain-passed _ _ r (rw (library-name a (first-behind (length t) a b q y e), library-name b (second-behind (length t) a b q y e)) at h)
+    pub there-seen : q ≡ both-behind (length t) a b → (r : ℕ) → Seen (name-of l (a - length t * 64)) (name-of l (b - length t * 64)) r → r < 3
+        → r ≡ compared (name-of (joint l t) a) (name-of (joint l t) b)
+    there-seen e r h z =
+        sym (rw (← library-name a (first-behind (length t) a b q y e), ← library-name b (second-behind (length t) a b q y e)) (h .told z))
 
     pub there-same : q ≡ both-behind (length t) a b → (r : Bool) → r ≡ same (name-of l (a - length t * 64)) (name-of l (b - length t * 64))
         → r ≡ same (name-of (joint l t) a) (name-of (joint l t) b)
@@ -165,13 +175,11 @@ module _ (l t : List ℕ) where
   whole s = let n : length s - 0 ≡ length s = omega arith in rw n (take-length s)
 
   module _ (a b : ℕ) where
-    pub elsewhere-plain : (r : ℕ)
-        → compared (name-of (joint (take (length l - 0) (drop 0 l)) (take (length t - 0) (drop 0 t))) a)
+    pub elsewhere-compared : (r : ℕ)
+        → r ≡ compared (name-of (joint (take (length l - 0) (drop 0 l)) (take (length t - 0) (drop 0 t))) a)
         (name-of (joint (take (length l - 0) (drop 0 l)) (take (length t - 0) (drop 0 t))) b)
-        ≡ compared (drop r (name-of (joint (take (length l - 0) (drop 0 l)) (take (length t - 0) (drop 0 t))) a))
-        (drop r (name-of (joint (take (length l - 0) (drop 0 l)) (take (length t - 0) (drop 0 t))) b))
-        → compared (name-of (joint l t) a) (name-of (joint l t) b) ≡ compared (drop r (name-of (joint l t) a)) (drop r (name-of (joint l t) b))
-    elsewhere-plain r e = rw (whole l, whole t) at e
+        → r ≡ compared (name-of (joint l t) a) (name-of (joint l t) b)
+    elsewhere-compared r e = rw (whole l, whole t) at e
 
     pub elsewhere-same : (r : Bool)
         → r ≡ same (name-of (joint (take (length l - 0) (drop 0 l)) (take (length t - 0) (drop 0 t))) a)
@@ -189,4 +197,4 @@ between text library v w s room k r e f g h =
     h ∙ ap (same (name-of text w)) (name-between library v s e k (name-size library v s e room k f g))
 
 -- what the answers for these functions hand to `search`
-pub ruleset cases = (byte-left, byte-right, joined-size, joined-byte, joined-past, called-not, called-off, called-on, called-end, room-both, room-not, behind-both, behind-not, first-within, second-within, first-behind, behind-fits, moved-fits, second-behind, here-plain, here-same, there-plain, there-same, elsewhere-plain, elsewhere-same, same-told, between, same-words, not-after-told, told, needs)
+pub ruleset cases = (byte-left, byte-right, joined-size, joined-byte, joined-past, called-not, called-off, called-on, called-end, room-both, room-not, behind-both, behind-not, first-within, second-within, first-behind, behind-fits, moved-fits, second-behind, here-seen, here-same, there-seen, there-same, elsewhere-compared, elsewhere-same, level-told, across-not, across-off, across-on, across-end, between, same-words, not-after-told, told, needs)

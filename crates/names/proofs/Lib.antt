@@ -2,5 +2,6 @@ pub mod Auto
 pub mod Runs
 pub mod Compared
 pub mod Elements
+pub mod AtOnce
 pub mod Places
 pub mod Joined

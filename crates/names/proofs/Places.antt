@@ -12,7 +12,7 @@ use mir.Syntax.{w64}
 use mir.Val.{Fits}
 use Rattle.meaning.specs.Names.{same}
 use Rattle.names.specs.Word.{name-of}
-use Rattle.names.specs.Runs.{plain-size}
+use Rattle.names.specs.Runs.{Seen}
 
 -- as many as there are
 take-most : (k : ℕ) (xs : List ℕ) → take (length (take k xs)) xs ≡ take k xs
@@ -73,8 +73,8 @@ module _ (text : List ℕ) (w start : ℕ) (s : start ≡ min (w / 64) (length t
 -- two names where they stand in the text: a from x on, of n bytes, and b from y on, of m bytes
 module _ (text : List ℕ) (a b x y n m : ℕ) (s : x ≡ min (a / 64) (length text)) (t : y ≡ min (b / 64) (length text))
     (e : n ≡ length (name-of text a)) (f : m ≡ length (name-of text b)) where
-  pub plain-parts : (k : ℕ) → k ≡ plain-size (take (x + n - x) (drop x text)) (take (y + m - y) (drop y text)) → k ≡ plain-size (name-of text a) (name-of text b)
-  plain-parts k h = rw (name-between text a x s n e, name-between text b y t m f) at h
+  pub seen-parts : (k : ℕ) → Seen (take (x + n - x) (drop x text)) (take (y + m - y) (drop y text)) k → Seen (name-of text a) (name-of text b) k
+  seen-parts k h = rw (name-between text a x s n e, name-between text b y t m f) at h
 
   pub same-parts : (r : Bool) → r ≡ same (take (x + n - x) (drop x text)) (take (y + m - y) (drop y text)) → r ≡ same (name-of text a) (name-of text b)
   same-parts r h = rw (name-between text a x s n e, name-between text b y t m f) at h

@@ -1,4 +1,5 @@
 pub mod Word
 pub mod Runs
 pub mod RunLaws
+pub mod Canonical
 pub mod Joint

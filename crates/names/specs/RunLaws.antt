@@ -58,7 +58,7 @@ size-alike n m i j r less more level =
 
 -- ---- the order of bytes, byte by byte
 
-bytes-step : (x y : ℕ) (xs ys : List ℕ) → bytes-compared (x ∷ xs) (y ∷ ys) ≡ by-size x y (bytes-compared xs ys)
+pub bytes-step : (x y : ℕ) (xs ys : List ℕ) → bytes-compared (x ∷ xs) (y ∷ ys) ≡ by-size x y (bytes-compared xs ys)
 unfolding bytes-compared same bytes-not-after pick
 bytes-step x y xs ys =
     in-cases x y
@@ -185,7 +185,7 @@ zero-rest : (a : List ℕ) → rest-of-run (48 ∷ a) ≡ rest-of-run a
 unfolding rest-of-run size-of-run leading is-digit pick
 zero-rest a = rw suc-sub-suc
 
-whole-rest : (x : ℕ) (a : List ℕ) → eqb x 48 ≡ false → rest-of-run (x ∷ a) ≡ take (digits-of (x ∷ a)) (x ∷ a)
+pub whole-rest : (x : ℕ) (a : List ℕ) → eqb x 48 ≡ false → rest-of-run (x ∷ a) ≡ take (digits-of (x ∷ a)) (x ∷ a)
 unfolding rest-of-run size-of-run leading pick
 whole-rest x a e = rw (e, sub-zero)
 

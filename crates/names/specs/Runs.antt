@@ -1,13 +1,14 @@
 -- Runs of digits compared where they stand: how many digits and how many zeros a text begins with, and which of the two runs that two texts begin
 -- with comes first, with no number formed.
-use Prim.Native.Nat.{ℕ, suc, _-_}
-use mathlib.Core.Bool.{Bool}
+use mathlib.Core.Path.{_≡_}
+use Prim.Native.Nat.{ℕ, suc, _-_, _<_, _≤_}
+use mathlib.Core.Bool.{Bool, _&&_}
 use mathlib.Core.List.{List, [], _∷_}
 use lib.Dec.{eqb, ltb}
-use lib.ListN.{take, drop}
+use lib.ListN.{getD, take, drop}
 use Rattle.meaning.specs.Lists.{pick}
 use Rattle.meaning.specs.Names.{is-digit}
-use Rattle.names.specs.Word.{bytes-compared}
+use Rattle.names.specs.Word.{compared, bytes-compared}
 
 -- how many bytes a text begins with that pass a test
 unfoldable pub leading : (ℕ → Bool) → List ℕ → ℕ
@@ -44,6 +45,10 @@ runs-compared xs ys =
     let by-digits = bytes-compared (rest-of-run xs) (rest-of-run ys) in
     by-size (size-of-run xs) (size-of-run ys) (pick (eqb by-digits 1) by-zeros by-digits)
 
+-- a run with a zero in front of another digit
+unfoldable pub has-zeros : List ℕ → Bool
+has-zeros xs = ltb 1 (digits-of xs) && is-zero (getD xs 0 0)
+
 -- ---- elements
 
 -- the elements that two texts begin with: a run comes before any other byte
@@ -64,3 +69,16 @@ unfoldable pub plain-size : List ℕ → List ℕ → ℕ
 plain-size [] ys = 0
 plain-size (x ∷ xs) [] = 0
 plain-size (x ∷ xs) (y ∷ ys) = let more = suc (plain-size xs ys) in pick (eqb x y) (pick (is-digit x) 0 more) 0
+
+-- ---- what is seen at once
+
+-- r tells which of two names comes first, or 1 if they are the same; where it is 3, nothing is told
+pub record Seen (xs ys : List ℕ) (r : ℕ) : Type 0 where
+  pub told : r < 3 → compared xs ys ≡ r
+
+-- the same of the elements that two names begin with; where it is 4, they begin with the same run
+pub record Decides (xs ys : List ℕ) (r : ℕ) : Type 0 where
+  pub few : r ≤ 4
+  pub told : r < 3 → compared xs ys ≡ r
+  pub some : r ≡ 4 → 0 < digits-of xs
+  pub passed : r ≡ 4 → compared xs ys ≡ compared (drop (digits-of xs) xs) (drop (digits-of xs) ys)

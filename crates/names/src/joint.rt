@@ -1,10 +1,10 @@
 // Names of two texts as one, the customer's text with the library behind it: a place is one of both together, and so is a name's word.
 // Most names lie in the text, which therefore comes first: their words are as they were read, and are compared there.
 use super::byte_at;
+use super::compare_names;
 use super::is_called as is_called_in;
 use super::is_digit;
 use super::lesser;
-use super::plain_size;
 use super::same_bytes;
 ghost use mathlib.Core.Path.{_≡_};
 ghost use Prim.Native.Nat.{_+_, _%_, _<_, _≤_, min};
@@ -188,13 +188,13 @@ fn element_end(library: &[u8], text: &[u8], w: u32, size: usize, i: usize) -> us
     e
 }
 
-// What is left of two names from `from` on, element by element.
-fn compare_from(library: &[u8], text: &[u8], a: u32, b: u32, from: usize) -> u8
-    ensures { λ r. ⌜ r ≡ compared (drop from (name-of (joint (now (library .entry)) (now (text .entry))) a)) (drop from (name-of (joint (now (library .entry)) (now (text .entry))) b)) ⌝ }
+// Two names element by element: 1 if they are the same, 0 if a comes first, 2 if b does.
+fn compare_across(library: &[u8], text: &[u8], a: u32, b: u32) -> u8
+    ensures { λ r. ⌜ r ≡ compared (name-of (joint (now (library .entry)) (now (text .entry))) a) (name-of (joint (now (library .entry)) (now (text .entry))) b) ⌝ }
 {
     let n = name_size(library, text, a);
     let m = name_size(library, text, b);
-    let mut i = from;
+    let mut i = 0;
     while i < n {
         if m <= i {
             return 2;
@@ -209,6 +209,25 @@ fn compare_from(library: &[u8], text: &[u8], a: u32, b: u32, from: usize) -> u8
         return 0;
     }
     1
+}
+
+fn same_across(library: &[u8], text: &[u8], a: u32, b: u32) -> bool
+    ensures { λ r. ⌜ r ≡ same (name-of (joint (now (library .entry)) (now (text .entry))) a) (name-of (joint (now (library .entry)) (now (text .entry))) b) ⌝ }
+{
+    let n = name_size(library, text, a);
+    if n != name_size(library, text, b) {
+        return false;
+    }
+    let mut i = 0;
+    while i < n {
+        let p = name_byte(library, text, a, i);
+        let q = name_byte(library, text, b, i);
+        if p != q {
+            return false;
+        }
+        i += 1;
+    }
+    true
 }
 
 fn called_across(library: &[u8], text: &[u8], a: u32, asked: &[u8]) -> bool
@@ -253,40 +272,6 @@ fn both_behind(text: &[u8], a: u32, b: u32) -> bool
     false
 }
 
-// Of names of the library it is told how many bytes they have in common up to the first digit; of others nothing is passed over.
-fn plain_elsewhere(library: &[u8], text: &[u8], a: u32, b: u32) -> usize
-    ensures { λ r. ⌜ compared (name-of (joint (now (library .entry)) (now (text .entry))) a) (name-of (joint (now (library .entry)) (now (text .entry))) b) ≡ compared (drop r (name-of (joint (now (library .entry)) (now (text .entry))) a)) (drop r (name-of (joint (now (library .entry)) (now (text .entry))) b)) ⌝ }
-{
-    if both_behind(text, a, b) {
-        let by = text.len() as u32 * 64;
-        return super::plain_front(library, a - by, b - by);
-    }
-    0
-}
-
-// So many bytes of two names need not be looked at again.
-fn plain_front(library: &[u8], text: &[u8], a: u32, b: u32) -> usize
-    ensures { λ r. ⌜ compared (name-of (joint (now (library .entry)) (now (text .entry))) a) (name-of (joint (now (library .entry)) (now (text .entry))) b) ≡ compared (drop r (name-of (joint (now (library .entry)) (now (text .entry))) a)) (drop r (name-of (joint (now (library .entry)) (now (text .entry))) b)) ⌝ }
-{
-    if have_room(text, a, b) {
-        let x = (a / 64) as usize;
-        let y = (b / 64) as usize;
-        let n = x + name_room(a);
-        let m = y + name_room(b);
-        return plain_size(&text[x..n], &text[y..m]);
-    }
-    // handed on as parts, so that what is here stays in registers
-    plain_elsewhere(&library[0..], &text[0..], a, b)
-}
-
-// 1 if a and b are the same name, 0 if a comes first, 2 if b does. They are compared where they stand in the texts.
-pub fn compare(library: &[u8], text: &[u8], a: u32, b: u32) -> u8
-    ensures { λ r. ⌜ r ≡ compared (name-of (joint (now (library .entry)) (now (text .entry))) a) (name-of (joint (now (library .entry)) (now (text .entry))) b) ⌝ }
-{
-    let from = plain_front(library, text, a, b);
-    compare_from(library, text, a, b, from)
-}
-
 // Names of the library are looked at there, and all others byte by byte.
 fn same_elsewhere(library: &[u8], text: &[u8], a: u32, b: u32) -> bool
     ensures { λ r. ⌜ r ≡ same (name-of (joint (now (library .entry)) (now (text .entry))) a) (name-of (joint (now (library .entry)) (now (text .entry))) b) ⌝ }
@@ -295,7 +280,43 @@ fn same_elsewhere(library: &[u8], text: &[u8], a: u32, b: u32) -> bool
         let by = text.len() as u32 * 64;
         return super::same_name(library, a - by, b - by);
     }
-    compare_from(library, text, a, b, 0) == 1
+    same_across(library, text, a, b)
+}
+
+// Names of the library are compared there as far as that tells, and all others element by element.
+fn compare_elsewhere(library: &[u8], text: &[u8], a: u32, b: u32) -> u8
+    ensures { λ r. ⌜ r ≡ compared (name-of (joint (now (library .entry)) (now (text .entry))) a) (name-of (joint (now (library .entry)) (now (text .entry))) b) ⌝ }
+{
+    // called twice, it stays out of `same_name`, which then is inlined where it is called
+    if same_elsewhere(library, text, a, b) {
+        return 1;
+    }
+    if both_behind(text, a, b) {
+        let by = text.len() as u32 * 64;
+        let c = super::compare_at_once(library, a - by, b - by);
+        if c < 3 {
+            return c;
+        }
+    }
+    compare_across(library, text, a, b)
+}
+
+// 1 if a and b are the same name, 0 if a comes first, 2 if b does. They are compared where they stand in the texts.
+pub fn compare(library: &[u8], text: &[u8], a: u32, b: u32) -> u8
+    ensures { λ r. ⌜ r ≡ compared (name-of (joint (now (library .entry)) (now (text .entry))) a) (name-of (joint (now (library .entry)) (now (text .entry))) b) ⌝ }
+{
+    if have_room(text, a, b) {
+        let x = (a / 64) as usize;
+        let y = (b / 64) as usize;
+        let n = x + name_room(a);
+        let m = y + name_room(b);
+        let c = compare_names(&text[x..n], &text[y..m]);
+        if c < 3 {
+            return c;
+        }
+    }
+    // handed on as parts, so that what is here stays in registers
+    compare_elsewhere(&library[0..], &text[0..], a, b)
 }
 
 // Are a and b the same name? One word is one name, with no look at the texts.

@@ -3,12 +3,14 @@
 pub mod joint;
 
 ghost use mathlib.Core.Path.{_≡_};
-ghost use Prim.Native.Nat.{_/_, min};
-ghost use lib.ListN.{length, getD};
+ghost use mathlib.Core.Bool.{true, _&&_};
+ghost use Prim.Native.Nat.{_+_, _/_, _<_, min};
+ghost use lib.Dec.{ltb};
+ghost use lib.ListN.{length, getD, drop};
 ghost use Rattle.meaning.specs.Names.{same, is-digit};
 ghost use Rattle.meaning.specs.Tokens.{is-word, run-end, at-hyphen, at-word};
 ghost use Rattle.names.specs.Word.{name-of, bytes-compared};
-ghost use Rattle.names.specs.Runs.{plain-size};
+ghost use Rattle.names.specs.Runs.{digits-of, is-zero, plain-size, Seen, Decides};
 
 // The byte at i, and 0 past the end.
 pub fn byte_at(text: &[u8], i: usize) -> u8
@@ -113,11 +115,11 @@ pub fn compare_bytes(a: &[u8], b: &[u8]) -> u8
     1
 }
 
-// How many bytes a and b have in common from the first on, up to the first digit.
-fn plain_size(a: &[u8], b: &[u8]) -> usize
-    ensures { λ r. ⌜ r ≡ plain-size (now (a .entry)) (now (b .entry)) ⌝ }
+// Past the bytes from `at` on that two names have in common and that are no digits.
+fn plain_end(a: &[u8], b: &[u8], at: usize) -> usize
+    ensures { λ r. ⌜ r ≡ at + plain-size (drop at (now (a .entry))) (drop at (now (b .entry))) ⌝ }
 {
-    let mut i = 0;
+    let mut i = at;
     while i < a.len() {
         if b.len() <= i {
             return i;
@@ -131,6 +133,115 @@ fn plain_size(a: &[u8], b: &[u8]) -> usize
         i += 1;
     }
     i
+}
+
+// Past the digits from `at` on.
+fn digits_end(text: &[u8], at: usize) -> usize
+    ensures { λ r. ⌜ r ≡ at + digits-of (drop at (now (text .entry))) ⌝ }
+{
+    let mut i = at;
+    while i < text.len() {
+        if is_digit(text[i]) {
+            i += 1;
+        } else {
+            return i;
+        }
+    }
+    i
+}
+
+// Has the run of digits from i up to e a zero in front of another digit?
+fn has_zeros(text: &[u8], i: usize, e: usize) -> bool
+    requires { ⌜ i < length (now text) ⌝ }
+    ensures { λ r. ⌜ r ≡ (ltb (i + 1) e && is-zero (getD (now (text .entry)) i 0)) ⌝ }
+{
+    if i + 1 < e {
+        return byte_at(text, i) == b'0';
+    }
+    false
+}
+
+// The runs of digits from i on: 0 if a's comes first, 2 if b's does, 4 if they are the same, 3 where zeros must be looked at.
+fn compare_numbers(a: &[u8], b: &[u8], i: usize) -> u8
+    requires { ⌜ i < length (now a) ⌝ }
+    requires { ⌜ i < length (now b) ⌝ }
+    requires { ⌜ is-digit (getD (now a) i 0) ≡ true ⌝ }
+    requires { ⌜ is-digit (getD (now b) i 0) ≡ true ⌝ }
+    ensures { λ r. ⌜ Decides (drop i (now (a .entry))) (drop i (now (b .entry))) r ⌝ }
+{
+    let e = digits_end(a, i);
+    let f = digits_end(b, i);
+    if has_zeros(a, i, e) {
+        return 3;
+    }
+    if has_zeros(b, i, f) {
+        return 3;
+    }
+    if e < f {
+        return 0;
+    }
+    if f < e {
+        return 2;
+    }
+    let c = compare_bytes(&a[i..e], &b[i..f]);
+    if c == 1 {
+        return 4;
+    }
+    c
+}
+
+// The elements at i: 0 if a's comes first, 2 if b's does, 4 if they are the same run, 3 where zeros must be looked at.
+fn compare_first(a: &[u8], b: &[u8], i: usize) -> u8
+    requires { ⌜ i < length (now a) ⌝ }
+    requires { ⌜ i < length (now b) ⌝ }
+    ensures { λ r. ⌜ Decides (drop i (now (a .entry))) (drop i (now (b .entry))) r ⌝ }
+{
+    let p = a[i];
+    let q = b[i];
+    if is_digit(p) {
+        if is_digit(q) {
+            return compare_numbers(a, b, i);
+        }
+        return 0;
+    }
+    if is_digit(q) {
+        return 2;
+    }
+    if p < q {
+        return 0;
+    }
+    if q < p {
+        return 2;
+    }
+    3
+}
+
+// Which of two names comes first, or 1 if they are the same, where no run with a zero in front must be looked at; else 3.
+fn compare_names(a: &[u8], b: &[u8]) -> u8
+    ensures { λ r. ⌜ Seen (now (a .entry)) (now (b .entry)) r ⌝ }
+{
+    let mut i = 0;
+    while i < a.len() {
+        let j = plain_end(a, b, i);
+        if b.len() <= j {
+            if j < a.len() {
+                return 2;
+            }
+            return 1;
+        }
+        if a.len() <= j {
+            return 0;
+        }
+        let c = compare_first(a, b, j);
+        if c < 4 {
+            return c;
+        }
+        i = digits_end(a, j);
+    }
+    if i < b.len() {
+        return 0;
+    }
+    1
 }
 
 fn lesser(a: usize, b: usize) -> usize
@@ -154,15 +265,15 @@ fn name_length(text: &[u8], w: u32) -> usize
     lesser(lesser((w % 64) as usize, 40), left)
 }
 
-// How many bytes two names have in common from the first on, up to the first digit.
-pub fn plain_front(text: &[u8], a: u32, b: u32) -> usize
-    ensures { λ r. ⌜ r ≡ plain-size (name-of (now (text .entry)) a) (name-of (now (text .entry)) b) ⌝ }
+// Which of two names comes first, where that is seen at once.
+pub fn compare_at_once(text: &[u8], a: u32, b: u32) -> u8
+    ensures { λ r. ⌜ Seen (name-of (now (text .entry)) a) (name-of (now (text .entry)) b) r ⌝ }
 {
     let x = name_start(text, a);
     let y = name_start(text, b);
     let n = x + name_length(text, a);
     let m = y + name_length(text, b);
-    plain_size(&text[x..n], &text[y..m])
+    compare_names(&text[x..n], &text[y..m])
 }
 
 // Are a and b the same name? One word is one name, with no look at the text.

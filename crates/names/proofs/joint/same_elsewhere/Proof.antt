@@ -16,6 +16,6 @@ same-elsewhere-spec =
     (λ c. search cases)  -- sub-same-name-2
     (λ c κs. search needs)  -- same-name-requires
     (λ c. search cases)  -- returns
-    (λ c κs. search needs)  -- compare-from-requires
-    (λ c. search cases)  -- returns-2
+    (λ c κs. search needs)  -- same-across-requires
+    (λ c. search needs)  -- returns-2
     )

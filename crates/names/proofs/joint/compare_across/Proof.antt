@@ -1,4 +1,4 @@
--- `names::joint::compare_from` meets its contract.
+-- `names::joint::compare_across` meets its contract.
 -- Assumes nothing.
 use Prim.Native.Nat.{_-_}
 use mathlib.Core.Path.{_≡_}
@@ -7,18 +7,18 @@ use Rattle.names.specs.Word.{name-of, compared}
 use Rattle.names.specs.Joint.{joint}
 use Rattle.names.proofs.Auto.{on, done}
 use Rattle.names.proofs.Elements.{cases, left-on}
-use Rattle.names.proofs.joint.compare_from.Statement.{statement}
-use Rattle.names.proofs.joint.compare_from.Tie as tie
+use Rattle.names.proofs.joint.compare_across.Statement.{statement}
+use Rattle.names.proofs.joint.compare_across.Tie as tie
 
 abbrev Inv-loop : tie.InvT-loop
-Inv-loop library text a b from n m i₀ i = compared (drop from (name-of (joint library text) a)) (drop from (name-of (joint library text) b))
+Inv-loop library text a b n m i₀ i = compared (name-of (joint library text) a) (name-of (joint library text) b)
     ≡ compared (drop i (name-of (joint library text) a)) (drop i (name-of (joint library text) b))
 
 abbrev μ-loop : tie.MeasureT-loop
-μ-loop library text a b from n m i₀ i = n - i
+μ-loop library text a b n m i₀ i = n - i
 
-pub compare-from-spec : {M : Type 1} → statement M
-compare-from-spec =
+pub compare-across-spec : {M : Type 1} → statement M
+compare-across-spec =
     tie.close
     (tie.spec
     Inv-loop

@@ -1,4 +1,4 @@
--- `names::plain_size` meets its contract.
+-- `names::plain_end` meets its contract.
 -- Assumes nothing.
 use Prim.Native.Nat.{_+_, _-_}
 use mathlib.Core.Path.{_≡_}
@@ -6,17 +6,17 @@ use lib.ListN.{length, drop}
 use Rattle.names.specs.Runs.{plain-size}
 use Rattle.names.proofs.Auto.{on, done}
 use Rattle.names.proofs.Elements.{cases}
-use Rattle.names.proofs.plain_size.Statement.{statement}
-use Rattle.names.proofs.plain_size.Tie as tie
+use Rattle.names.proofs.plain_end.Statement.{statement}
+use Rattle.names.proofs.plain_end.Tie as tie
 
 abbrev Inv-loop : tie.InvT-loop
-Inv-loop a b i₀ i = plain-size a b ≡ i + plain-size (drop i a) (drop i b)
+Inv-loop a b at i₀ i = at + plain-size (drop at a) (drop at b) ≡ i + plain-size (drop i a) (drop i b)
 
 abbrev μ-loop : tie.MeasureT-loop
-μ-loop a b i₀ i = length a - i
+μ-loop a b at i₀ i = length a - i
 
-pub plain-size-spec : {M : Type 1} → statement M
-plain-size-spec =
+pub plain-end-spec : {M : Type 1} → statement M
+plain-end-spec =
     tie.close
     (tie.spec
     Inv-loop
