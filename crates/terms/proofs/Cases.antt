@@ -1,11 +1,9 @@
 -- The cases of terms, one for each way through the code: f, q and u come of callees.
-use mathlib.Core.Path.{_≡_, refl, sym, _∙_}
+use mathlib.Core.Path.{_≡_, refl}
 use mathlib.Core.Bool.{Bool, true, false}
 use mathlib.Core.List.{List}
 use Prim.Native.Nat.{ℕ, zero, suc, _+_, _-_, _<_, _≤_}
 use native.Mathlib.Numerals.{sub-one, add-one}
-use native.Mathlib.Omega.{arith}
-use lib.ListN.{length}
 use borrow.Author.Needs.{needs}
 use borrow.Author.Tests.{eq-eqb, ne-eqb, le-leb, lt-leb}
 use Rattle.types.specs.declared.Token.{Token}
@@ -16,11 +14,10 @@ use Rattle.entries.specs.declared.Place.{Place}
 use Rattle.entries.specs.declared.Reading.{Reading}
 use Rattle.entries.specs.declared.Reading.the-variants.{Done}
 use Rattle.tape.specs.Tape.{close-role}
-use Rattle.entries.specs.Model.{Out, out, place, Writer, onward, _>>_, stay, refuse, unexpected, if-next, mark, step, expect, name, node-role, counted-name, term-name, term-by, in-brackets, separated, term, no-nodes}
+use Rattle.entries.specs.Model.{Out, out, place, Writer, onward, _>>_, stay, refuse, if-next, mark, expect, name, node-role, counted-name, term-name, term-by, in-brackets, separated, term, no-nodes}
 use Rattle.entries.specs.Steps.{still, Quiet, next-passes}
 use Rattle.entries.proofs.Laws.{then, then-still, quietly, stays, next-yes, next-no, refuse-quiet, expect-quiet}
 use Rattle.entries.proofs.Cases.{refused-onward, refused-still}
-use Rattle.entries.proofs.Lists.{begins-loop, separated-again, separated-ends, separated-full, separated-bad}
 
 -- what a name is, by the token after it
 module _ (s : List ℕ) (t u : Token) (g : u ≡ token-at s (t .end)) where
@@ -120,29 +117,4 @@ module _ (s : List ℕ) (d : ℕ) (r : Reading) (t : List ℕ) (b : Bool) (e : b
             let items = separated s 8 44 begins-term (term s d) in
             then f i v u o (in-brackets s items) (mark close-role) (bracketed s f a q i v u items g (rw sub-one at w) j) m
 
--- arguments, of which l more may come
-module _ (s : List ℕ) (d l : ℕ) (r : Reading) (t : List ℕ) where
-  items : Writer
-  items = separated s l 44 begins-term (term s d)
-
-  module _ (z : l ≡ 0) (b : Bool) (e : b ≡ next-passes begins-term r) (q : Reading) where
-    pub arguments-full : b ≡ true → q ≡ still (refuse 4) r → out q t ≡ onward r t (separated s l 44 begins-term (term s d))
-    unfolding items
-    arguments-full y h = separated-full items r t s l begins-term (term s d) r t 44 (begins-loop items r t) (omega arith) b e q y h
-
-    pub arguments-bad : b ≡ false → q ≡ still unexpected r → out q t ≡ onward r t (separated s l 44 begins-term (term s d))
-    unfolding items
-    arguments-bad y h = separated-bad items r t s l begins-term (term s d) r t 44 (begins-loop items r t) (omega arith) b e q y h
-
-  module _ (z : l ≡ 0 → ⊥) (q : Reading) (u : List ℕ) (h : out q u ≡ onward r t (term s d)) (b : Bool) (e : b ≡ next-passes (is 44) q) where
-    pub arguments-last : b ≡ false → out q u ≡ onward r t (separated s l 44 begins-term (term s d))
-    unfolding items
-    arguments-last y = separated-ends items r t s l begins-term (term s d) r t 44 (begins-loop items r t) (omega arith) q u h b e y
-
-    pub arguments-more : (a : Reading) (o : Out) → b ≡ true → a ≡ still (step s) q → length u ≡ length t
-        → o ≡ onward a u (separated s (l - 1) 44 begins-term (term s d)) → o ≡ onward r t (separated s l 44 begins-term (term s d))
-    unfolding items
-    arguments-more a o y g k w =
-        w ∙ sym (separated-again items r t s l begins-term (term s d) r t 44 (begins-loop items r t) (omega arith) q u h b e a y g k .comes)
-
-pub ruleset cases = (nodes-none, nodes-quiet, refused-still, role-head, role-alone, counted-full, counted-more, refused-onward, term-deep, term-inner, term-alone, term-deep-too, term-applied, arguments-full, arguments-bad, arguments-last, arguments-more, needs)
+pub ruleset cases = (nodes-none, nodes-quiet, refused-still, role-head, role-alone, counted-full, counted-more, refused-onward, term-deep, term-inner, term-alone, term-deep-too, term-applied, needs)

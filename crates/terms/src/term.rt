@@ -92,16 +92,19 @@ pub fn read_term(text: &[u8], tape: &mut [u32], at: Reading, depth: usize) -> Re
 fn read_arguments(text: &[u8], tape: &mut [u32], at: Reading, depth: usize, left: usize) -> Reading
     ensures { λ r. ⌜ out r (now (tape .exit)) ≡ onward at (now (tape .entry)) (separated (now (text .entry)) left (byte ",") begins-term (term (now (text .entry)) depth)) ⌝ }
 {
-    if left == 0 {
-        if begins_term(at) {
-            return refuse(at, numbers::OVER_SIZE);
+    let mut here = at;
+    let mut rest = left;
+    while 0 < rest {
+        let read = read_term(text, tape, here, depth);
+        if next_is(read, b',') {
+            here = step(text, read);
+            rest -= 1;
+        } else {
+            return read;
         }
-        return unexpected(at);
     }
-    let a = read_term(text, tape, at, depth);
-    if next_is(a, b',') {
-        let b = step(text, a);
-        return read_arguments(text, tape, b, depth, left - 1);
+    if begins_term(here) {
+        return refuse(here, numbers::OVER_SIZE);
     }
-    a
+    unexpected(here)
 }

@@ -1,6 +1,12 @@
--- The cycle of calls `terms::term::read_arguments`, `terms::term::read_term` meets its contracts. Ten for each bracket that may still open, and
--- one for each argument that is left: a term is below its arguments, and those one bracket deeper are below it.
+-- The cycle of calls `terms::term::read_arguments`, `terms::term::read_term` meets its contracts. Two for each bracket that may still open, and
+-- one more for arguments: a term is below its arguments, and those one bracket deeper are below it. The arguments' loop keeps what is to be read:
+-- what was at first comes to what is now.
 -- Assumes nothing.
+use Rattle.entries.specs.Model.{separated, term}
+use Rattle.meaning.specs.Names.{byte}
+use Rattle.meaning.specs.Grammar.{begins-term}
+use Rattle.entries.proofs.Lists.{Comes, loops, sized}
+use borrow.Author.Needs.{needs}
 use Rattle.terms.proofs.Cases.{cases}
 use Prim.Native.Nat.{ℕ, _+_, _*_, _<_}
 use borrow.Fn.Kinds.{In}
@@ -23,10 +29,10 @@ use Rattle.terms.proofs.term.+read_arguments+read_term.{statement}
 use Rattle.terms.proofs.term.+read_arguments+read_term.Tie.{close}
 
 abbrev μ-read-arguments : Measures 2 read-arguments-kinds.ps ℕ
-μ-read-arguments κs a = a .1 .1 .1 .0 * 10 + a .1 .1 .1 .1 .0 + 1
+μ-read-arguments κs a = a .1 .1 .1 .0 * 2 + 1
 
 abbrev μ-read-term : Measures 2 read-term-kinds.ps ℕ
-μ-read-term κs a = a .1 .1 .1 .0 * 10
+μ-read-term κs a = a .1 .1 .1 .0 * 2
 
 abbrev read-arguments-at : ℕ → In 2 read-arguments-kinds.ps
 read-arguments-at t =
@@ -51,39 +57,50 @@ abbrev read-term-below : ℕ → In 2 read-term-kinds.ps
 read-term-below t =
     and 2 read-term-kinds.ps (falls 2 read-term-kinds.ps _<_ μ-read-term t) read-term.Pre
 
+abbrev read-arguments-Inv-loop : read-arguments-lts.InvT-loop
+read-arguments-Inv-loop text tape₀ depth left here₀ rest₀ tape here rest =
+    Comes (separated text left (byte ",") begins-term (term text depth))
+    (separated text rest (byte ",") begins-term (term text depth))
+    here₀ tape₀ here tape
+
+abbrev read-arguments-μ-loop : read-arguments-lts.MeasureT-loop
+read-arguments-μ-loop text tape₀ depth left here₀ rest₀ tape here rest = rest
+
 pub +read-arguments+read-term-spec : {M : Type 1} → statement M
 +read-arguments+read-term-spec = close μ-read-arguments μ-read-term (λ t. read-arguments-lts.spec (
-  begins-term-reads.Asked,
-  begins-term-reads.Learnt,
-  refuse-reads.Asked,
-  refuse-reads.Learnt,
-  unexpected-reads.Asked,
-  unexpected-reads.Learnt,
   read-term-below t,
   read-term.Post,
   next-is-reads.Asked,
   next-is-reads.Learnt,
   step-reads.Asked,
   step-reads.Learnt,
-  read-arguments-below t,
-  read-arguments.Post,
+  begins-term-reads.Asked,
+  begins-term-reads.Learnt,
+  refuse-reads.Asked,
+  refuse-reads.Learnt,
+  unexpected-reads.Asked,
+  unexpected-reads.Learnt,
 )
     (read-arguments-at t)
     read-arguments.Post
-    (λ c κs. search cases)  -- read-arguments-begins-term-requires
-    (λ c κs. search cases)  -- read-arguments-refuse-requires
-    (λ c. search cases)  -- read-arguments-returns
-    (λ c κs. search cases)  -- read-arguments-unexpected-requires
-    (λ c. search cases)  -- read-arguments-returns-2
-    (λ c κs. search cases)  -- read-arguments-read-term-requires
-    (λ c κs. search cases)  -- read-arguments-next-is-requires
-    (λ c κs. search cases)  -- read-arguments-step-requires
-    (λ c. search cases)  -- read-arguments-sub-read-arguments
-    (λ c κs. search cases)  -- read-arguments-read-arguments-requires
-    (λ c. search cases)  -- read-arguments-same-length
-    (λ c. search cases)  -- read-arguments-returns-3
-    (λ c. search cases)  -- read-arguments-same-length-2
-    (λ c. search cases)  -- read-arguments-returns-4
+    read-arguments-Inv-loop
+    read-arguments-μ-loop
+    (λ c. search loops)  -- read-arguments-loop-holds
+    (λ c κs. search needs)  -- read-arguments-read-term-requires
+    (λ c κs. search needs)  -- read-arguments-next-is-requires
+    (λ c κs. search needs)  -- read-arguments-step-requires
+    (λ c. search needs)  -- read-arguments-sub-rest
+    (λ c. search needs)  -- read-arguments-loop-less
+    (λ c. search loops)  -- read-arguments-loop-again
+    (λ c. search (sized, needs))  -- read-arguments-same-length
+    (λ c. search loops)  -- read-arguments-returns
+    (λ c κs. search needs)  -- read-arguments-begins-term-requires
+    (λ c κs. search needs)  -- read-arguments-refuse-requires
+    (λ c. search (sized, needs))  -- read-arguments-same-length-2
+    (λ c. search loops)  -- read-arguments-returns-2
+    (λ c κs. search needs)  -- read-arguments-unexpected-requires
+    (λ c. search (sized, needs))  -- read-arguments-same-length-3
+    (λ c. search loops)  -- read-arguments-returns-3
     )
     λ t. read-term-lts.spec (
       next-is-reads.Asked,
