@@ -35,7 +35,7 @@ pub fn is_word(b: u8) -> bool
     b == b'\''
 }
 
-pub fn is_digit(b: u8) -> bool
+fn is_digit(b: u8) -> bool
     ensures { λ r. ⌜ r ≡ is-digit b ⌝ }
 {
     if b'0' <= b {
@@ -238,10 +238,10 @@ fn compare_names(a: &[u8], b: &[u8]) -> u8
         }
         i = digits_end(a, j);
     }
-    if i < b.len() {
-        return 0;
+    if b.len() <= i {
+        return 1;
     }
-    1
+    0
 }
 
 fn lesser(a: usize, b: usize) -> usize
@@ -266,7 +266,7 @@ fn name_length(text: &[u8], w: u32) -> usize
 }
 
 // Which of two names comes first, where that is seen at once.
-pub fn compare_at_once(text: &[u8], a: u32, b: u32) -> u8
+fn compare_at_once(text: &[u8], a: u32, b: u32) -> u8
     ensures { λ r. ⌜ Seen (name-of (now (text .entry)) a) (name-of (now (text .entry)) b) r ⌝ }
 {
     let x = name_start(text, a);
