@@ -1,7 +1,7 @@
 #!/usr/bin/env bash
 # Tests the archive in build/library from C and from Rust, and compares it with the reference on so many seeds (library_tests.sh [SEEDS [FIRST]]);
 # on a third as many it must answer the same however the modules are divided between library and customer's text. At the end it measures the
-# stack: no call may take more than 4 KB.
+# stack: no call may take more than 16 KB.
 set -euo pipefail
 cd "$(dirname "$0")/.."
 seeds=${1:-5000} first=${2:-0}
