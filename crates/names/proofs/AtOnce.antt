@@ -1,30 +1,24 @@
 -- Laws of names compared on slices as far as that is seen at once, in the code's terms.
 use mathlib.Core.Path.{_≡_, refl, sym, ap, ap₂, _∙_}
-use mathlib.Core.Bool.{Bool, true, false, _&&_}
+use mathlib.Core.Bool.{Bool, true, false}
 use mathlib.Core.List.{List, _∷_}
-use Prim.Native.Nat.{ℕ, suc, _+_, _-_, _<_, _≤_}
+use Prim.Native.Nat.{ℕ, suc, _+_, _-_, _*_, _^_, _<_, _≤_}
 use native.Mathlib.Omega.{arith}
-use native.Mathlib.Nat.{add-zero}
-use lib.Dec.{eqb, ltb}
-use lib.ListN.{length, getD, take, drop, length-drop}
-use lib.Seq.{drop-cons, drop-drop, getD-drop}
+use native.Mathlib.Numerals.{add-one}
+use lib.Dec.{ltb}
+use lib.ListN.{length, getD, take, drop, length-drop, drop-of-length-le}
+use lib.Seq.{drop-cons, drop-drop}
 use borrow.Author.Needs.{needs}
-use borrow.Author.Tests.{lt-ltb, le-ltb, ltb-true, ltb-false}
+use borrow.Author.Tests.{lt-ltb, ltb-true, ltb-false, ne-eqb}
+use mir.Syntax.{w64}
+use mir.Val.{Fits}
 use Rattle.meaning.specs.Lists.{pick}
 use Rattle.meaning.specs.Names.{same, bytes-not-after, is-digit}
-use Rattle.names.specs.Word.{compared, bytes-compared}
-use Rattle.names.specs.Runs.{digits-of, by-size, runs-compared, plain-size, is-zero, has-zeros, Seen, Decides}
-use Rattle.names.specs.RunLaws.{digits-length, size-less, size-more, size-level, digit-begins, other-less, other-more, run-first, run-second, runs-decide, runs-pass, runs-level}
-use Rattle.names.specs.Canonical.{canonical-runs}
+use Rattle.runs.specs.Orders.{compared, bytes-compared}
+use Rattle.runs.specs.Runs.{leading, digits-of, by-size, runs-compared, plainly-compared, plain-size, has-zeros, Seen, Decides}
+use Rattle.runs.specs.RunLaws.{in-cases, size-alike, bytes-step, digits-length, size-less, size-more, size-level, digit-begins, other-less, other-more, run-first, run-second, runs-decide, runs-pass, runs-level}
+use Rattle.runs.specs.Canonical.{canonical-runs}
 use Rattle.names.proofs.Elements.{leads-on, leads-stop, leads-end, plain-on-from, left-longer, left-shorter, left-none}
-
--- two tests that hold together
-same-test : (n m i j : ℕ) → (n < m → i < j) → (m ≤ n → j ≤ i) → ltb n m ≡ ltb i j
-same-test n m i j f g = go (ltb n m) refl
-  where
-    go : (t : Bool) → ltb n m ≡ t → ltb n m ≡ ltb i j
-    go true e = e ∙ sym (lt-ltb i j (f (ltb-true n m e)))
-    go false e = e ∙ sym (le-ltb i j (g (ltb-false n m e)))
 
 bytes-few : (x y : List ℕ) → bytes-compared x y < 3
 unfolding bytes-compared pick
@@ -34,6 +28,13 @@ bytes-few x y = go (same x y) (bytes-not-after x y)
     go true t = omega arith
     go false true = omega arith
     go false false = omega arith
+
+plainly-few : (x y : List ℕ) → plainly-compared x y < 3
+unfolding plainly-compared
+plainly-few x y =
+    let n = digits-of x in
+    let m = digits-of y in
+    in-cases n m (λ h. rw (size-less h) (omega arith)) (λ h. rw (size-more h) (omega arith)) (λ h. rw (size-level h) (bytes-few (take n x) (take m y)))
 
 -- ---- a loop over digits is at e: s tells whether one stands there
 
@@ -47,24 +48,118 @@ module _ (a : List ℕ) (e : ℕ) (s : Bool) (es : s ≡ is-digit (getD a e 0)) 
 pub run-over : (a : List ℕ) (e : ℕ) → length a ≤ e → e + digits-of (drop e a) ≡ e
 run-over a e h = leads-end is-digit a (length a) e 0 refl h
 
--- ---- runs from i on, on slices: e and f are past their digits, s and t tell of zeros in front
+-- ---- a digit at i, or none: s tells
 
-module _ (a : List ℕ) (i e : ℕ) where
-  pub zeros-there : (b : ℕ) → i + 1 < e → b ≡ getD a i 0 → eqb b 48 ≡ (ltb (i + 1) e && is-zero (getD a i 0))
-  zeros-there b h f = rw (lt-ltb (i + 1) e h) (ap is-zero f)
+module _ (a : List ℕ) (i : ℕ) where
+  pub digit-there : (s : Bool) → i < length a → s ≡ is-digit (getD a i 0) → s ≡ ltb 0 (digits-of (drop i a))
+  unfolding leading pick
+  digit-there s h e = e ∙ rw (drop-cons a i 0) (go (is-digit (getD a i 0)))
+    where
+      go : (d : Bool) → d ≡ ltb 0 (pick d (suc (digits-of (drop (suc i) a))) 0)
+      go true = sym (lt-ltb 0 (suc (digits-of (drop (suc i) a))) (omega arith))
+      go false = refl
 
-  pub run-end-within : i < length a → e ≡ i + digits-of (drop i a) → e ≤ length a
-  run-end-within h ee = omega (arith, digits-length (drop i a), length-drop i a)
+  pub digit-past : length a ≤ i → false ≡ ltb 0 (digits-of (drop i a))
+  unfolding leading
+  digit-past l = rw (drop-of-length-le a l)
 
-  pub zeros-not : e ≤ i + 1 → false ≡ (ltb (i + 1) e && is-zero (getD a i 0))
-  zeros-not h = rw (le-ltb (i + 1) e h)
+  module _ (s : Bool) (e : s ≡ ltb 0 (digits-of (drop i a))) where
+    run-none : s ≡ false → digits-of (drop i a) ≡ 0
+    run-none f = omega (arith, ltb-false 0 (digits-of (drop i a)) (sym e ∙ f))
 
-  zeros-so : (s : Bool) → e ≡ i + digits-of (drop i a) → s ≡ (ltb (i + 1) e && is-zero (getD a i 0)) → has-zeros (drop i a) ≡ s
-  unfolding has-zeros
-  zeros-so s ee es =
-      let byte : getD (drop i a) 0 0 ≡ getD a i 0 = getD-drop i a 0 0 ∙ ap (λ (k : ℕ). getD a k 0) (add-zero i) in
-      let d = digits-of (drop i a) in
-      sym (es ∙ ap₂ (λ (u v : Bool). u && v) (same-test (i + 1) e 1 d (λ h. omega (arith, h, ee)) (λ h. omega (arith, h, ee))) (ap is-zero (sym byte)))
+    module _ (t : s ≡ true) where
+      run-some : 0 < digits-of (drop i a)
+      run-some = ltb-true 0 (digits-of (drop i a)) (sym e ∙ t)
+
+      pub digit-within : i < length a
+      digit-within = omega (arith, run-some, digits-length (drop i a), length-drop i a)
+
+      pub digit-less : length a - (i + 1) < length a - i
+      digit-less = omega (arith, digit-within)
+
+      pub digit-fits : length a * 1 < 2 ^ 63 → Fits w64 (i + 1)
+      digit-fits l = omega (arith, digit-within)
+
+      run-goes : digits-of (drop i a) ≡ suc (digits-of (drop (i + 1) a))
+      unfolding leading pick
+      run-goes = rw (drop-cons a i 0 digit-within, add-one) (go (is-digit (getD a i 0)) (rw (drop-cons a i 0 digit-within) at run-some))
+        where
+          go : (d : Bool) → 0 < pick d (suc (digits-of (drop (suc i) a))) 0
+              → pick d (suc (digits-of (drop (suc i) a))) 0 ≡ suc (digits-of (drop (suc i) a))
+          go true h = refl
+          go false h = absurd (omega arith)
+
+      run-text : take (digits-of (drop i a)) (drop i a) ≡ getD a i 0 ∷ take (digits-of (drop (i + 1) a)) (drop (i + 1) a)
+      run-text = rw run-goes (rw (drop-cons a i 0 digit-within, add-one))
+
+-- ---- zeros in front: s tells of a digit behind the byte at i
+
+module _ (a : List ℕ) (i : ℕ) (h : i < length a) where
+  pub zeros-there : (s : Bool) → getD a i 0 ≡ 48 → s ≡ ltb 0 (digits-of (drop (i + 1) a)) → s ≡ has-zeros (drop i a)
+  unfolding has-zeros pick
+  zeros-there s z e = e ∙ rw (drop-cons a i 0, z, add-one)
+
+  pub zeros-not : (getD a i 0 ≡ 48 → ⊥) → false ≡ has-zeros (drop i a)
+  unfolding has-zeros pick
+  zeros-not z = rw (drop-cons a i 0, ne-eqb (getD a i 0) 48 z)
+
+-- ---- a loop over the digits of both is at i: s and t tell of a digit there
+
+module _ (a b : List ℕ) (i : ℕ) (s t : Bool) (es : s ≡ ltb 0 (digits-of (drop i a))) (et : t ≡ ltb 0 (digits-of (drop i b))) where
+  -- one goes on alone, or none does
+  module _ (level : ℕ) where
+    pub sizes-first : s ≡ true → t ≡ false → by-size (digits-of (drop i a)) (digits-of (drop i b)) level ≡ 2
+    sizes-first u v = rw (run-none b i t et v) (size-more (run-some a i s es u) level)
+
+    pub sizes-second : s ≡ false → t ≡ true → by-size (digits-of (drop i a)) (digits-of (drop i b)) level ≡ 0
+    sizes-second u v = rw (run-none a i s es u) (size-less (run-some b i t et v) level)
+
+    pub sizes-level : s ≡ false → t ≡ false → by-size (digits-of (drop i a)) (digits-of (drop i b)) level ≡ level
+    sizes-level u v = size-level (run-none a i s es u ∙ sym (run-none b i t et v)) level
+
+  pub digits-first : s ≡ true → t ≡ false → plainly-compared (drop i a) (drop i b) ≡ 2
+  unfolding plainly-compared
+  digits-first u v = sizes-first _ u v
+
+  pub digits-second : s ≡ false → t ≡ true → plainly-compared (drop i a) (drop i b) ≡ 0
+  unfolding plainly-compared
+  digits-second u v = sizes-second _ u v
+
+  pub digits-level : s ≡ false → t ≡ false → plainly-compared (drop i a) (drop i b) ≡ 1
+  unfolding plainly-compared bytes-compared same pick
+  digits-level u v = sizes-level _ u v ∙ rw (run-none a i s es u, run-none b i t et v)
+
+  -- both go on
+  module _ (u : s ≡ true) (v : t ≡ true) where
+    pub sizes-on : (level : ℕ) → by-size (digits-of (drop i a)) (digits-of (drop i b)) level
+        ≡ by-size (digits-of (drop (i + 1) a)) (digits-of (drop (i + 1) b)) level
+    sizes-on level =
+        let n = digits-of (drop (i + 1) a) in
+        let m = digits-of (drop (i + 1) b) in
+        rw (run-goes a i s es u, run-goes b i t et v)
+        (size-alike (suc n) (suc m) n m level (λ l. omega arith) (λ l. omega arith) (λ l. omega arith))
+
+    led : plainly-compared (drop i a) (drop i b)
+        ≡ by-size (digits-of (drop (i + 1) a)) (digits-of (drop (i + 1) b)) (by-size (getD a i 0) (getD b i 0)
+        (bytes-compared (take (digits-of (drop (i + 1) a)) (drop (i + 1) a)) (take (digits-of (drop (i + 1) b)) (drop (i + 1) b))))
+    unfolding plainly-compared
+    led = sizes-on _ ∙ rw (run-text a i s es u, run-text b i t et v, bytes-step)
+
+    -- p and q are the bytes there
+    module _ (p q : ℕ) (ep : p ≡ getD a i 0) (eq : q ≡ getD b i 0) where
+      pub digits-less : (r : ℕ) → p < q → r ≡ by-size (digits-of (drop (i + 1) a)) (digits-of (drop (i + 1) b)) 0
+          → plainly-compared (drop i a) (drop i b) ≡ r
+      digits-less r l e = led ∙ rw (← ep, ← eq, size-less l) (sym e)
+
+      pub digits-more : (r : ℕ) → q < p → r ≡ by-size (digits-of (drop (i + 1) a)) (digits-of (drop (i + 1) b)) 2
+          → plainly-compared (drop i a) (drop i b) ≡ r
+      digits-more r l e = led ∙ rw (← ep, ← eq, size-more l) (sym e)
+
+      pub digits-on : q ≤ p → p ≤ q → plainly-compared (drop i a) (drop i b) ≡ plainly-compared (drop (i + 1) a) (drop (i + 1) b)
+      unfolding plainly-compared
+      digits-on l m = led ∙ rw (← ep, ← eq, size-level {n = p} {m = q} (omega arith))
+
+-- ---- runs from i on, on slices: s and t tell of zeros in front
 
 module _ (a b : List ℕ) (i : ℕ) (h : i < length a) (g : i < length b) where
   first-at : drop i a ≡ getD a i 0 ∷ drop (suc i) a
@@ -91,48 +186,26 @@ module _ (a b : List ℕ) (i : ℕ) (h : i < length a) (g : i < length b) where
     digits-b : 0 < digits-of (drop i b)
     digits-b = rw second-at (digit-begins (getD b i 0) (drop (suc i) b) db)
 
-    module _ (e f : ℕ) (s t : Bool) (ee : e ≡ i + digits-of (drop i a)) (ef : f ≡ i + digits-of (drop i b))
-        (es : s ≡ (ltb (i + 1) e && is-zero (getD a i 0))) (et : t ≡ (ltb (i + 1) f && is-zero (getD b i 0))) (ns : s ≡ false) (nt : t ≡ false) where
-      abbrev x : List ℕ
-      x = take (digits-of (drop i a)) (drop i a)
+    module _ (s t : Bool) (es : s ≡ has-zeros (drop i a)) (et : t ≡ has-zeros (drop i b)) (ns : s ≡ false) (nt : t ≡ false)
+        (c : ℕ) (ec : c ≡ plainly-compared (drop i a) (drop i b)) where
+      level : runs-compared (drop i a) (drop i b) ≡ c
+      level = canonical-runs (drop i a) (drop i b) digits-a digits-b (sym es ∙ ns) (sym et ∙ nt) ∙ sym ec
 
-      abbrev y : List ℕ
-      y = take (digits-of (drop i b)) (drop i b)
+      pub number-digits : (c ≡ 1 → ⊥) → Decides (drop i a) (drop i b) c
+      number-digits z =
+          decided-at c (rw ec (plainly-few (drop i a) (drop i b))) (runs-decide (drop i a) (drop i b) digits-a digits-b (λ q. z (sym level ∙ q)) ∙ level)
 
-      canon : runs-compared (drop i a) (drop i b) ≡ by-size (digits-of (drop i a)) (digits-of (drop i b)) (bytes-compared x y)
-      canon = canonical-runs (drop i a) (drop i b) digits-a digits-b (zeros-so a i e s ee es ∙ ns) (zeros-so b i f t ef et ∙ nt)
-
-      decide : (r : ℕ) → r < 3 → (r ≡ 1 → ⊥) → runs-compared (drop i a) (drop i b) ≡ r → Decides (drop i a) (drop i b) r
-      decide r l n q = decided-at r l (runs-decide (drop i a) (drop i b) digits-a digits-b (λ z. n (sym q ∙ z)) ∙ q)
-
-      pub number-less : e < f → Decides (drop i a) (drop i b) 0
-      number-less l = decide 0 (omega arith) (λ z. omega (arith, z)) (canon ∙ size-less {n = digits-of (drop i a)} {m = digits-of (drop i b)} (omega (arith, l, ee, ef)) _)
-
-      pub number-more : f < e → Decides (drop i a) (drop i b) 2
-      number-more l = decide 2 (omega arith) (λ z. omega (arith, z)) (canon ∙ size-more {n = digits-of (drop i a)} {m = digits-of (drop i b)} (omega (arith, l, ee, ef)) _)
-
-      module _ (c : ℕ) (l : e ≤ f) (m : f ≤ e) (ec : c ≡ bytes-compared (take (e - i) (drop i a)) (take (f - i) (drop i b))) where
-        level : runs-compared (drop i a) (drop i b) ≡ c
-        level =
-            let da-size : e - i ≡ digits-of (drop i a) = omega (arith, ee) in
-            let db-size : f - i ≡ digits-of (drop i b) = omega (arith, ef) in
-            canon ∙ size-level {n = digits-of (drop i a)} {m = digits-of (drop i b)} (omega (arith, l, m, ee, ef)) _
-            ∙ sym (ec ∙ ap₂ (λ (u v : ℕ). bytes-compared (take u (drop i a)) (take v (drop i b))) da-size db-size)
-
-        pub number-digits : (c ≡ 1 → ⊥) → Decides (drop i a) (drop i b) c
-        number-digits z = decide c (rw ec (bytes-few _ _)) z level
-
-        pub number-same : c ≡ 1 → Decides (drop i a) (drop i b) 4
-        number-same z =
-            let one = level ∙ z in
-            let sizes = runs-level (drop i a) (drop i b) one in
-            record {
-              few = omega arith;
-              told = λ k. absurd (omega (arith, k));
-              some = λ q. digits-a;
-              passed = λ q. runs-pass (drop i a) (drop i b) digits-a digits-b one
-                  ∙ ap (λ (k : ℕ). compared (drop (digits-of (drop i a)) (drop i a)) (drop k (drop i b))) (sym sizes);
-            }
+      pub number-same : c ≡ 1 → Decides (drop i a) (drop i b) 4
+      number-same z =
+          let one = level ∙ z in
+          let sizes = runs-level (drop i a) (drop i b) one in
+          record {
+            few = omega arith;
+            told = λ k. absurd (omega (arith, k));
+            some = λ q. digits-a;
+            passed = λ q. runs-pass (drop i a) (drop i b) digits-a digits-b one
+                ∙ ap (λ (k : ℕ). compared (drop (digits-of (drop i a)) (drop i a)) (drop k (drop i b))) (sym sizes);
+          }
 
   -- the elements at i: p and q are the bytes there
   module _ (s t : Bool) (es : s ≡ is-digit (getD a i 0)) (et : t ≡ is-digit (getD b i 0)) where
@@ -190,4 +263,4 @@ module _ (a b : List ℕ) (i : ℕ) (v : compared a b ≡ compared (drop i a) (d
   pub seen-over-same : length b ≤ i → Seen a b 1
   seen-over-same h = record { told = λ k. v ∙ left-none a b (length a) (length b) i refl refl l h }
 
-pub ruleset cases = (run-on, run-stop, run-over, zeros-there, zeros-not, run-end-within, not-seen, number-less, number-more, number-digits, number-same, run-in-front, run-behind, byte-less, byte-more, digit-so, seen-longer, seen-same, seen-shorter, seen-first, seen-on, seen-less, seen-over-shorter, seen-over-same, needs)
+pub ruleset cases = (run-on, run-stop, run-over, digit-there, digit-past, zeros-there, zeros-not, not-seen, number-digits, number-same, run-in-front, run-behind, byte-less, byte-more, digit-so, seen-longer, seen-same, seen-shorter, seen-first, seen-on, seen-less, seen-over-shorter, seen-over-same, needs)

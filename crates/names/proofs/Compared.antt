@@ -12,7 +12,8 @@ use borrow.Author.Tests.{eq-eqb, ne-eqb, le-leb, lt-leb}
 use Rattle.meaning.specs.Lists.{pick}
 use Rattle.meaning.specs.Names.{same, bytes-not-after, not-after}
 use Rattle.meaning.specs.OrderLaws.{same-self, same-equal, order-reflexive, bytes-ordered, not-after-self}
-use Rattle.names.specs.Word.{name-of, compared, bytes-compared}
+use Rattle.names.specs.Word.{name-of}
+use Rattle.runs.specs.Orders.{compared, bytes-compared}
 
 same-length : (a b : List ℕ) → (length a ≡ length b → ⊥) → same a b ≡ false
 unfolding same pick

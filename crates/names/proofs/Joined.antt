@@ -13,8 +13,9 @@ use mir.Syntax.{w32}
 use mir.Val.{Fits}
 use Rattle.meaning.specs.Lists.{pick}
 use Rattle.meaning.specs.Names.{same}
-use Rattle.names.specs.Word.{name-of, compared}
-use Rattle.names.specs.Runs.{Seen}
+use Rattle.names.specs.Word.{name-of}
+use Rattle.runs.specs.Orders.{compared}
+use Rattle.runs.specs.Runs.{Seen}
 use Rattle.names.specs.Joint.{joint, have-room, both-behind, joint-length, name-in-library, name-in-text}
 use Rattle.names.proofs.Auto.{told}
 use Rattle.names.proofs.Compared.{same-words, not-after-told, same-lengths, same-on, same-off, same-end}

@@ -12,7 +12,7 @@ use mir.Syntax.{w64}
 use mir.Val.{Fits}
 use Rattle.meaning.specs.Names.{same}
 use Rattle.names.specs.Word.{name-of}
-use Rattle.names.specs.Runs.{Seen}
+use Rattle.runs.specs.Runs.{Seen}
 
 -- as many as there are
 take-most : (k : ℕ) (xs : List ℕ) → take (length (take k xs)) xs ≡ take k xs

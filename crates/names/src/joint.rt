@@ -10,8 +10,9 @@ ghost use mathlib.Core.Path.{_≡_};
 ghost use Prim.Native.Nat.{_+_, _%_, _<_, _≤_, min};
 ghost use lib.ListN.{length, getD, take, drop};
 ghost use Rattle.meaning.specs.Names.{same, not-after};
-ghost use Rattle.names.specs.Word.{name-of, compared, bytes-compared};
-ghost use Rattle.names.specs.Runs.{digits-of, zeros-of, by-size, runs-compared, elements-compared, element-size};
+ghost use Rattle.names.specs.Word.{name-of};
+ghost use Rattle.runs.specs.Orders.{compared, bytes-compared};
+ghost use Rattle.runs.specs.Runs.{digits-of, zeros-of, by-size, runs-compared, elements-compared, element-size};
 ghost use Rattle.names.specs.Joint.{joint, have-room, both-behind};
 
 // The byte at i of both, and 0 past the end.

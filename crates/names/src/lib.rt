@@ -3,14 +3,15 @@
 pub mod joint;
 
 ghost use mathlib.Core.Path.{_≡_};
-ghost use mathlib.Core.Bool.{true, _&&_};
+ghost use mathlib.Core.Bool.{true};
 ghost use Prim.Native.Nat.{_+_, _/_, _<_, min};
 ghost use lib.Dec.{ltb};
 ghost use lib.ListN.{length, getD, drop};
 ghost use Rattle.meaning.specs.Names.{same, is-digit};
 ghost use Rattle.meaning.specs.Tokens.{is-word, run-end, at-hyphen, at-word};
-ghost use Rattle.names.specs.Word.{name-of, bytes-compared};
-ghost use Rattle.names.specs.Runs.{digits-of, is-zero, plain-size, Seen, Decides};
+ghost use Rattle.names.specs.Word.{name-of};
+ghost use Rattle.runs.specs.Orders.{bytes-compared};
+ghost use Rattle.runs.specs.Runs.{digits-of, by-size, plainly-compared, has-zeros, plain-size, Seen, Decides};
 
 // The byte at i, and 0 past the end.
 pub fn byte_at(text: &[u8], i: usize) -> u8
@@ -150,15 +151,69 @@ fn digits_end(text: &[u8], at: usize) -> usize
     i
 }
 
-// Has the run of digits from i up to e a zero in front of another digit?
-fn has_zeros(text: &[u8], i: usize, e: usize) -> bool
-    requires { ⌜ i < length (now text) ⌝ }
-    ensures { λ r. ⌜ r ≡ (ltb (i + 1) e && is-zero (getD (now (text .entry)) i 0)) ⌝ }
+// Is there a digit at i?
+fn digit_at(text: &[u8], i: usize) -> bool
+    ensures { λ r. ⌜ r ≡ ltb 0 (digits-of (drop i (now (text .entry)))) ⌝ }
 {
-    if i + 1 < e {
-        return byte_at(text, i) == b'0';
+    if i < text.len() {
+        return is_digit(text[i]);
     }
     false
+}
+
+// Has the run of digits at i a zero in front of another digit?
+fn has_zeros(text: &[u8], i: usize) -> bool
+    requires { ⌜ i < length (now text) ⌝ }
+    ensures { λ r. ⌜ r ≡ has-zeros (drop i (now (text .entry))) ⌝ }
+{
+    if text[i] == b'0' {
+        return digit_at(text, i + 1);
+    }
+    false
+}
+
+// Which of the runs of digits from `at` on is shorter: 0 if a's is, 2 if b's is, else `level`.
+fn compare_sizes(a: &[u8], b: &[u8], at: usize, level: u8) -> u8
+    ensures { λ r. ⌜ r ≡ by-size (digits-of (drop at (now (a .entry)))) (digits-of (drop at (now (b .entry)))) level ⌝ }
+{
+    let mut i = at;
+    while digit_at(a, i) {
+        if digit_at(b, i) {
+            i += 1;
+        } else {
+            return 2;
+        }
+    }
+    if digit_at(b, i) {
+        return 0;
+    }
+    level
+}
+
+// The runs of digits from `at` on, by their sizes and then byte by byte: the first byte in which they differ counts if none goes on alone.
+fn compare_digits(a: &[u8], b: &[u8], at: usize) -> u8
+    ensures { λ r. ⌜ r ≡ plainly-compared (drop at (now (a .entry))) (drop at (now (b .entry))) ⌝ }
+{
+    let mut i = at;
+    while digit_at(a, i) {
+        if digit_at(b, i) {
+            let p = byte_at(a, i);
+            let q = byte_at(b, i);
+            if p < q {
+                return compare_sizes(a, b, i + 1, 0);
+            }
+            if q < p {
+                return compare_sizes(a, b, i + 1, 2);
+            }
+            i += 1;
+        } else {
+            return 2;
+        }
+    }
+    if digit_at(b, i) {
+        return 0;
+    }
+    1
 }
 
 // The runs of digits from i on: 0 if a's comes first, 2 if b's does, 4 if they are the same, 3 where zeros must be looked at.
@@ -169,21 +224,13 @@ fn compare_numbers(a: &[u8], b: &[u8], i: usize) -> u8
     requires { ⌜ is-digit (getD (now b) i 0) ≡ true ⌝ }
     ensures { λ r. ⌜ Decides (drop i (now (a .entry))) (drop i (now (b .entry))) r ⌝ }
 {
-    let e = digits_end(a, i);
-    let f = digits_end(b, i);
-    if has_zeros(a, i, e) {
+    if has_zeros(a, i) {
         return 3;
     }
-    if has_zeros(b, i, f) {
+    if has_zeros(b, i) {
         return 3;
     }
-    if e < f {
-        return 0;
-    }
-    if f < e {
-        return 2;
-    }
-    let c = compare_bytes(&a[i..e], &b[i..f]);
+    let c = compare_digits(a, b, i);
     if c == 1 {
         return 4;
     }

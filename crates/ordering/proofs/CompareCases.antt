@@ -13,7 +13,8 @@ use Rattle.meaning.specs.Names.{bytes-not-after, by-two}
 use Rattle.meaning.specs.Origins.{Item, sort-shape, function-shape, variable-shape}
 use Rattle.meaning.specs.Written.{origin-text, shape-text, shape-rank, standing-text, visible-order, hidden-order}
 use Rattle.meaning.specs.ListingOrder.{place-order}
-use Rattle.names.specs.Word.{name-of, compared, bytes-compared}
+use Rattle.names.specs.Word.{name-of}
+use Rattle.runs.specs.Orders.{compared, bytes-compared}
 use Rattle.tables.specs.declared.Section.{Section}
 use Rattle.tables.specs.declared.Section.the-variants as section
 use Rattle.tables.specs.declared.Row.{Row}

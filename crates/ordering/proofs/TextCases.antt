@@ -15,7 +15,7 @@ use Rattle.meaning.specs.Names.{same, bytes-not-after}
 use Rattle.meaning.specs.Origins.{Item}
 use Rattle.meaning.specs.Written.{origin-text, shape-text}
 use Rattle.meaning.specs.OrderLaws.{same-equal}
-use Rattle.names.specs.Word.{bytes-compared}
+use Rattle.runs.specs.Orders.{bytes-compared}
 use Rattle.names.proofs.Compared.{bytes-told}
 use Rattle.tables.specs.declared.Row.{Row}
 use Rattle.tables.specs.Rows.{origin-of, shape-of}

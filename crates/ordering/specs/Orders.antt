@@ -11,7 +11,7 @@ use Rattle.meaning.specs.Origins.{Item}
 use Rattle.meaning.specs.Written.{origin-text, shape-text, shape-rank, visible-order, hidden-order}
 use Rattle.meaning.specs.OrderLaws.{IsOrder, order-of, bytes-ordered}
 use Rattle.meaning.specs.ListingOrder.{visible-ordered, hidden-ordered, Place, place-order, place-ordered}
-use Rattle.names.specs.Word.{bytes-compared}
+use Rattle.runs.specs.Orders.{bytes-compared}
 use Rattle.tables.specs.declared.Row.{Row}
 use Rattle.tables.specs.Rows.{origin-of, shape-of}
 use Rattle.tables.specs.declared.Section.{Section}

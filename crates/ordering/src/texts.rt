@@ -13,7 +13,7 @@ ghost use Prim.Native.Nat.{_-_, _^_, _<_, _≤_, min};
 ghost use lib.ListN.{length, take};
 ghost use Rattle.meaning.specs.Names.{bytes-not-after};
 ghost use Rattle.meaning.specs.Written.{origin-text, shape-text};
-ghost use Rattle.names.specs.Word.{bytes-compared};
+ghost use Rattle.runs.specs.Orders.{bytes-compared};
 ghost use Rattle.names.specs.Joint.{joint};
 ghost use Rattle.pen.specs.Pen.{pen, written};
 ghost use Rattle.tables.specs.Rows.{origin-of, shape-of};

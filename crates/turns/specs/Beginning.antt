@@ -10,7 +10,8 @@ use Rattle.meaning.specs.Numbers.{memory-size}
 use Rattle.meaning.specs.Syntax.{Module}
 use Rattle.meaning.specs.Normal.{empty}
 use Rattle.meaning.specs.Evaluate.{normal-of}
-use Rattle.meaning.specs.Reached.{Placed, in-turn, total-of, module-names}
+use Rattle.meaning.specs.Names.{Name, same}
+use Rattle.meaning.specs.Reached.{Placed, in-turn, reached, total-of, module-names}
 use Rattle.forms.specs.declared.Form.{Form}
 use Rattle.forms.specs.Memory.{part}
 use Rattle.forms.specs.Forms.{Stands}
@@ -19,6 +20,7 @@ use Rattle.layout.specs.Layout.{tape-end, kept-start, table-start, memory-laid}
 use Rattle.module_set.specs.ModuleSet.{holds}
 use Rattle.modules.specs.declared.Heads.{Heads}
 use Rattle.modules.specs.Modules.{declared, reached-set}
+use Rattle.modules.specs.ModuleLaws.{heads-number}
 use Rattle.modules.specs.ReachedLaws.{chosen}
 use Rattle.modules.specs.Meant.{none-earlier, reached-modules}
 use Rattle.keeping.specs.Keeping.{Cleared}
@@ -28,7 +30,9 @@ use Rattle.storing.specs.Places.{scratch-there}
 use Rattle.evaluating.specs.States.{first-state}
 use Rattle.evaluating.specs.Sofar.{Told, Ready, Sofar}
 use Rattle.turns.specs.declared.Ended.{Ended}
+use Rattle.turns.specs.declared.Ended.the-variants.{Normalised}
 use Rattle.turns.specs.Turns.{LastStands, EndsAs, Resumed, Turned, Given, AllTurned}
+use Rattle.turns.specs.Asked.{chosen-none, asked-none}
 use Rattle.turns.specs.ByNumber.{places-ordered, places-within, places-few}
 
 table-behind : tape-end ≤ table-start
@@ -91,12 +95,28 @@ module _ (text : List ℕ) (t : ℕ) (w w′ : List ℕ) (h : Heads) (given : Gi
         (env-none w w′ cleared text (part w′ 0 t) [] (λ x. omega arith) .stands []);
   }
 
-  pub all-turned : (k set : ℕ) (r : Ended) (w″ : List ℕ) → holds set ≡ reached-set text (part w 0 t) h k
-      → Turned text t w′ h set 0 0 64 first-state r w″ → AllTurned text t w h k r w″
-  all-turned k set r w″ e turned = record {
-    meant = λ ms asked told number.
-        subst (λ (xs : List Placed). EndsAs text t w″ r (in-turn (module-names ms) [] empty xs))
-        (ap (λ (p : ℕ → Bool). chosen p 0 [] ms) (e ∙ ap (reached-set text (part w 0 t) h) number)
-        ∙ sym (reached-modules text (part w 0 t) t ms h (told .spells) (told .fresh) asked))
-        (turned .meant ms [] [] empty (sofar ms told) (none-earlier (module-names ms)) refl none-latest);
-  }
+  module _ (k set : ℕ) (e : holds set ≡ reached-set text (part w 0 t) h k) where
+    reached-so : (ms : List Module) (asked : Name) → Told text (part w 0 t) t h ms → k ≡ before (same asked) (module-names ms)
+        → chosen (holds set) 0 [] ms ≡ reached asked ms
+    reached-so ms asked told number =
+        ap (λ (p : ℕ → Bool). chosen p 0 [] ms) (e ∙ ap (reached-set text (part w 0 t) h) number)
+        ∙ sym (reached-modules text (part w 0 t) t ms h (told .spells) (told .fresh) asked)
+
+    pub all-turned : (r : Ended) (w″ : List ℕ) → Turned text t w′ h set 0 0 first-state r w″ → AllTurned text t w h k r w″
+    all-turned r w″ turned = record {
+      meant = λ ms asked told number.
+          subst (λ (xs : List Placed). EndsAs text t w″ r (in-turn (module-names ms) [] empty xs)) (reached-so ms asked told number)
+          (turned .meant ms [] [] empty (sofar ms told) (none-earlier (module-names ms)) refl);
+    }
+
+    -- where there is no module k, none is reached
+    pub none-turned : h .count ≤ k → AllTurned text t w h k (Normalised 0 64) w′
+    unfolding in-turn
+    none-turned l = record {
+      meant = λ ms asked told number.
+          let some : h .count ≡ length ms = heads-number text (part w 0 t) t ms h (told .spells) in
+          let none : chosen (holds set) 0 [] ms ≡ [] =
+          chosen-none (holds set) 0 [] ms (λ j u v. asked-none text (part w 0 t) h k set e l j (omega arith)) in
+          subst (λ (xs : List Placed). EndsAs text t w′ (Normalised 0 64) (in-turn (module-names ms) [] empty xs)) (sym none ∙ reached-so ms asked told number)
+          (record { count-so = refl; last-so = none-latest });
+    }

@@ -1,3 +1,4 @@
+pub mod Asked
 pub mod Turns
 pub mod ByNumber
 pub mod Turning

@@ -4,7 +4,7 @@ use mathlib.Core.Bool.{Bool, true, false}
 use mathlib.Core.List.{List, [], _∷_}
 use Prim.Native.Nat.{ℕ, _+_, _-_, _≤_, _<_}
 use native.Mathlib.Omega.{arith}
-use lib.ListN.{length, getD, drop, length-take, drop-of-length-le}
+use lib.ListN.{length, getD, drop, length-take}
 use Rattle.meaning.specs.Lists.{pick}
 use Rattle.meaning.specs.Names.{Name}
 use Rattle.meaning.specs.Numbers.{module-limit}
@@ -31,7 +31,8 @@ use Rattle.evaluating.specs.Sofar.{Ready, Sofar}
 use Rattle.evaluating.specs.Stepping.{evaluated-as, StepMeant, Stepping}
 use Rattle.turns.specs.declared.Ended.{Ended}
 use Rattle.turns.specs.declared.Ended.the-variants.{Normalised, Refused}
-use Rattle.turns.specs.Turns.{LastStands, EndsAs, Resumed, Turned}
+use Rattle.turns.specs.Turns.{LastStands, EndsAs, Resumed, Turned, AskedTurned}
+use Rattle.turns.specs.Asked.{Asked, before-asked, chosen-none}
 use Rattle.turns.specs.ByNumber.{ModuleAt, module-at, drop-later, own-name, own-number}
 
 -- ---- the meaning
@@ -93,17 +94,6 @@ module _ (text : List ℕ) (t : ℕ) (w : List ℕ) (h : Heads) (k : ℕ) (s : S
 
 -- ---- how the code goes on
 
--- no module is left
-pub turns-over : (text : List ℕ) (t : ℕ) (w : List ℕ) (h : Heads) (set k count last : ℕ) (s : State) → h .count ≤ k
-    → Turned text t w h set k count last s (Normalised count last) w
-unfolding chosen in-turn
-turns-over text t w h set k count last s c = record {
-  meant = λ ms env earlier n sofar before-it size stands.
-      let none : drop k ms ≡ [] = drop-of-length-le ms {i = k} (omega (arith, heads-number text (part w 0 t) t ms h (sofar .told .spells))) in
-      subst (λ (xs : List Module). EndsAs text t w (Normalised count last) (in-turn (module-names ms) env n (chosen (holds set) k earlier xs))) (sym none)
-      (record { count-so = sym size; last-so = stands });
-}
-
 module _ (text : List ℕ) (t : ℕ) (w : List ℕ) (h : Heads) (k : ℕ) (s : State) (c : k < h .count) where
   at : (ms : List Module) (env : List Evaluated) → Sofar text t w h s ms env → ModuleAt ms k
   at ms env sofar = module-at ms k (omega (arith, c, heads-number text (part w 0 t) t ms h (sofar .told .spells)))
@@ -143,14 +133,14 @@ module _ (text : List ℕ) (t : ℕ) (w : List ℕ) (h : Heads) (k : ℕ) (s : S
         before-it = at-earlier (p .modules) (p .evaluated) (p .sofar) (resumed .earlier) (resumed .before-it);
       }
 
-  pub passed-turned : (set count last : ℕ) (b : Bool) (end : Ended) (w′ : List ℕ) → b ≡ holds set k → b ≡ false
-      → Turned text t w h set (k + 1) count last s end w′ → Turned text t w h set k count last s end w′
-  passed-turned set count last b end w′ e f more = record {
-    meant = λ ms env earlier n sofar before-it size stands.
+  pub passed-turned : (set count : ℕ) (b : Bool) (end : Ended) (w′ : List ℕ) → b ≡ holds set k → b ≡ false
+      → Turned text t w h set (k + 1) count s end w′ → Turned text t w h set k count s end w′
+  passed-turned set count b end w′ e f more = record {
+    meant = λ ms env earlier n sofar before-it size.
         let m = at ms env sofar in
         subst (λ (xs : List Placed). EndsAs text t w′ end (in-turn (module-names ms) env n xs))
         (sym (chosen-not set k earlier ms (m .later) (m .self) (m .here) (sym e ∙ f)))
-        (more .meant ms env (m .self .name ∷ earlier) n sofar (at-earlier ms env sofar earlier before-it) size stands);
+        (more .meant ms env (m .self .name ∷ earlier) n sofar (at-earlier ms env sofar earlier before-it) size);
   }
 
   module _ (step : Stepped) (w₁ : List ℕ) (stepping : Stepping text t w h k s step w₁) where
@@ -163,11 +153,11 @@ module _ (text : List ℕ) (t : ℕ) (w : List ℕ) (h : Heads) (k : ℕ) (s : S
         (stepping .meant ms env (m .self) (m .later) earlier sofar (m .here) before-it)
 
     -- module k is in the set, and refused
-    pub turn-refused : (set count last : ℕ) (b : Bool) (name number culprit : ℕ) → b ≡ holds set k → b ≡ true
+    pub turn-refused : (set count : ℕ) (b : Bool) (name number culprit : ℕ) → b ≡ holds set k → b ≡ true
         → name ≡ word-at (part w 0 t) (getD (h .places) k 0) → step ≡ StepRefused number culprit
-        → Turned text t w h set k count last s (Refused number (count + 1) name culprit) w₁
-    turn-refused set count last b name number culprit e f q g = record {
-      meant = λ ms env earlier n sofar before-it size stands.
+        → Turned text t w h set k count s (Refused number (count + 1) name culprit) w₁
+    turn-refused set count b name number culprit e f q g = record {
+      meant = λ ms env earlier n sofar before-it size.
           let m = at ms env sofar in
           let stop-so = stepped ms env earlier sofar before-it (StepRefused number culprit) g in
           let end = Refused number (count + 1) name culprit in
@@ -200,10 +190,10 @@ module _ (text : List ℕ) (t : ℕ) (w : List ℕ) (h : Heads) (k : ℕ) (s : S
             before-it = at-earlier (p .modules) (p .evaluated) (p .sofar) (resumed .earlier) (resumed .before-it);
           }
 
-      pub kept-turned : (set count last : ℕ) (b : Bool) (end : Ended) (w₂ : List ℕ) → b ≡ holds set k → b ≡ true
-          → Turned text t w₁ h set (k + 1) (count + 1) k r end w₂ → Turned text t w h set k count last s end w₂
-      kept-turned set count last b end w₂ e f more = record {
-        meant = λ ms env earlier n sofar before-it size stands.
+      pub kept-turned : (set count : ℕ) (b : Bool) (end : Ended) (w₂ : List ℕ) → b ≡ holds set k → b ≡ true
+          → Turned text t w₁ h set (k + 1) (count + 1) r end w₂ → Turned text t w h set k count s end w₂
+      kept-turned set count b end w₂ e f more = record {
+        meant = λ ms env earlier n sofar before-it size.
             let m = at ms env sofar in
             let kept = stepped ms env earlier sofar before-it (Kept r) g in
             let new = evaluated-as (m .self) (kept .normal) in
@@ -211,23 +201,43 @@ module _ (text : List ℕ) (t : ℕ) (w : List ℕ) (h : Heads) (k : ℕ) (s : S
             (sym (chosen-here set k earlier ms (m .later) (m .self) (m .here) (sym e ∙ f)))
             (subst (EndsAs text t w₂ end) (sym (turn-fine (module-names ms) env n _ _ (kept .normal) (kept .fine-so)))
             (more .meant ms (new ∷ env) (m .self .name ∷ earlier) (kept .normal) (kept .sofar) (at-earlier ms env sofar earlier before-it)
-            (omega (arith, size))
-            (latest-stands text t w₁ h r k ms env (m .self) (m .later) (kept .normal) (m .here) (kept .ready) (kept .sofar))));
+            (omega (arith, size))));
       }
 
--- ---- the loop: what is left to do from here is what is left to do from the start
+      -- and it is the latest of the set
+      pub last-turned : (set count : ℕ) → Asked h set k → Turned text t w h set k count s (Normalised (count + 1) k) w₁
+      unfolding in-turn
+      last-turned set count asked = record {
+        meant = λ ms env earlier n sofar before-it size.
+            let m = at ms env sofar in
+            let kept = stepped ms env earlier sofar before-it (Kept r) g in
+            let placed : Placed = record { self = m .self; number = k; earlier = earlier } in
+            let none : chosen (holds set) (k + 1) (m .self .name ∷ earlier) (drop (k + 1) ms) ≡ [] =
+            chosen-none (holds set) (k + 1) (m .self .name ∷ earlier) (drop (k + 1) ms) (λ j l u. asked .latest j (omega arith)) in
+            let alone : chosen (holds set) k earlier (drop k ms) ≡ placed ∷ [] =
+            chosen-here set k earlier ms (m .later) (m .self) (m .here) (asked .in-it) ∙ ap (λ (xs : List Placed). placed ∷ xs) none in
+            subst (λ (xs : List Placed). EndsAs text t w₁ (Normalised (count + 1) k) (in-turn (module-names ms) env n xs)) (sym alone)
+            (subst (EndsAs text t w₁ (Normalised (count + 1) k)) (sym (turn-fine (module-names ms) env n placed [] (kept .normal) (kept .fine-so)))
+            (record {
+              count-so = omega (arith, size);
+              last-so = latest-stands text t w₁ h r k ms env (m .self) (m .later) (kept .normal) (m .here) (kept .ready) (kept .sofar);
+            }));
+      }
 
-pub record Going (text : List ℕ) (t : ℕ) (w₀ : List ℕ) (h : Heads) (set : ℕ) (first : State) (k count last : ℕ) (s : State) (w : List ℕ) : Type 0 where
+-- ---- the loop over the modules before the asked one: what is left to do from here is what is left to do from the start
+
+pub record Going (text : List ℕ) (t : ℕ) (w₀ : List ℕ) (h : Heads) (set asked : ℕ) (first : State) (k count : ℕ) (s : State) (w : List ℕ) : Type 0 where
   pub size : length w ≡ length w₀
   pub few : count ≤ k
+  pub early : k ≤ asked
   pub resumed : Resumed text t w h k s
-  pub goes-on : (end : Ended) (w′ : List ℕ) → Turned text t w h set k count last s end w′ → Turned text t w₀ h set 0 0 64 first end w′
+  pub goes-on : (end : Ended) (w′ : List ℕ) → Turned text t w h set k count s end w′ → Turned text t w₀ h set 0 0 first end w′
 
-module _ (text : List ℕ) (t : ℕ) (w₀ : List ℕ) (h : Heads) (set : ℕ) (first : State) where
-  pub going-first : Resumed text t w₀ h 0 first → Going text t w₀ h set first 0 0 64 first w₀
-  going-first r = record { size = refl; few = omega arith; resumed = r; goes-on = λ end w′ x. x }
+module _ (text : List ℕ) (t : ℕ) (w₀ : List ℕ) (h : Heads) (set asked : ℕ) (first : State) where
+  pub going-first : Resumed text t w₀ h 0 first → Going text t w₀ h set asked first 0 0 first w₀
+  going-first r = record { size = refl; few = omega arith; early = omega arith; resumed = r; goes-on = λ end w′ x. x }
 
-  module _ (k count last : ℕ) (s : State) (w : List ℕ) (v : Going text t w₀ h set first k count last s w) where
+  module _ (k count : ℕ) (s : State) (w : List ℕ) (v : Going text t w₀ h set asked first k count s w) where
     pub going-resumed : Resumed text t w h k s
     going-resumed = v .resumed
 
@@ -237,27 +247,59 @@ module _ (text : List ℕ) (t : ℕ) (w₀ : List ℕ) (h : Heads) (set : ℕ) (
     pub going-few : count ≤ k
     going-few = v .few
 
-    pub going-over : h .count ≤ k → Turned text t w₀ h set 0 0 64 first (Normalised count last) w
-    going-over c = v .goes-on (Normalised count last) w (turns-over text t w h set k count last s c)
+    -- past the loop
+    module _ (l : asked ≤ k) where
+      at-asked : k ≡ asked
+      at-asked = omega (arith, v .early)
 
-    pub going-passed : (b : Bool) → k < h .count → b ≡ holds set k → b ≡ false → Going text t w₀ h set first (k + 1) count last s w
-    going-passed b c e f = record {
-      size = v .size;
-      few = omega (arith, v .few);
-      resumed = passed-resumed text t w h k s c (v .resumed);
-      goes-on = λ end w′ x. v .goes-on end w′ (passed-turned text t w h k s c set count last b end w′ e f x);
-    }
+      pub resumed-asked : Resumed text t w h asked s
+      resumed-asked = rw (← at-asked) (v .resumed)
 
-    module _ (step : Stepped) (w₁ : List ℕ) (b : Bool) (c : k < h .count) (stepping : Stepping text t w h k s step w₁) (e : b ≡ holds set k) (f : b ≡ true) where
-      pub going-refused : (name number culprit : ℕ) → name ≡ word-at (part w 0 t) (getD (h .places) k 0) → step ≡ StepRefused number culprit
-          → Turned text t w₀ h set 0 0 64 first (Refused number (count + 1) name culprit) w₁
-      going-refused name number culprit q g =
-          v .goes-on (Refused number (count + 1) name culprit) w₁ (turn-refused text t w h k s c step w₁ stepping set count last b name number culprit e f q g)
+      pub few-asked : count ≤ asked
+      few-asked = omega (arith, v .few, v .early)
 
-      pub going-kept : (r : State) → length w₁ ≡ length w → step ≡ Kept r → Going text t w₀ h set first (k + 1) (count + 1) k r w₁
-      going-kept r l g = record {
-        size = l ∙ v .size;
+      pub going-asked : (end : Ended) (w′ : List ℕ) → Asked h set asked → AskedTurned text t w h asked count s end w′
+          → Turned text t w₀ h set 0 0 first end w′
+      going-asked end w′ a x = v .goes-on end w′ (rw at-asked (x .turned set a))
+
+    module _ (b : Bool) (a : Asked h set asked) (c : k < asked) (e : b ≡ holds set k) where
+      within : k < h .count
+      within = before-asked h set asked k a c
+
+      pub going-passed : b ≡ false → Going text t w₀ h set asked first (k + 1) count s w
+      going-passed f = record {
+        size = v .size;
         few = omega (arith, v .few);
-        resumed = kept-resumed text t w h k s c step w₁ stepping r g (v .resumed);
-        goes-on = λ end w′ x. v .goes-on end w′ (kept-turned text t w h k s c step w₁ stepping r g set count last b end w′ e f x);
+        early = omega (arith, c);
+        resumed = passed-resumed text t w h k s within (v .resumed);
+        goes-on = λ end w′ x. v .goes-on end w′ (passed-turned text t w h k s within set count b end w′ e f x);
       }
+
+      module _ (f : b ≡ true) (step : Stepped) (w₁ : List ℕ) (stepping : Stepping text t w h k s step w₁) where
+        pub going-refused : (name number culprit : ℕ) → name ≡ word-at (part w 0 t) (getD (h .places) k 0) → step ≡ StepRefused number culprit
+            → Turned text t w₀ h set 0 0 first (Refused number (count + 1) name culprit) w₁
+        going-refused name number culprit q g =
+            v .goes-on (Refused number (count + 1) name culprit) w₁
+            (turn-refused text t w h k s within step w₁ stepping set count b name number culprit e f q g)
+
+        pub going-kept : (r : State) → length w₁ ≡ length w → step ≡ Kept r → Going text t w₀ h set asked first (k + 1) (count + 1) r w₁
+        going-kept r l g = record {
+          size = l ∙ v .size;
+          few = omega (arith, v .few);
+          early = omega (arith, c);
+          resumed = kept-resumed text t w h k s within step w₁ stepping r g (v .resumed);
+          goes-on = λ end w′ x. v .goes-on end w′ (kept-turned text t w h k s within step w₁ stepping r g set count b end w′ e f x);
+        }
+
+-- ---- the asked module itself
+
+module _ (text : List ℕ) (t : ℕ) (w : List ℕ) (h : Heads) (k count : ℕ) (s : State) (c : k < h .count) (step : Stepped) (w₁ : List ℕ)
+    (stepping : Stepping text t w h k s step w₁) where
+  pub asked-refused : (name number culprit : ℕ) → name ≡ word-at (part w 0 t) (getD (h .places) k 0) → step ≡ StepRefused number culprit
+      → AskedTurned text t w h k count s (Refused number (count + 1) name culprit) w₁
+  asked-refused name number culprit q g = record {
+    turned = λ set a. turn-refused text t w h k s c step w₁ stepping set count true name number culprit (sym (a .in-it)) refl q g;
+  }
+
+  pub asked-kept : (r : State) → step ≡ Kept r → AskedTurned text t w h k count s (Normalised (count + 1) k) w₁
+  asked-kept r g = record { turned = λ set a. last-turned text t w h k s c step w₁ stepping r g set count a }

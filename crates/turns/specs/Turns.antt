@@ -25,6 +25,7 @@ use Rattle.evaluating.specs.declared.states.State.{State}
 use Rattle.turns.specs.declared.Ended.{Ended}
 use Rattle.turns.specs.declared.Ended.the-variants.{Normalised, Refused}
 use Rattle.evaluating.specs.Sofar.{Told, Sofar, Prepared}
+use Rattle.turns.specs.Asked.{Asked}
 
 -- the form kept for module number `last` stands for the normal form
 pub record LastStands (text : List ℕ) (t : ℕ) (w : List ℕ) (last : ℕ) (n : Normal) : Type 0 where
@@ -55,11 +56,15 @@ pub record Resumed (text : List ℕ) (t : ℕ) (w : List ℕ) (h : Heads) (k : �
   pub earlier : List Name
   pub before-it : Earlier (module-names (prepared .modules)) k earlier
 
--- modules from number k on, after `count` others, the latest of which is number `last`
-pub record Turned (text : List ℕ) (t : ℕ) (w : List ℕ) (h : Heads) (set k count last : ℕ) (s : State) (r : Ended) (w′ : List ℕ) : Type 0 where
+-- modules from number k on, after `count` others: n is the normal form of the latest of these, which one behind it makes of no account
+pub record Turned (text : List ℕ) (t : ℕ) (w : List ℕ) (h : Heads) (set k count : ℕ) (s : State) (r : Ended) (w′ : List ℕ) : Type 0 where
   pub meant : (ms : List Module) (env : List Evaluated) (earlier : List Name) (n : Normal) → Sofar text t w h s ms env
-      → Earlier (module-names ms) k earlier → length env ≡ count → LastStands text t w last n
+      → Earlier (module-names ms) k earlier → length env ≡ count
       → EndsAs text t w′ r (in-turn (module-names ms) env n (chosen (holds set) k earlier (drop k ms)))
+
+-- module k alone, the latest of whatever set has it so
+pub record AskedTurned (text : List ℕ) (t : ℕ) (w : List ℕ) (h : Heads) (k count : ℕ) (s : State) (r : Ended) (w′ : List ℕ) : Type 0 where
+  pub turned : (set : ℕ) → Asked h set k → Turned text t w h set k count s r w′
 
 -- what is given at first: memory, and a tape that reading can leave
 pub record Given (text : List ℕ) (t : ℕ) (w : List ℕ) (h : Heads) : Type 0 where

@@ -10,8 +10,10 @@ use modules::Heads;
 use modules::name_of_module;
 use modules::reached;
 ghost use mathlib.Core.Path.{_≡_};
+ghost use Prim.Native.Nat.{_<_, _≤_};
 ghost use Rattle.names.specs.Joint.{joint};
-ghost use Rattle.turns.specs.Turns.{Resumed, Given, Turned, AllTurned};
+ghost use Rattle.turns.specs.Asked.{Asked};
+ghost use Rattle.turns.specs.Turns.{Resumed, Given, Turned, AskedTurned, AllTurned};
 
 // How a call ends: each normal form is kept, that of the latest module for number `last`; or the refusal's number with the words of the module evaluated then and of the culprit's name.
 // `count` modules were evaluated, the refused one included.
@@ -28,8 +30,37 @@ pub enum Ended {
     },
 }
 
-// The modules of the set in turn, where nothing is evaluated yet. Before the first, the row behind those of all modules stands for the latest: it
-// has nothing.
+// Module k, the asked one, after the `count` others that it reaches. It is the second to call `evaluate`, which therefore is compiled as a function
+// of its own: as part of the loop over the others it is slower.
+fn evaluate_asked(
+    library: &[u8],
+    text: &[u8],
+    work: &mut [u32],
+    t: usize,
+    h: Heads,
+    k: u32,
+    count: u32,
+    s: State,
+) -> Ended
+    requires { ⌜ Resumed (joint (now library) (now text)) t (now work) h k s ⌝ }
+    requires { ⌜ k < h .count ⌝ }
+    requires { ⌜ count ≤ k ⌝ }
+    ensures { λ r. ⌜ AskedTurned (joint (now (library .entry)) (now (text .entry))) t (now (work .entry)) h k count s r (now (work .exit)) ⌝ }
+{
+    let module = name_of_module(&work[0..t], h, k);
+    let count = count + 1;
+    match evaluate(library, text, work, t, h, k, s) {
+        Stepped::Refused(number, culprit) => Ended::Refused {
+            number,
+            count,
+            module,
+            culprit,
+        },
+        Stepped::Kept(_) => Ended::Normalised { count, last: k },
+    }
+}
+
+// The modules of the set in turn, where nothing is evaluated yet: module k is the latest of them.
 fn evaluate_set(
     library: &[u8],
     text: &[u8],
@@ -37,20 +68,20 @@ fn evaluate_set(
     t: usize,
     h: Heads,
     set: u64,
+    k: u32,
     first: State,
 ) -> Ended
     requires { ⌜ Resumed (joint (now library) (now text)) t (now work) h 0 first ⌝ }
-    ensures { λ r. ⌜ Turned (joint (now (library .entry)) (now (text .entry))) t (now (work .entry)) h set 0 0 64 first r (now (work .exit)) ⌝ }
+    requires { ⌜ Asked h set k ⌝ }
+    ensures { λ r. ⌜ Turned (joint (now (library .entry)) (now (text .entry))) t (now (work .entry)) h set 0 0 first r (now (work .exit)) ⌝ }
 {
-    let n = h.count;
-    let mut k: u32 = 0;
+    let mut i: u32 = 0;
     let mut count: u32 = 0;
-    let mut last: u32 = 64;
     let mut s = first;
-    while k < n {
-        if module_set::has(set, k) {
-            let module = name_of_module(&work[0..t], h, k);
-            match evaluate(library, text, work, t, h, k, s) {
+    while i < k {
+        if module_set::has(set, i) {
+            let module = name_of_module(&work[0..t], h, i);
+            match evaluate(library, text, work, t, h, i, s) {
                 Stepped::Refused(number, culprit) => {
                     return Ended::Refused {
                         number,
@@ -61,16 +92,15 @@ fn evaluate_set(
                 }
                 Stepped::Kept(r) => {
                     count += 1;
-                    last = k;
                     s = r;
-                    k += 1;
+                    i += 1;
                 }
             }
         } else {
-            k += 1;
+            i += 1;
         }
     }
-    Ended::Normalised { count, last }
+    evaluate_asked(library, text, work, t, h, k, count, s)
 }
 
 // Module k and the modules that it reaches.
@@ -89,6 +119,10 @@ pub fn evaluate_reached(
     let table = table_start();
     let kept = kept_start();
     clear_forms(work, table, 65, kept);
-    let s = first_state();
-    evaluate_set(library, text, work, t, h, set, s)
+    if k < h.count {
+        let s = first_state();
+        return evaluate_set(library, text, work, t, h, set, k, s);
+    }
+    // the row behind those of all modules has nothing
+    Ended::Normalised { count: 0, last: 64 }
 }

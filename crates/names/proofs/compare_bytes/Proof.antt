@@ -3,7 +3,7 @@
 use mathlib.Core.Path.{_≡_}
 use Prim.Native.Nat.{_-_}
 use lib.ListN.{length, drop}
-use Rattle.names.specs.Word.{bytes-compared}
+use Rattle.runs.specs.Orders.{bytes-compared}
 use Rattle.names.proofs.Auto.{on, done}
 use Rattle.names.proofs.Compared.{compared-long, compared-less, compared-more, compared-on, compared-short, compared-end}
 use borrow.Author.Needs.{needs}

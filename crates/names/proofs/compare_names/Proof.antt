@@ -3,7 +3,7 @@
 use Prim.Native.Nat.{_-_}
 use mathlib.Core.Path.{_≡_}
 use lib.ListN.{length, drop}
-use Rattle.names.specs.Word.{compared}
+use Rattle.runs.specs.Orders.{compared}
 use Rattle.names.proofs.AtOnce.{cases}
 use Rattle.names.proofs.compare_names.Statement.{statement}
 use Rattle.names.proofs.compare_names.Tie as tie

@@ -3,7 +3,7 @@
 use Prim.Native.Nat.{_+_, _-_}
 use mathlib.Core.Path.{_≡_}
 use lib.ListN.{length, drop}
-use Rattle.names.specs.Runs.{digits-of}
+use Rattle.runs.specs.Runs.{digits-of}
 use borrow.Author.Needs.{needs}
 use Rattle.names.proofs.Auto.{on, done}
 use Rattle.names.proofs.AtOnce.{cases, run-on, run-stop, run-over}

@@ -1,6 +1,6 @@
 -- `names::has_zeros` meets its contract.
 -- Assumes nothing.
-use Rattle.names.proofs.AtOnce.{cases}
+use Rattle.names.proofs.AtOnce.{zeros-there, zeros-not}
 use borrow.Author.Needs.{needs}
 use Rattle.names.proofs.has_zeros.Statement.{statement}
 use Rattle.names.proofs.has_zeros.Tie as tie
@@ -9,8 +9,9 @@ pub has-zeros-spec : {M : Type 1} → statement M
 has-zeros-spec =
     tie.close
     (tie.spec
-    (λ c. search cases)  -- add-if1
-    (λ c κs. search needs)  -- byte-at-requires
-    (λ c. search cases)  -- returns
-    (λ c. search cases)  -- returns-2
+    (λ c. search needs)  -- shared-slice-read-if1
+    (λ c. search needs)  -- add-digit-at
+    (λ c κs. search needs)  -- digit-at-requires
+    (λ c. search (zeros-there, needs))  -- returns
+    (λ c. search (zeros-not, needs))  -- returns-2
     )

@@ -3,7 +3,7 @@
 use Prim.Native.Nat.{_+_, _-_}
 use mathlib.Core.Path.{_≡_}
 use lib.ListN.{length, drop}
-use Rattle.names.specs.Runs.{plain-size}
+use Rattle.runs.specs.Runs.{plain-size}
 use Rattle.names.proofs.Auto.{on, done}
 use Rattle.names.proofs.Elements.{cases}
 use Rattle.names.proofs.plain_end.Statement.{statement}

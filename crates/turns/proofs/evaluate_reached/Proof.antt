@@ -16,7 +16,9 @@ evaluate-reached-spec =
     (λ c κs. search needs)  -- kept-start-requires
     (λ c κs. search cases)  -- clear-forms-requires
     (λ c κs. search needs)  -- first-state-requires
-    (λ c κs. search cases)  -- evaluate-set-requires
+    (λ c κs. (search cases, search cases))  -- evaluate-set-requires
     (λ c. search needs)  -- same-length
     (λ c. search cases)  -- returns
+    (λ c. search needs)  -- same-length-2
+    (λ c. search cases)  -- returns-2
     )

@@ -3,7 +3,8 @@
 use Prim.Native.Nat.{_-_}
 use mathlib.Core.Path.{_≡_}
 use lib.ListN.{take, drop}
-use Rattle.names.specs.Word.{name-of, bytes-compared}
+use Rattle.names.specs.Word.{name-of}
+use Rattle.runs.specs.Orders.{bytes-compared}
 use Rattle.names.specs.Joint.{joint}
 use Rattle.names.proofs.Auto.{on, done}
 use Rattle.names.proofs.Elements.{cases}

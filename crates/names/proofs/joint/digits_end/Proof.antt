@@ -5,7 +5,7 @@ use mathlib.Core.Path.{_≡_}
 use lib.ListN.{drop}
 use Rattle.names.specs.Word.{name-of}
 use Rattle.names.specs.Joint.{joint}
-use Rattle.names.specs.Runs.{digits-of}
+use Rattle.runs.specs.Runs.{digits-of}
 use Rattle.names.proofs.Auto.{on, done, told}
 use Rattle.names.proofs.Elements.{cases}
 use Rattle.names.proofs.joint.digits_end.Statement.{statement}

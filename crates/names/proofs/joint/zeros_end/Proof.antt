@@ -6,7 +6,7 @@ use mathlib.Core.Path.{_≡_}
 use lib.ListN.{drop}
 use Rattle.names.specs.Word.{name-of}
 use Rattle.names.specs.Joint.{joint}
-use Rattle.names.specs.Runs.{zeros-of}
+use Rattle.runs.specs.Runs.{zeros-of}
 use Rattle.names.proofs.Auto.{on, done}
 use Rattle.names.proofs.Elements.{cases}
 use Rattle.names.proofs.joint.zeros_end.Statement.{statement}

@@ -14,8 +14,8 @@ use Rattle.meaning.specs.Lists.{pick}
 use Rattle.meaning.specs.Names.{run, other, same, is-digit, led-by, elements, weights, bytes-not-after, not-after}
 use Rattle.meaning.specs.ElementLaws.{weights-told, name-told, digit-low, digit-high}
 use Rattle.meaning.specs.OrderLaws.{same-self, same-equal}
-use Rattle.names.specs.Word.{compared, bytes-compared}
-use Rattle.names.specs.Runs.{leading, digits-of, zeros-of, size-of-run, rest-of-run, by-size, runs-compared}
+use Rattle.runs.specs.Orders.{compared, bytes-compared}
+use Rattle.runs.specs.Runs.{leading, digits-of, zeros-of, size-of-run, rest-of-run, by-size, runs-compared}
 
 -- ---- less, more or level
 

@@ -2,13 +2,13 @@
 -- with comes first, with no number formed.
 use mathlib.Core.Path.{_≡_}
 use Prim.Native.Nat.{ℕ, suc, _-_, _<_, _≤_}
-use mathlib.Core.Bool.{Bool, _&&_}
+use mathlib.Core.Bool.{Bool, false}
 use mathlib.Core.List.{List, [], _∷_}
 use lib.Dec.{eqb, ltb}
-use lib.ListN.{getD, take, drop}
+use lib.ListN.{take, drop}
 use Rattle.meaning.specs.Lists.{pick}
 use Rattle.meaning.specs.Names.{is-digit}
-use Rattle.names.specs.Word.{compared, bytes-compared}
+use Rattle.runs.specs.Orders.{compared, bytes-compared}
 
 -- how many bytes a text begins with that pass a test
 unfoldable pub leading : (ℕ → Bool) → List ℕ → ℕ
@@ -45,9 +45,14 @@ runs-compared xs ys =
     let by-digits = bytes-compared (rest-of-run xs) (rest-of-run ys) in
     by-size (size-of-run xs) (size-of-run ys) (pick (eqb by-digits 1) by-zeros by-digits)
 
+-- the same where neither run has a zero in front of another digit: the shorter first, then byte by byte
+unfoldable pub plainly-compared : List ℕ → List ℕ → ℕ
+plainly-compared xs ys = by-size (digits-of xs) (digits-of ys) (bytes-compared (take (digits-of xs) xs) (take (digits-of ys) ys))
+
 -- a run with a zero in front of another digit
 unfoldable pub has-zeros : List ℕ → Bool
-has-zeros xs = ltb 1 (digits-of xs) && is-zero (getD xs 0 0)
+has-zeros [] = false
+has-zeros (x ∷ xs) = pick (is-zero x) (ltb 0 (digits-of xs)) false
 
 -- ---- elements
 

@@ -1,6 +1,6 @@
 -- Runs without a zero in front of another digit: they go by how many digits they have and then byte by byte.
 use mathlib.Core.Path.{_≡_, refl, sym}
-use mathlib.Core.Bool.{Bool, true, false, _&&_}
+use mathlib.Core.Bool.{Bool, true, false}
 use mathlib.Core.List.{List, [], _∷_}
 use Prim.Native.Nat.{ℕ, suc, _<_}
 use native.Mathlib.Omega.{arith}
@@ -11,9 +11,9 @@ use borrow.Author.Tests.{ltb-false, eqb-true, eqb-false}
 use Rattle.meaning.specs.Lists.{pick}
 use Rattle.meaning.specs.Names.{same, is-digit}
 use Rattle.meaning.specs.ElementLaws.{digit-low}
-use Rattle.names.specs.Word.{bytes-compared}
-use Rattle.names.specs.Runs.{leading, digits-of, zeros-of, size-of-run, rest-of-run, by-size, runs-compared, has-zeros}
-use Rattle.names.specs.RunLaws.{in-cases, size-less, size-more, size-level, zeros-digits, bytes-step, whole-rest}
+use Rattle.runs.specs.Orders.{bytes-compared}
+use Rattle.runs.specs.Runs.{leading, digits-of, zeros-of, size-of-run, rest-of-run, by-size, runs-compared, plainly-compared, has-zeros}
+use Rattle.runs.specs.RunLaws.{in-cases, size-less, size-more, size-level, zeros-digits, bytes-step, whole-rest}
 
 -- ---- the two kinds
 
@@ -62,23 +62,12 @@ unfolding has-zeros leading pick
 canonical-cases [] h z led alone = absurd (omega arith)
 canonical-cases {C} (x ∷ a) h z led alone = go (is-digit x) (eqb x 48) refl refl h z
   where
-    left-false : (p : Bool) → (p && true) ≡ false → p ≡ false
-    left-false true e = e
-    left-false false e = refl
-
-    go : (p q : Bool) → is-digit x ≡ p → eqb x 48 ≡ q → 0 < pick p (suc (digits-of a)) 0
-        → (ltb 1 (pick p (suc (digits-of a)) 0) && q) ≡ false → C
+    go : (p q : Bool) → is-digit x ≡ p → eqb x 48 ≡ q → 0 < pick p (suc (digits-of a)) 0 → pick q (ltb 0 (digits-of a)) false ≡ false → C
     go false q e f h z = absurd (omega arith)
     go true false e f h z = led (first-led x a e f)
-    go true true e f h z =
-        let none : digits-of a ≡ 0 = omega (arith, ltb-false 1 (suc (digits-of a)) (left-false (ltb 1 (suc (digits-of a))) z)) in
-        alone (rw (eqb-true x 48 f) (zero-alone a none))
+    go true true e f h z = alone (rw (eqb-true x 48 f) (zero-alone a (omega (arith, ltb-false 0 (digits-of a) z))))
 
 -- ---- two runs
-
--- what `runs-compared` should say
-abbrev plainly : List ℕ → List ℕ → ℕ
-plainly a b = by-size (digits-of a) (digits-of b) (bytes-compared (take (digits-of a) a) (take (digits-of b) b))
 
 no-zeros : (c : ℕ) → pick (eqb c 1) (by-size 0 0 1) c ≡ c
 unfolding pick by-size
@@ -88,16 +77,16 @@ no-zeros c = go (eqb c 1) refl
     go true e = sym (eqb-true c 1 e)
     go false e = refl
 
-led-led : (a b : List ℕ) → Led a → Led b → runs-compared a b ≡ plainly a b
-unfolding runs-compared
+led-led : (a b : List ℕ) → Led a → Led b → runs-compared a b ≡ plainly-compared a b
+unfolding runs-compared plainly-compared
 led-led a b g h = rw (g .zeros, h .zeros, g .size, h .size, g .rest, h .rest, no-zeros)
 
-alone-alone : (a b : List ℕ) → Alone a → Alone b → runs-compared a b ≡ plainly a b
-unfolding runs-compared bytes-compared same by-size pick
+alone-alone : (a b : List ℕ) → Alone a → Alone b → runs-compared a b ≡ plainly-compared a b
+unfolding runs-compared plainly-compared bytes-compared same by-size pick
 alone-alone a b g h = rw (g .zeros, h .zeros, g .size, h .size, g .rest, h .rest, g .text, h .text, g .digits, h .digits)
 
-alone-led : (a b : List ℕ) → Alone a → Led b → runs-compared a b ≡ plainly a b
-unfolding runs-compared
+alone-led : (a b : List ℕ) → Alone a → Led b → runs-compared a b ≡ plainly-compared a b
+unfolding runs-compared plainly-compared
 alone-led a b g h =
     let less : size-of-run a < size-of-run b = omega (arith, g .size, h .size, h .some) in
     rw (size-less less)
@@ -106,8 +95,8 @@ alone-led a b g h =
     (λ l. absurd (omega (arith, g .digits, h .some)))
     (λ l. rw (size-level l, g .text, h .text, bytes-step, size-less (h .more))))
 
-led-alone : (a b : List ℕ) → Led a → Alone b → runs-compared a b ≡ plainly a b
-unfolding runs-compared
+led-alone : (a b : List ℕ) → Led a → Alone b → runs-compared a b ≡ plainly-compared a b
+unfolding runs-compared plainly-compared
 led-alone a b g h =
     let more : size-of-run b < size-of-run a = omega (arith, g .size, h .size, g .some) in
     rw (size-more more)
@@ -117,7 +106,7 @@ led-alone a b g h =
     (λ l. rw (size-level l, g .text, h .text, bytes-step, size-more (g .more))))
 
 pub canonical-runs : (xs ys : List ℕ) → 0 < digits-of xs → 0 < digits-of ys → has-zeros xs ≡ false → has-zeros ys ≡ false
-    → runs-compared xs ys ≡ by-size (digits-of xs) (digits-of ys) (bytes-compared (take (digits-of xs) xs) (take (digits-of ys) ys))
+    → runs-compared xs ys ≡ plainly-compared xs ys
 canonical-runs xs ys g h p q =
     canonical-cases xs g p
     (λ u. canonical-cases ys h q (λ v. led-led xs ys u v) (λ v. led-alone xs ys u v))

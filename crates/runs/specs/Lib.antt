@@ -1,0 +1,4 @@
+pub mod Orders
+pub mod Runs
+pub mod RunLaws
+pub mod Canonical
