@@ -1,7 +1,7 @@
 -- Laws of names of two texts, in the code's terms: t is the text, l the library behind it, w a word, k how many bytes its name may have.
 use mathlib.Core.Path.{_≡_, refl, sym, ap, _∙_}
 use mathlib.Core.Bool.{Bool, true, false, false≢true}
-use mathlib.Core.List.{List}
+use mathlib.Core.List.{List, append-nil}
 use Prim.Native.Nat.{ℕ, _+_, _-_, _*_, _/_, _%_, _<_, _≤_, min}
 use native.Mathlib.Omega.{arith}
 use lib.Dec.{leb}
@@ -187,6 +187,14 @@ module _ (l t : List ℕ) where
         (name-of (joint (take (length l - 0) (drop 0 l)) (take (length t - 0) (drop 0 t))) b)
         → r ≡ same (name-of (joint l t) a) (name-of (joint l t) b)
     elsewhere-same r e = rw (whole l, whole t) at e
+
+-- ---- names of one text: the library handed over is an empty part of it
+
+pub alone-compared : (t : List ℕ) (a b r : ℕ)
+    → r ≡ compared (name-of (joint (take (0 - 0) (drop 0 t)) t) a) (name-of (joint (take (0 - 0) (drop 0 t)) t) b)
+    → r ≡ compared (name-of t a) (name-of t b)
+unfolding joint
+alone-compared t a b r e = rw (append-nil t) at e
 
 -- ---- a name of each
 

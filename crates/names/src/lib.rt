@@ -7,10 +7,10 @@ ghost use mathlib.Core.Bool.{true};
 ghost use Prim.Native.Nat.{_+_, _/_, _<_, min};
 ghost use lib.Dec.{ltb};
 ghost use lib.ListN.{length, getD, drop};
-ghost use Rattle.meaning.specs.Names.{same, is-digit};
+ghost use Rattle.meaning.specs.Names.{same, is-digit, not-after};
 ghost use Rattle.meaning.specs.Tokens.{is-word, run-end, at-hyphen, at-word};
 ghost use Rattle.names.specs.Word.{name-of};
-ghost use Rattle.runs.specs.Orders.{bytes-compared};
+ghost use Rattle.runs.specs.Orders.{compared, bytes-compared};
 ghost use Rattle.runs.specs.Runs.{digits-of, by-size, plainly-compared, has-zeros, plain-size, Seen, Decides};
 
 // The byte at i, and 0 past the end.
@@ -321,6 +321,20 @@ fn compare_at_once(text: &[u8], a: u32, b: u32) -> u8
     let n = x + name_length(text, a);
     let m = y + name_length(text, b);
     compare_names(&text[x..n], &text[y..m])
+}
+
+// 1 if a and b are the same name, 0 if a comes first, 2 if b does: as of two texts, the library being empty.
+pub fn compare(text: &[u8], a: u32, b: u32) -> u8
+    ensures { λ r. ⌜ r ≡ compared (name-of (now (text .entry)) a) (name-of (now (text .entry)) b) ⌝ }
+{
+    joint::compare(&text[0..0], text, a, b)
+}
+
+// Are a and b the same name, or does a come first?
+pub fn not_after(text: &[u8], a: u32, b: u32) -> bool
+    ensures { λ r. ⌜ r ≡ not-after (name-of (now (text .entry)) a) (name-of (now (text .entry)) b) ⌝ }
+{
+    compare(text, a, b) < 2
 }
 
 // Are a and b the same name? One word is one name, with no look at the text.
