@@ -71,7 +71,7 @@ module _ (a : List ℕ) (i : ℕ) where
       run-some : 0 < digits-of (drop i a)
       run-some = ltb-true 0 (digits-of (drop i a)) (sym e ∙ t)
 
-      pub digit-within : i < length a
+      digit-within : i < length a
       digit-within = omega (arith, run-some, digits-length (drop i a), length-drop i a)
 
       pub digit-less : length a - (i + 1) < length a - i
@@ -263,4 +263,4 @@ module _ (a b : List ℕ) (i : ℕ) (v : compared a b ≡ compared (drop i a) (d
   pub seen-over-same : length b ≤ i → Seen a b 1
   seen-over-same h = record { told = λ k. v ∙ left-none a b (length a) (length b) i refl refl l h }
 
-pub ruleset cases = (run-on, run-stop, run-over, digit-there, digit-past, zeros-there, zeros-not, not-seen, number-digits, number-same, run-in-front, run-behind, byte-less, byte-more, digit-so, seen-longer, seen-same, seen-shorter, seen-first, seen-on, seen-less, seen-over-shorter, seen-over-same, needs)
+pub ruleset cases = (not-seen, seen-longer, seen-same, seen-shorter, seen-first, seen-on, seen-less, seen-over-shorter, seen-over-same, needs)

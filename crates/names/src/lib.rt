@@ -1,4 +1,5 @@
-// Names of a text: its bytes by place, where an identifier ends, whether two are the same, and which of two texts comes first by its bytes.
+// Names of a text: its bytes by place, where an identifier ends, whether two are the same, which of two comes first, and which of two texts does by
+// its bytes.
 // A name is one word: the place where it starts times 64, and its length.
 pub mod joint;
 

@@ -1,15 +1,15 @@
 -- Names compared element by element, runs of digits where they stand: what each step of a loop over two names finds is what `compared` says. The
 -- numbers that runs stand for occur here alone: `runs-compared` orders two runs as their numbers and then their sizes do.
 use mathlib.Core.Path.{_≡_, refl, sym, ap, ap₂, _∙_}
-use mathlib.Core.Bool.{Bool, true, false, _&&_, false≢true}
+use mathlib.Core.Bool.{Bool, true, false, false≢true}
 use mathlib.Core.List.{List, [], _∷_}
 use Prim.Native.Nat.{ℕ, suc, _+_, _-_, _*_, _^_, _<_, _≤_}
 use native.Mathlib.Omega.{arith}
 use native.Mathlib.Nat.{mul-le-mul-right, mul-comm, add-mul, one-mul, zero-mul, pow-suc, pow-le-pow-right, sub-zero, suc-sub-suc}
 use native.Mathlib.Numerals.{add-one}
-use lib.Dec.{eqb, leb, ltb}
+use lib.Dec.{eqb, ltb}
 use lib.ListN.{length, take, drop, length-take, length-drop}
-use borrow.Author.Tests.{leb-true, ltb-true, ltb-false, eqb-true, eqb-false, lt-ltb, le-ltb, le-leb, lt-leb, eq-eqb, ne-eqb}
+use borrow.Author.Tests.{ltb-true, ltb-false, eqb-true, eqb-false, lt-ltb, le-ltb, le-leb, lt-leb, eq-eqb, ne-eqb}
 use Rattle.meaning.specs.Lists.{pick}
 use Rattle.meaning.specs.Names.{run, other, same, is-digit, led-by, elements, weights, bytes-not-after, not-after}
 use Rattle.meaning.specs.ElementLaws.{weights-told, name-told, digit-low, digit-high}

@@ -9,7 +9,6 @@ use layout::table_start;
 use modules::Heads;
 use modules::name_of_module;
 use modules::reached;
-ghost use mathlib.Core.Path.{_≡_};
 ghost use Prim.Native.Nat.{_<_, _≤_};
 ghost use Rattle.names.specs.Joint.{joint};
 ghost use Rattle.turns.specs.Asked.{Asked};

@@ -5,7 +5,6 @@ use Prim.Native.Nat.{_-_}
 use lib.ListN.{drop}
 use Rattle.meaning.specs.Names.{same}
 use Rattle.names.specs.Word.{name-of}
-use Rattle.runs.specs.Orders.{compared}
 use Rattle.names.specs.Joint.{joint}
 use Rattle.names.proofs.Auto.{on, done}
 use Rattle.names.proofs.Joined.{cases}
