@@ -1,21 +1,22 @@
--- What is read is within its limits (document 01, "The text"), rule by rule of the grammar: modules, inputs of a function, pairs of a clause,
--- nodes of an equation.
+-- What is read is within its limits (document 01, "The text"), rule by rule of the grammar: modules and their names, inputs of a function,
+-- pairs of a clause, nodes of an equation.
 use mathlib.Core.Path.{_≡_, refl, ap, subst, _∙_}
 use Prim.Native.Nat.{ℕ, zero, suc, _+_, _-_, _≤_}
 use native.Mathlib.Omega.{arith}
 use mathlib.Core.Bool.{Bool}
 use mathlib.Core.List.{List, [], _∷_, _++_, append-nil}
-use lib.ListN.{length, length-append}
-use borrow.Author.Tests.{leb-false}
+use lib.ListN.{length, drop, length-append, length-take}
+use borrow.Author.Tests.{leb-true, leb-false}
 use Rattle.meaning.specs.Laws.{by-cases}
 use Rattle.meaning.specs.Lists.{sum}
-use Rattle.meaning.specs.Names.{byte, Name}
-use Rattle.meaning.specs.Numbers.{text-size, module-limit, import-limit, binding-limit, pair-limit, argument-limit, condition-limit, bracket-limit, node-limit, over-size, other-end}
-use Rattle.meaning.specs.Syntax.{Function, Signature, Parameter, Clause, renamed-by, bound-by, Import, Term, node, terms, Sides, Equation, conditions-of, Module}
+use Rattle.meaning.specs.Names.{byte, Name, infix-name}
+use Rattle.meaning.specs.Numbers.{text-size, name-size, module-limit, import-limit, binding-limit, pair-limit, argument-limit, condition-limit, bracket-limit, node-limit, over-size, other-end}
+use Rattle.meaning.specs.Syntax.{Function, Signature, Parameter, Clause, renamed-by, bound-by, Import, Term, node, terms, Operand, joined-left, Sides, Equation, conditions-of, Module}
+use Rattle.meaning.specs.Tokens.{operator}
 use Rattle.meaning.specs.OrderLaws.{Every}
-use Rattle.meaning.specs.Grammar.{State, Result, done, refused, Parser, after, _>>=_ as bind-read, _>>_ as next-read, return, refuse, unexpected, if-next, too-many, step, expect, short-name, name, that-name, this-name, separated, many, some-of, optional, sort-list, input-type, function, signature, parameter, exports, pair, pairs, renamed, bound, perhaps-renamed, modifier, modifier-end, import-expression, imports, variable-group, variables, counted-name, term-name, term-by, in-brackets, term, sides, sides-list, implied, conditional, equation-after, no-nodes, equation, fresh-name, a-module, modules, empty-signature, begins-term, is, is-name, read}
 use Rattle.meaning.specs.Texts.{Texts, all-read, read-texts}
 use Rattle.meaning.specs.TextsLaws.{Parts, read-parts, by-library, of-both}
+use Rattle.meaning.specs.Grammar.{State, Result, done, refused, Parser, after, _>>=_ as bind-read, _>>_ as next-read, return, refuse, unexpected, if-next, too-many, step, expect, short-name, name, bare-operator, that-name, this-name, separated, many, some-of, optional, sort-list, input-type, prefix-operator, infix-operator, one-input, two-inputs, function-by, function, signature, parameter, exports, function-name, pair, pairs, renamed, bound, perhaps-renamed, modifier, modifier-end, import-expression, imports, variable-group, variables, counted, term-name, term-operator, primary-by, prefixed, operand, term-by, in-brackets, term, sides, sides-list, implied, conditional, equation-after, no-nodes, equation, fresh-name, a-module, modules, empty-signature, begins-function, begins-term, is, is-name, read}
 use Rattle.limits.specs.EveryLaws.{every-append}
 use Rattle.limits.specs.Nodes.{source-nodes, all-source-nodes, source-sides, source-equation}
 
@@ -32,6 +33,7 @@ abbrev pub NodesWithin : Equation → Type 0
 NodesWithin e = source-equation e ≤ node-limit
 
 pub record Limited (m : Module) : Type 0 where
+  pub name : length (m .name) ≤ name-size
   pub parameters : Every (λ (p : Parameter). Every InputsWithin (p .signature .functions)) (m .parameters)
   pub exports : Every InputsWithin (m .exports .functions)
   pub hidden : Every InputsWithin (m .hidden .functions)
@@ -121,16 +123,45 @@ module _ (text : List ℕ) where
   unfolding expect
   reads-expect k = reads-if _ reads-step reads-unexpected
 
+  reads-short : {I : ℕ → Type 0} → Reads I (short-name text) (λ a. I)
+  unfolding short-name
+  reads-short {I} = record {
+    reads = λ s i.
+        by-cases (Gives (λ a. I)) _ _ _ (λ e. reads-bind reads-step (λ t. reads-return _ (λ n h. h)) .reads s i)
+        (λ e. reads-refuse {I = I} {J = λ a. I} over-size .reads s i);
+  }
+
   reads-name : {I : ℕ → Type 0} → Reads I (name text) (λ a. I)
-  unfolding name short-name
-  reads-name {I} =
+  unfolding name
+  reads-name = reads-if _ reads-short reads-unexpected
+
+  reads-size : Reads Always (name text) (λ w k. length w ≤ name-size)
+  unfolding name short-name bind-read after step return
+  reads-size =
       reads-if _
       (record {
         reads = λ s i.
-            by-cases (Gives (λ a. I)) _ _ _ (λ e. reads-bind reads-step (λ t. reads-return _ (λ n h. h)) .reads s i)
-            (λ e. reads-refuse {I = I} {J = λ a. I} over-size .reads s i);
+            by-cases (Gives (λ w k. length w ≤ name-size)) _ _ _
+            (λ e. omega (arith, length-take (s .token .end - s .token .start) (drop (s .token .start) text), leb-true (s .token .end - s .token .start) name-size e))
+            (λ e. reads-refuse {I = Always} {J = λ w k. length w ≤ name-size} over-size .reads s i);
       })
       reads-unexpected
+
+  reads-bare : {I : ℕ → Type 0} → Reads I (bare-operator text) (λ a. I)
+  unfolding bare-operator
+  reads-bare = reads-if _ reads-short reads-unexpected
+
+  reads-prefix : {I : ℕ → Type 0} → Reads I (prefix-operator text) (λ a. I)
+  unfolding prefix-operator
+  reads-prefix = reads-bind reads-bare (λ o. reads-then (reads-expect _) (reads-return _ (λ n h. h)))
+
+  reads-infix : {I : ℕ → Type 0} → Reads I (infix-operator text) (λ a. I)
+  unfolding infix-operator
+  reads-infix = reads-then (reads-expect _) (reads-bind reads-bare (λ o. reads-then (reads-expect _) (reads-return _ (λ n h. h))))
+
+  reads-function-name : {I : ℕ → Type 0} → Reads I (function-name text) (λ a. I)
+  unfolding function-name
+  reads-function-name = reads-if _ reads-prefix (reads-if _ reads-infix reads-name)
 
   reads-this-name : {I : ℕ → Type 0} (w : Name) → Reads I (this-name text w) (λ a. I)
   unfolding this-name that-name
@@ -182,13 +213,33 @@ module _ (text : List ℕ) where
   reads-names : (n mark : ℕ) → Reads Always (separated text n mark is-name (name text)) (λ xs k. Listed Any n xs)
   reads-names n mark = reads-separated Any n mark is-name (name text) reads-name
 
+  abbrev Few : List Name → ℕ → Type 0
+  Few xs k = length xs ≤ argument-limit
+
+  reads-inputs : Reads Always (input-type text) Few
+  unfolding input-type
+  reads-inputs = reads-if _ (reads-return [] (λ k i. omega arith)) (reads-so (λ xs k l. l .few) (reads-names argument-limit (byte "#")))
+
+  reads-one-input : Reads Always (one-input text) Few
+  unfolding one-input
+  reads-one-input = reads-bind reads-name (λ a. reads-return _ (λ k i. omega arith))
+
+  reads-two-inputs : Reads Always (two-inputs text) Few
+  unfolding two-inputs
+  reads-two-inputs = reads-bind reads-name (λ a. reads-then (reads-expect _) (reads-bind reads-name (λ b. reads-return _ (λ k i. omega arith))))
+
+  reads-function-by : {inputs : Parser (List Name)} → Reads Always inputs Few → (f : Name)
+      → Reads Always (function-by text inputs f) (λ g k. InputsWithin g)
+  unfolding function-by
+  reads-function-by h f =
+      reads-then (reads-expect _)
+      (reads-bind h (λ i. given (λ few. reads-then (reads-expect _) (reads-bind reads-name (λ o. reads-return _ (λ k x. few))))))
+
   reads-function : Reads Always (function text) (λ f k. InputsWithin f)
-  unfolding function input-type
+  unfolding function
   reads-function =
-      reads-bind reads-name (λ f. reads-then (reads-expect _)
-      (reads-bind {J = λ i k. length i ≤ argument-limit}
-      (reads-if _ (reads-return [] (λ k i. omega arith)) (reads-so (λ xs k l. l .few) (reads-names argument-limit (byte "#"))))
-      (λ i. given (λ few. reads-then (reads-expect _) (reads-bind reads-name (λ o. reads-return _ (λ k x. few)))))))
+      reads-if _ (reads-bind reads-prefix (reads-function-by reads-one-input))
+      (reads-if _ (reads-bind reads-infix (reads-function-by reads-two-inputs)) (reads-bind reads-name (reads-function-by reads-inputs)))
 
   abbrev SignatureWithin : Signature → Type 0
   SignatureWithin g = Every InputsWithin (g .functions)
@@ -198,7 +249,7 @@ module _ (text : List ℕ) where
   reads-signature =
       reads-bind {J = λ xs k. Unit {0}} (reads-optional _ [] _ (λ k i. tt) (reads-so (λ xs k l. tt) (reads-names text-size (byte ",")))) (λ s.
       reads-bind {J = λ fs k. Every InputsWithin fs}
-      (reads-optional _ [] _ (λ k i. tt) (reads-some InputsWithin text-size is-name (function text) reads-function)) (λ f.
+      (reads-optional _ [] _ (λ k i. tt) (reads-some InputsWithin text-size begins-function (function text) reads-function)) (λ f.
       given (λ few. reads-return _ (λ k i. few))))
 
   reads-parameter : Reads Always (parameter text) (λ p k. SignatureWithin (p .signature))
@@ -219,7 +270,7 @@ module _ (text : List ℕ) where
       reads-then (reads-expect _)
       (reads-bind
       (reads-separated Any pair-limit _ _ _
-      (reads-bind reads-name (λ a. reads-then (reads-expect _) (reads-bind reads-name (λ b. reads-return _ (λ k i. tt))))))
+      (reads-bind reads-function-name (λ a. reads-then (reads-expect _) (reads-bind reads-function-name (λ b. reads-return _ (λ k i. tt))))))
       (λ rs. given (λ l. reads-then (reads-expect _) (reads-return rs (λ k i. l .few)))))
 
   reads-renamed : Reads Always (renamed text) (λ c k. PairsWithin c)
@@ -255,15 +306,22 @@ module _ (text : List ℕ) where
 
   -- ---- terms and equations: a name in a term is a node
 
+  reads-counted : (n : ℕ) {p : Parser Name} → Reads (Spent (n + 1)) p (λ a. Spent (n + 1)) → Reads (Spent n) (counted text p) (λ f. Spent (n + 1))
+  unfolding counted refuse
+  reads-counted n h = record {
+    reads = λ s i.
+        by-cases (Gives (λ f. Spent (n + 1))) _ _ _ (λ e. tt)
+        (λ e. h .reads (record { token = s .token; nodes = suc (s .nodes) })
+        (record { told = omega (arith, i .told); few = omega (arith, leb-false node-limit (s .nodes) e, i .told) }));
+  }
+
   reads-term-name : (n : ℕ) → Reads (Spent n) (term-name text) (λ f. Spent (n + 1))
-  unfolding term-name counted-name refuse
-  reads-term-name n = reads-if _ (record { reads = counted }) reads-unexpected
-    where
-      counted : (s : State) → Spent n (s .nodes) → Gives (λ f. Spent (n + 1)) (counted-name text s)
-      counted s i =
-          by-cases (Gives (λ f. Spent (n + 1))) _ _ _ (λ e. tt)
-          (λ e. reads-name {I = Spent (n + 1)} .reads (record { token = s .token; nodes = suc (s .nodes) })
-          (record { told = omega (arith, i .told); few = omega (arith, leb-false node-limit (s .nodes) e, i .told) }))
+  unfolding term-name
+  reads-term-name n = reads-if _ (reads-counted n reads-name) reads-unexpected
+
+  reads-term-operator : (n : ℕ) → Reads (Spent n) (term-operator text) (λ f. Spent (n + 1))
+  unfolding term-operator
+  reads-term-operator n = reads-if _ (reads-counted n reads-bare) reads-unexpected
 
   -- items that count
   spends-separated : {A : Type 0} (count : A → ℕ) (c mark : ℕ) (begins : ℕ → Bool) (item : Parser A)
@@ -278,6 +336,19 @@ module _ (text : List ℕ) where
       (reads-return [] (λ k i. spent-is (n + count a) (n + count a + 0) k (omega arith) i)))
       (λ more. reads-return (a ∷ more) (λ k i. spent-is (n + count a + sum count more) (n + (count a + sum count more)) k (omega arith) i)))
 
+  spends-many : {A : Type 0} (count : A → ℕ) (c : ℕ) (begins : ℕ → Bool) (item : Parser A)
+      → ((n : ℕ) → Reads (Spent n) item (λ a. Spent (n + count a)))
+      → (n : ℕ) → Reads (Spent n) (many text c begins item) (λ xs. Spent (n + sum count xs))
+  unfolding many sum
+  spends-many count zero begins item h n =
+      reads-if _ (reads-refuse over-size) (reads-return [] (λ k i. spent-is n (n + 0) k (omega arith) i))
+  spends-many count (suc c) begins item h n =
+      reads-if _
+      (reads-bind (h n) (λ a.
+      reads-bind (spends-many count c begins item h (n + count a)) (λ more.
+      reads-return (a ∷ more) (λ k i. spent-is (n + count a + sum count more) (n + (count a + sum count more)) k (omega arith) i))))
+      (reads-return [] (λ k i. spent-is n (n + 0) k (omega arith) i))
+
   spends-brackets : {A : Type 0} (count : A → ℕ) {p : Parser A} → ((n : ℕ) → Reads (Spent n) p (λ a. Spent (n + count a)))
       → (n : ℕ) → Reads (Spent n) (in-brackets text p) (λ a. Spent (n + count a))
   unfolding in-brackets
@@ -288,11 +359,11 @@ module _ (text : List ℕ) where
   terms-count [] = refl
   terms-count (t ∷ ts) = omega (arith, terms-count ts)
 
-  spends-term-by : {arguments : Parser (List Term)} {inner : Parser Term} → ((n : ℕ) → Reads (Spent n) arguments (λ ts. Spent (n + sum source-nodes ts)))
+  spends-primary-by : {arguments : Parser (List Term)} {inner : Parser Term} → ((n : ℕ) → Reads (Spent n) arguments (λ ts. Spent (n + sum source-nodes ts)))
       → ((n : ℕ) → Reads (Spent n) inner (λ t. Spent (n + source-nodes t))) → (n : ℕ)
-      → Reads (Spent n) (term-by text arguments inner) (λ t. Spent (n + source-nodes t))
-  unfolding term-by source-nodes sum
-  spends-term-by h g n =
+      → Reads (Spent n) (primary-by text arguments inner) (λ t. Spent (n + source-nodes t))
+  unfolding primary-by source-nodes sum
+  spends-primary-by h g n =
       reads-if _ (g n)
       (reads-bind (reads-term-name n) (λ f.
       reads-bind {J = λ ts. Spent (n + 1 + sum source-nodes ts)}
@@ -300,12 +371,46 @@ module _ (text : List ℕ) where
       (λ a. reads-return (node f (terms a))
       (λ k i. spent-is (n + 1 + sum source-nodes a) (n + (1 + all-source-nodes (terms a))) k (omega (arith, terms-count a)) i))))
 
+  -- an operator is a node
+  operand-nodes : Operand → ℕ
+  operand-nodes o = 1 + source-nodes (o .right)
+
+  joined-nodes : (t : Term) (os : List Operand) → source-nodes (joined-left t os) ≡ source-nodes t + sum operand-nodes os
+  unfolding joined-left source-nodes terms sum operand-nodes
+  joined-nodes t [] = omega arith
+  joined-nodes t (o ∷ os) = omega (arith, joined-nodes (node (infix-name (o .operator)) (terms (t ∷ o .right ∷ []))) os)
+
+  spends-prefixed : {primary : Parser Term} → ((n : ℕ) → Reads (Spent n) primary (λ t. Spent (n + source-nodes t))) → (n : ℕ)
+      → Reads (Spent n) (prefixed text primary) (λ t. Spent (n + source-nodes t))
+  unfolding prefixed source-nodes terms
+  spends-prefixed h n =
+      reads-bind (reads-term-operator n) (λ o. reads-bind (h (n + 1)) (λ a.
+      reads-return _ (λ k i. spent-is (n + 1 + source-nodes a) (n + (1 + (source-nodes a + 0))) k (omega arith) i)))
+
+  spends-operand : {primary : Parser Term} → ((n : ℕ) → Reads (Spent n) primary (λ t. Spent (n + source-nodes t))) → (n : ℕ)
+      → Reads (Spent n) (operand text primary) (λ o. Spent (n + operand-nodes o))
+  unfolding operand operand-nodes
+  spends-operand h n =
+      reads-bind (reads-term-operator n) (λ o. reads-bind (h (n + 1)) (λ b.
+      reads-return _ (λ k i. spent-is (n + 1 + source-nodes b) (n + (1 + source-nodes b)) k (omega arith) i)))
+
+  spends-term-by : {primary : Parser Term} → ((n : ℕ) → Reads (Spent n) primary (λ t. Spent (n + source-nodes t))) → (n : ℕ)
+      → Reads (Spent n) (term-by text primary) (λ t. Spent (n + source-nodes t))
+  unfolding term-by
+  spends-term-by {primary} h n =
+      reads-bind (reads-if _ (spends-prefixed h n) (h n)) (λ t.
+      reads-bind (spends-many operand-nodes node-limit (is operator) (operand text primary) (spends-operand h) (n + source-nodes t)) (λ os.
+      reads-return (joined-left t os)
+      (λ k i. spent-is (n + source-nodes t + sum operand-nodes os) (n + source-nodes (joined-left t os)) k (omega (arith, joined-nodes t os)) i)))
+
   spends-term : (d n : ℕ) → Reads (Spent n) (term text d) (λ t. Spent (n + source-nodes t))
   unfolding term
-  spends-term zero n = spends-term-by (λ m. reads-refuse over-size) (λ m. reads-refuse over-size) n
+  spends-term zero n = spends-term-by (spends-primary-by (λ m. reads-refuse over-size) (λ m. reads-refuse over-size)) n
   spends-term (suc d) n =
-      spends-term-by (spends-brackets (sum source-nodes) (spends-separated source-nodes argument-limit (byte ",") begins-term (term text d) (spends-term d)))
-      (spends-brackets source-nodes (spends-term d)) n
+      spends-term-by
+      (spends-primary-by (spends-brackets (sum source-nodes) (spends-separated source-nodes argument-limit (byte ",") begins-term (term text d) (spends-term d)))
+      (spends-brackets source-nodes (spends-term d)))
+      n
 
   spends-sides : (n : ℕ) → Reads (Spent n) (sides text) (λ s. Spent (n + source-sides s))
   unfolding sides source-sides
@@ -348,12 +453,12 @@ module _ (text : List ℕ) where
 
   -- ---- modules
 
-  reads-fresh-name : (taken : List Name) → Reads Always (fresh-name text taken) (λ w. Always)
+  reads-fresh-name : (taken : List Name) → Reads Always (fresh-name text taken) (λ w k. length w ≤ name-size)
   unfolding fresh-name refuse
   reads-fresh-name taken = record {
     reads = λ s i.
-        after-read (λ w. Always) (λ w. Always) (name text s) _ (reads-name {I = Always} .reads s i)
-        (λ w t h. by-cases (Gives (λ w. Always)) _ _ _ (λ e. tt) (λ e. tt));
+        after-read (λ w k. length w ≤ name-size) (λ w k. length w ≤ name-size) (name text s) _ (reads-size .reads s i)
+        (λ w t h. by-cases (Gives (λ w k. length w ≤ name-size)) _ _ _ (λ e. tt) (λ e. h));
   }
 
   reads-variables : Reads Always (variables text) (λ gs. Always)
@@ -371,7 +476,7 @@ module _ (text : List ℕ) where
   reads-module : (taken : List Name) → Reads Always (a-module text taken) (λ m k. Limited m)
   unfolding a-module imports
   reads-module taken =
-      reads-then (reads-expect _) (reads-bind (reads-fresh-name taken) (λ n. reads-then (reads-expect _)
+      reads-then (reads-expect _) (reads-bind (reads-fresh-name taken) (λ n. given (λ w. reads-then (reads-expect _)
       (reads-bind {J = λ ps k. Every (λ (p : Parameter). SignatureWithin (p .signature)) ps}
       (reads-optional _ [] _ (λ k i. tt)
       (reads-so (λ ps k l. l .each-one) (reads-separated (λ p. SignatureWithin (p .signature)) text-size _ _ (parameter text) reads-parameter)))
@@ -386,7 +491,8 @@ module _ (text : List ℕ) where
       reads-bind {J = λ es k. Every NodesWithin es} (reads-optional _ [] _ (λ k i. tt) (reads-some NodesWithin text-size _ (equation text) reads-equation))
       (λ r. given (λ f.
       reads-then (reads-expect _) (reads-then (reads-this-name n)
-      (reads-return _ (λ k i. record { parameters = a; exports = b; hidden = d; imports = c .few; clauses = c .each-one; equations = f })))))))))))))))))
+      (reads-return _
+      (λ k i. record { name = w; parameters = a; exports = b; hidden = d; imports = c .few; clauses = c .each-one; equations = f }))))))))))))))))))
 
   reads-modules : (n : ℕ) (taken : List Name) → Reads Always (modules text n taken) (λ ms k. Listed Limited n ms)
   unfolding modules

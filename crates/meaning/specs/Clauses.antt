@@ -1,10 +1,12 @@
--- The clauses of an import expression (document 01, "Evaluating", step 3): renaming, 14, and binding, 15 and 16.
+-- The clauses of an import expression (document 01, "Evaluating", step 3; 02, request Two): renaming, 14, and binding, 15 and 16.
 use Prim.Native.Nat.{ℕ}
 use mathlib.Core.Bool.{Bool, true, false, not, _&&_, _||_}
 use mathlib.Core.Option.{Option, none, some}
 use mathlib.Core.List.{List, [], _∷_, _++_, map}
+use lib.Dec.{eqb}
+use lib.ListN.{length}
 use Rattle.meaning.specs.Lists.{pick, keep, any, first}
-use Rattle.meaning.specs.Names.{Name, same, member, least}
+use Rattle.meaning.specs.Names.{Name, same, is-operator, is-infix, member, least}
 use Rattle.meaning.specs.Numbers.{bad-renaming, bad-parameter, bad-binding}
 use Rattle.meaning.specs.Syntax.{Pair}
 use Rattle.meaning.specs.Origins.{Origin, same-origin, Sort, visible-sort, hidden-sort, FunctionType, Shape, sort-shape, function-shape, variable-shape, same-shape, Item}
@@ -28,16 +30,31 @@ renaming rs w = otherwise w (paired rs w)
 
 -- ---- renaming: a pair renames the visible sort and all visible function instances of its old name, parameters included
 
--- the first pair whose old name is not visible, or was given before
-unfoldable pub wrong-renaming : List Name → List Name → List Pair → Option Name
-wrong-renaming known seen [] = none
-wrong-renaming known seen (r ∷ rs) =
-    let more = wrong-renaming known (r .old ∷ seen) rs in
-    pick (member (r .old) known && not (member (r .old) seen)) more (some (r .old))
+-- what a name may stand for. A plain one: anything; an operator: no sort, and functions with as many arguments as it has
+unfoldable pub arguments-fit : Name → ℕ → Bool
+arguments-fit w n = pick (is-operator w) (eqb n (pick (is-infix w) 2 1)) true
+
+unfoldable pub may-name : Name → Shape → Bool
+may-name w sort-shape = not (is-operator w)
+may-name w (function-shape t) = arguments-fit w (length (t .inputs))
+may-name w (variable-shape s) = true
+
+-- the old name is visible, and the new one may stand for all that it renames
+unfoldable pub renames : List Item → Pair → Bool
+renames visible r =
+    any (is-called (r .old)) visible
+    && not (any (λ (i : Item). is-called (r .old) i && not (may-name (r .new) (i .shape))) visible)
+
+-- the first pair that is wrong, or whose old name was given before
+unfoldable pub wrong-renaming : List Item → List Name → List Pair → Option Name
+wrong-renaming visible seen [] = none
+wrong-renaming visible seen (r ∷ rs) =
+    let more = wrong-renaming visible (r .old ∷ seen) rs in
+    pick (renames visible r && not (member (r .old) seen)) more (some (r .old))
 
 unfoldable pub rename : List Pair → Normal → Outcome Normal
 rename rs n = do
-  unless bad-renaming (wrong-renaming (names-in (n .visible .items)) [] rs)
+  unless bad-renaming (wrong-renaming (n .visible .items) [] rs)
   checked (move (renaming rs) (λ f t. renaming rs f) n)
 
 -- ---- binding: sorts of a type that are not formal compare by name and origin, unavailable ones by name
@@ -86,8 +103,8 @@ module _ (formal : List Item) (rs : List Pair) (whole actual : Visible) where
   unfoldable pub sorts-right : FunctionType → Bool
   sorts-right t = not (any (λ (s : Sort). not (sort-right s)) (t .output ∷ t .inputs))
 
-  -- a formal sort needs a visible sort of the actual module; a formal function needs a visible function with the new name and the formal
-  -- type after the formal sorts are replaced
+  -- a formal sort needs a visible sort of the actual module, so no operator; a formal function needs a visible function with the new name
+  -- and the formal type after the formal sorts are replaced, so one with as many arguments
   unfoldable pub shape-right : Name → Shape → Bool
   shape-right new sort-shape = member new (sort-names actual)
   shape-right new (variable-shape s) = true
@@ -138,5 +155,5 @@ bind p rs n actual = let r = bound-to p rs n actual in pick (member p (n .visibl
 
 -- opens every definition of this file
 unfoldable pub clauses-opened : Unit {0}
-unfolding paired otherwise renaming wrong-renaming rename origin-of-item origin-of same-origins is-among formals is-formal-sort new-sort new-function sort-right sorts-right shape-right pair-right wrong-pair unpaired without-visible without bound-to bind
+unfolding paired otherwise renaming arguments-fit may-name renames wrong-renaming rename origin-of-item origin-of same-origins is-among formals is-formal-sort new-sort new-function sort-right sorts-right shape-right pair-right wrong-pair unpaired without-visible without bound-to bind
 clauses-opened = tt

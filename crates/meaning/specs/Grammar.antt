@@ -1,5 +1,5 @@
--- The grammar (document 01, "The text"; 004, section 2.1): from a text to its modules, or its leftmost offence with the smaller number at
--- one place: refusals 1 to 5.
+-- The grammar (document 01, "The text"; 02, request Two; 004, section 2.1): from a text to its modules, or its leftmost offence with the
+-- smaller number at one place: refusals 1 to 5.
 use Prim.Native.Nat.{ℕ, zero, suc, _+_, _-_}
 use mathlib.Core.Bool.{Bool, true, false, not, _&&_, _||_}
 use mathlib.Core.List.{List, [], _∷_, _++_, map}
@@ -7,10 +7,10 @@ use lib.Dec.{eqb, leb}
 use lib.ListN.{length}
 use Rattle.types.specs.declared.Token.{Token}
 use Rattle.meaning.specs.Lists.{pick, before}
-use Rattle.meaning.specs.Names.{byte, slice, Name, same, member}
+use Rattle.meaning.specs.Names.{byte, slice, Name, same, prefix-name, infix-name, member}
 use Rattle.meaning.specs.Numbers.{text-size, name-size, import-limit, binding-limit, pair-limit, argument-limit, condition-limit, bracket-limit, node-limit, no-token-there, not-allowed, other-end, over-size, module-twice}
-use Rattle.meaning.specs.Tokens.{token, end-of-text, ident, arrow, implies, no-token, begin-key, bound-key, by-key, end-key, equations-key, exports-key, functions-key, imports-key, module-key, parameters-key, renamed-key, sorts-key, to-key, variables-key, when-key, token-at}
-use Rattle.meaning.specs.Syntax.{Function, Signature, Parameter, Pair, Clause, renamed-by, bound-by, Import, VariableGroup, Term, node, terms, Sides, Equation, Module}
+use Rattle.meaning.specs.Tokens.{token, end-of-text, ident, arrow, implies, no-token, operator, begin-key, bound-key, by-key, end-key, equations-key, exports-key, functions-key, imports-key, module-key, parameters-key, renamed-key, sorts-key, to-key, variables-key, when-key, token-at}
+use Rattle.meaning.specs.Syntax.{Function, Signature, Parameter, Pair, Clause, renamed-by, bound-by, Import, VariableGroup, Term, node, terms, Operand, joined-left, Sides, Equation, Module}
 
 -- where reading is: the token that is next, and how many nodes of the equation have been read
 pub record State : Type 0 where
@@ -59,8 +59,12 @@ is k = λ kind. eqb kind k
 abbrev pub is-name : ℕ → Bool
 is-name kind = eqb kind ident
 
+-- a plain name, or an operator with its underlines
+unfoldable pub begins-function : ℕ → Bool
+begins-function kind = eqb kind ident || eqb kind operator || eqb kind (byte "_")
+
 unfoldable pub begins-term : ℕ → Bool
-begins-term kind = eqb kind ident || eqb kind (byte "(")
+begins-term kind = eqb kind ident || eqb kind operator || eqb kind (byte "(")
 
 -- one item more than there may be: 4 at its first token, where that token may begin one
 unfoldable pub too-many : {A : Type 0} → (ℕ → Bool) → Parser A
@@ -89,6 +93,10 @@ module _ (text : List ℕ) where
 
   unfoldable pub name : Parser Name
   name = if-next is-name short-name unexpected
+
+  -- an operator without its underlines: the size is its own
+  unfoldable pub bare-operator : Parser Name
+  bare-operator = if-next (is operator) short-name unexpected
 
   -- the name after `end`: that of the module or the parameter that it closes
   unfoldable pub that-name : Name → Parser Token
@@ -134,19 +142,52 @@ module _ (text : List ℕ) where
   unfoldable pub input-type : Parser (List Name)
   input-type = if-next (is arrow) (return []) (separated argument-limit (byte "#") is-name name)
 
-  unfoldable pub function : Parser Function
-  function = do
-    f ← name
+  -- `-_`
+  unfoldable pub prefix-operator : Parser Name
+  prefix-operator = do
+    o ← bare-operator
+    expect (byte "_")
+    return (prefix-name o)
+
+  -- `_+_`
+  unfoldable pub infix-operator : Parser Name
+  infix-operator = do
+    expect (byte "_")
+    o ← bare-operator
+    expect (byte "_")
+    return (infix-name o)
+
+  unfoldable pub one-input : Parser (List Name)
+  one-input = do
+    a ← name
+    return (a ∷ [])
+
+  unfoldable pub two-inputs : Parser (List Name)
+  two-inputs = do
+    a ← name
+    expect (byte "#")
+    b ← name
+    return (a ∷ b ∷ [])
+
+  -- `: A # B -> C` after a function's name, given how its inputs are read
+  unfoldable pub function-by : Parser (List Name) → Name → Parser Function
+  function-by inputs f = do
     expect (byte ":")
-    i ← input-type
+    i ← inputs
     expect arrow
     o ← name
     return (record { name = f; inputs = i; output = o })
 
+  -- a prefix operator has one input, an infix one has two
+  unfoldable pub function : Parser Function
+  function =
+      if-next (is operator) (prefix-operator >>= function-by one-input)
+      (if-next (is (byte "_")) (infix-operator >>= function-by two-inputs) (name >>= function-by input-type))
+
   unfoldable pub signature : Parser Signature
   signature = do
     s ← optional sorts-key [] sort-list
-    f ← optional functions-key [] (some-of text-size is-name function)
+    f ← optional functions-key [] (some-of text-size begins-function function)
     return (record { sorts = s; functions = f })
 
   unfoldable pub parameter : Parser Parameter
@@ -167,17 +208,20 @@ module _ (text : List ℕ) where
 
   -- ---- imports
 
+  unfoldable pub function-name : Parser Name
+  function-name = if-next (is operator) prefix-operator (if-next (is (byte "_")) infix-operator name)
+
   unfoldable pub pair : Parser Pair
   pair = do
-    a ← name
+    a ← function-name
     expect arrow
-    b ← name
+    b ← function-name
     return (record { old = a; new = b })
 
   unfoldable pub pairs : Parser (List Pair)
   pairs = do
     expect (byte "[")
-    r ← separated pair-limit (byte ",") is-name pair
+    r ← separated pair-limit (byte ",") begins-function pair
     expect (byte "]")
     return r
 
@@ -241,21 +285,46 @@ module _ (text : List ℕ) where
 
   -- ---- terms and equations
 
-  -- a name in a term, which is one node of the equation
-  unfoldable pub counted-name : Parser Name
-  counted-name = λ s. pick (leb node-limit (s .nodes)) (refuse over-size s) (name (record { token = s .token; nodes = suc (s .nodes) }))
+  -- a name or an operator in a term, which is one node of the equation
+  unfoldable pub counted : Parser Name → Parser Name
+  counted p = λ s. pick (leb node-limit (s .nodes)) (refuse over-size s) (p (record { token = s .token; nodes = suc (s .nodes) }))
 
   unfoldable pub term-name : Parser Name
-  term-name = if-next is-name counted-name unexpected
+  term-name = if-next is-name (counted name) unexpected
 
-  -- a term, given how to read what begins at an open bracket: the arguments of a name, or a bracketed term
-  unfoldable pub term-by : Parser (List Term) → Parser Term → Parser Term
-  term-by arguments inner =
+  unfoldable pub term-operator : Parser Name
+  term-operator = if-next (is operator) (counted bare-operator) unexpected
+
+  -- a primary, given how to read what begins at an open bracket: the arguments of a name, or a bracketed term
+  unfoldable pub primary-by : Parser (List Term) → Parser Term → Parser Term
+  primary-by arguments inner =
       if-next (is (byte "(")) inner
       (do
         f ← term-name
         a ← if-next (is (byte "(")) arguments (return [])
         return (node f (terms a)))
+
+  -- `- a`
+  unfoldable pub prefixed : Parser Term → Parser Term
+  prefixed primary = do
+    o ← term-operator
+    a ← primary
+    return (node (prefix-name o) (terms (a ∷ [])))
+
+  -- `+ b`
+  unfoldable pub operand : Parser Term → Parser Operand
+  operand primary = do
+    o ← term-operator
+    b ← primary
+    return (record { operator = o; right = b })
+
+  -- <term> ::= [ <term> <operator> ] <primary> | <operator> <primary>: a primary, or a prefix operator and one; then, for as long as there
+  -- are operators, each joins a primary to what stands on its left. Their number is bounded by the nodes
+  unfoldable pub term-by : Parser Term → Parser Term
+  term-by primary = do
+    t ← if-next (is operator) (prefixed primary) primary
+    os ← many node-limit (is operator) (operand primary)
+    return (joined-left t os)
 
   unfoldable pub in-brackets : {A : Type 0} → Parser A → Parser A
   in-brackets p = do
@@ -266,8 +335,9 @@ module _ (text : List ℕ) where
 
   -- terms hold term lists and term lists hold terms: a term in which d more brackets may be open
   unfoldable pub term : ℕ → Parser Term
-  term zero = term-by (refuse over-size) (refuse over-size)
-  term (suc d) = term-by (in-brackets (separated argument-limit (byte ",") begins-term (term d))) (in-brackets (term d))
+  term zero = term-by (primary-by (refuse over-size) (refuse over-size))
+  term (suc d) =
+      term-by (primary-by (in-brackets (separated argument-limit (byte ",") begins-term (term d))) (in-brackets (term d)))
 
   unfoldable pub sides : Parser Sides
   sides = do
@@ -347,5 +417,5 @@ module _ (text : List ℕ) where
 
 -- opens every definition of this file
 unfoldable pub grammar-opened : Unit {0}
-unfolding after _>>=_ _>>_ return refuse unexpected if-next begins-term too-many empty-signature step expect short-name name that-name this-name separated many some-of optional sort-list input-type function signature parameter exports pair pairs renamed bound perhaps-renamed modifier modifier-end import-expression imports variable-group variables counted-name term-name term-by in-brackets term sides sides-list implied conditional equation-after no-nodes equation fresh-name a-module modules read
+unfolding after _>>=_ _>>_ return refuse unexpected if-next begins-function begins-term too-many empty-signature step expect short-name name bare-operator that-name this-name separated many some-of optional sort-list input-type prefix-operator infix-operator one-input two-inputs function-by function signature parameter exports function-name pair pairs renamed bound perhaps-renamed modifier modifier-end import-expression imports variable-group variables counted term-name term-operator primary-by prefixed operand term-by in-brackets term sides sides-list implied conditional equation-after no-nodes equation fresh-name a-module modules read
 grammar-opened = tt

@@ -6,10 +6,10 @@ use mathlib.Core.List.{List, [], _∷_}
 use lib.Dec.{eqb, leb}
 use Rattle.types.specs.declared.Token.{Token}
 use Rattle.meaning.specs.Lists.{pick}
-use Rattle.meaning.specs.Names.{byte, slice, Name}
-use Rattle.meaning.specs.Tokens.{token, ident, arrow, no-token, token-at}
-use Rattle.meaning.specs.Syntax.{Term, node, terms}
-use Rattle.meaning.specs.Grammar.{State, Result, done, refused, Parser, after, _>>=_, _>>_, return, refuse, unexpected, if-next, begins-term, too-many, step, expect, short-name, name, separated, input-type, function, term-name, term-by, in-brackets, term}
+use Rattle.meaning.specs.Names.{byte, slice, Name, prefix-name, infix-name}
+use Rattle.meaning.specs.Tokens.{token, ident, arrow, no-token, operator, token-at}
+use Rattle.meaning.specs.Syntax.{Function, Term, node, terms, Operand, joined-left}
+use Rattle.meaning.specs.Grammar.{State, Result, done, refused, Parser, after, _>>=_, _>>_, return, refuse, unexpected, if-next, is, too-many, step, expect, short-name, name, separated, many, input-type, prefix-operator, infix-operator, one-input, two-inputs, function-by, function, term-name, term-operator, primary-by, prefixed, operand, term-by}
 
 -- a state in which t is next and n names have been read
 abbrev pub at : Token → ℕ → State
@@ -61,35 +61,48 @@ module _ (text : List ℕ) (t : Token) (n : ℕ) where
 
 -- ---- a rule in a row: the callees' answers are variables
 
-module _ (text : List ℕ) (s : State) where
-  module _ (f : Name) (s₁ : State) (e₁ : done f s₁ ≡ name text s) where
-    module _ (u₂ : Token) (s₂ : State) (e₂ : done u₂ s₂ ≡ expect text (byte ":") s₁) where
-      module _ (i : List Name) (s₃ : State) (e₃ : done i s₃ ≡ input-type text s₂) where
-        module _ (u₄ : Token) (s₄ : State) (e₄ : done u₄ s₄ ≡ expect text arrow s₃) where
-          pub function-done : (o : Name) (s₅ : State) → done o s₅ ≡ name text s₄
-              → done (record { name = f; inputs = i; output = o }) s₅ ≡ function text s
-          unfolding function _>>=_ _>>_ after return
-          function-done o s₅ e₅ = rw (← e₁, ← e₂, ← e₃, ← e₄, ← e₅)
+module _ (text : List ℕ) (inputs : Parser (List Name)) (f : Name) (s : State) where
+  module _ (u₁ : Token) (s₁ : State) (e₁ : done u₁ s₁ ≡ expect text (byte ":") s) where
+    module _ (i : List Name) (s₂ : State) (e₂ : done i s₂ ≡ inputs s₁) where
+      module _ (u₃ : Token) (s₃ : State) (e₃ : done u₃ s₃ ≡ expect text arrow s₂) where
+        pub function-done : (o : Name) (s₄ : State) → done o s₄ ≡ name text s₃
+            → done (record { name = f; inputs = i; output = o }) s₄ ≡ function-by text inputs f s
+        unfolding function-by _>>=_ _>>_ after return
+        function-done o s₄ e₄ = rw (← e₁, ← e₂, ← e₃, ← e₄)
 
-          pub function-stops-5 : (k p : ℕ) → refused k p ≡ name text s₄ → refused k p ≡ function text s
-          unfolding function _>>=_ _>>_ after return
-          function-stops-5 k p e₅ = rw (← e₁, ← e₂, ← e₃, ← e₄, ← e₅)
-
-        pub function-stops-4 : (k p : ℕ) → refused k p ≡ expect text arrow s₃ → refused k p ≡ function text s
-        unfolding function _>>=_ _>>_ after return
+        pub function-stops-4 : (k p : ℕ) → refused k p ≡ name text s₃ → refused k p ≡ function-by text inputs f s
+        unfolding function-by _>>=_ _>>_ after return
         function-stops-4 k p e₄ = rw (← e₁, ← e₂, ← e₃, ← e₄)
 
-      pub function-stops-3 : (k p : ℕ) → refused k p ≡ input-type text s₂ → refused k p ≡ function text s
-      unfolding function _>>=_ _>>_ after return
+      pub function-stops-3 : (k p : ℕ) → refused k p ≡ expect text arrow s₂ → refused k p ≡ function-by text inputs f s
+      unfolding function-by _>>=_ _>>_ after return
       function-stops-3 k p e₃ = rw (← e₁, ← e₂, ← e₃)
 
-    pub function-stops-2 : (k p : ℕ) → refused k p ≡ expect text (byte ":") s₁ → refused k p ≡ function text s
-    unfolding function _>>=_ _>>_ after return
+    pub function-stops-2 : (k p : ℕ) → refused k p ≡ inputs s₁ → refused k p ≡ function-by text inputs f s
+    unfolding function-by _>>=_ _>>_ after return
     function-stops-2 k p e₂ = rw (← e₁, ← e₂)
 
-  pub function-stops-1 : (k p : ℕ) → refused k p ≡ name text s → refused k p ≡ function text s
-  unfolding function _>>=_ _>>_ after return
+  pub function-stops-1 : (k p : ℕ) → refused k p ≡ expect text (byte ":") s → refused k p ≡ function-by text inputs f s
+  unfolding function-by _>>=_ _>>_ after return
   function-stops-1 k p e₁ = rw (← e₁)
+
+-- which rule it is: by its first token
+
+module _ (text : List ℕ) (s : State) (r : Result Function) where
+  pub function-prefix : eqb (s .token .kind) operator ≡ true → r ≡ (prefix-operator text >>= function-by text (one-input text)) s
+      → r ≡ function text s
+  unfolding function if-next pick
+  function-prefix e h = rw e h
+
+  pub function-infix : eqb (s .token .kind) operator ≡ false → eqb (s .token .kind) (byte "_") ≡ true
+      → r ≡ (infix-operator text >>= function-by text (two-inputs text)) s → r ≡ function text s
+  unfolding function if-next pick
+  function-infix e k h = rw (e, k) h
+
+  pub function-plain : eqb (s .token .kind) operator ≡ false → eqb (s .token .kind) (byte "_") ≡ false
+      → r ≡ (name text >>= function-by text (input-type text)) s → r ≡ function text s
+  unfolding function if-next pick
+  function-plain e k h = rw (e, k) h
 
 -- ---- a list with marks between its items; n more items may come
 
@@ -119,20 +132,77 @@ module _ {A : Type 0} (text : List ℕ) (mark : ℕ) (begins : ℕ → Bool) (it
   unfolding separated if-next step return _>>=_ _>>_ after pick
   separated-more-stops n a t u k p e c g h = rw (← e, c, ← g, ← h)
 
--- ---- terms: d more brackets may be open
+-- ---- items for as long as one begins; n more may come
 
-module _ (text : List ℕ) (d : ℕ) (s : State) where
-  pub term-alone : (f : Name) (t : State) → eqb (s .token .kind) (byte "(") ≡ false → done f t ≡ term-name text s → eqb (t .token .kind) (byte "(") ≡ false
-      → done (node f (terms [])) t ≡ term text (suc d) s
-  unfolding term term-by if-next return _>>=_ after pick
-  term-alone f t b e k = rw (b, ← e, k)
+module _ {A : Type 0} (text : List ℕ) (begins : ℕ → Bool) (item : Parser A) (s : State) where
+  pub many-over : (n : ℕ) → n ≡ 0 → begins (s .token .kind) ≡ true → refused 4 (s .token .start) ≡ many text n begins item s
+  unfolding many if-next refuse pick
+  many-over n z e = rw (z, e)
 
-  pub term-applied : (f : Name) (t : State) (ts : List Term) (u : State) → eqb (s .token .kind) (byte "(") ≡ false → done f t ≡ term-name text s
-      → eqb (t .token .kind) (byte "(") ≡ true → done ts u ≡ in-brackets text (separated text 8 (byte ",") begins-term (term text d)) t
-      → done (node f (terms ts)) u ≡ term text (suc d) s
-  unfolding term term-by if-next return _>>=_ after pick
-  term-applied f t ts u b e k h = rw (b, ← e, k, ← h)
+  pub many-none : (n : ℕ) → begins (s .token .kind) ≡ false → done [] s ≡ many text n begins item s
+  unfolding many if-next return pick
+  many-none zero e = rw e
+  many-none (suc n) e = rw e
 
-  pub term-bracketed : (r : Result Term) → eqb (s .token .kind) (byte "(") ≡ true → r ≡ in-brackets text (term text d) s → r ≡ term text (suc d) s
-  unfolding term term-by if-next pick
-  term-bracketed r b h = rw b h
+  pub many-stops : (n k p : ℕ) → begins (s .token .kind) ≡ true → refused k p ≡ item s → refused k p ≡ many text (suc n) begins item s
+  unfolding many if-next _>>=_ after pick
+  many-stops n k p b e = rw (b, ← e)
+
+  pub many-more : (n : ℕ) (a : A) (t : State) (as′ : List A) (u : State) → begins (s .token .kind) ≡ true → done a t ≡ item s
+      → done as′ u ≡ many text n begins item t → done (a ∷ as′) u ≡ many text (suc n) begins item s
+  unfolding many if-next return _>>=_ after pick
+  many-more n a t as′ u b e h = rw (b, ← e, ← h)
+
+  pub many-more-stops : (n : ℕ) (a : A) (t : State) (k p : ℕ) → begins (s .token .kind) ≡ true → done a t ≡ item s
+      → refused k p ≡ many text n begins item t → refused k p ≡ many text (suc n) begins item s
+  unfolding many if-next return _>>=_ after pick
+  many-more-stops n a t k p b e h = rw (b, ← e, ← h)
+
+-- ---- primaries, given how to read what begins at an open bracket
+
+module _ (text : List ℕ) (arguments : Parser (List Term)) (inner : Parser Term) (s : State) where
+  pub primary-alone : (f : Name) (t : State) → eqb (s .token .kind) (byte "(") ≡ false → done f t ≡ term-name text s
+      → eqb (t .token .kind) (byte "(") ≡ false → done (node f (terms [])) t ≡ primary-by text arguments inner s
+  unfolding primary-by if-next return _>>=_ after pick
+  primary-alone f t b e k = rw (b, ← e, k)
+
+  pub primary-applied : (f : Name) (t : State) (ts : List Term) (u : State) → eqb (s .token .kind) (byte "(") ≡ false
+      → done f t ≡ term-name text s → eqb (t .token .kind) (byte "(") ≡ true → done ts u ≡ arguments t
+      → done (node f (terms ts)) u ≡ primary-by text arguments inner s
+  unfolding primary-by if-next return _>>=_ after pick
+  primary-applied f t ts u b e k h = rw (b, ← e, k, ← h)
+
+  pub primary-bracketed : (r : Result Term) → eqb (s .token .kind) (byte "(") ≡ true → r ≡ inner s → r ≡ primary-by text arguments inner s
+  unfolding primary-by if-next pick
+  primary-bracketed r b h = rw b h
+
+-- ---- terms, given how to read a primary: what is first, and then operands
+
+module _ (text : List ℕ) (primary : Parser Term) (s : State) where
+  pub prefixed-done : (o : Name) (t : State) (a : Term) (u : State) → done o t ≡ term-operator text s → done a u ≡ primary t
+      → done (node (prefix-name o) (terms (a ∷ []))) u ≡ prefixed text primary s
+  unfolding prefixed return _>>=_ after
+  prefixed-done o t a u e h = rw (← e, ← h)
+
+  pub operand-done : (o : Name) (t : State) (b : Term) (u : State) → done o t ≡ term-operator text s → done b u ≡ primary t
+      → done (record { operator = o; right = b }) u ≡ operand text primary s
+  unfolding operand return _>>=_ after
+  operand-done o t b u e h = rw (← e, ← h)
+
+  pub term-prefixed : (a : Term) (t : State) (os : List Operand) (u : State) → eqb (s .token .kind) operator ≡ true
+      → done a t ≡ prefixed text primary s → done os u ≡ many text 64 (is operator) (operand text primary) t
+      → done (joined-left a os) u ≡ term-by text primary s
+  unfolding term-by if-next return _>>=_ after pick
+  term-prefixed a t os u k e h = rw (k, ← e, ← h)
+
+  pub term-unprefixed : (a : Term) (t : State) (os : List Operand) (u : State) → eqb (s .token .kind) operator ≡ false
+      → done a t ≡ primary s → done os u ≡ many text 64 (is operator) (operand text primary) t
+      → done (joined-left a os) u ≡ term-by text primary s
+  unfolding term-by if-next return _>>=_ after pick
+  term-unprefixed a t os u k e h = rw (k, ← e, ← h)
+
+-- `a + b` as a turn of a loop: the term so far is on the left of what is to come
+pub joined-turn : (a : Term) (o : Operand) (os : List Operand)
+    → joined-left (node (infix-name (o .operator)) (terms (a ∷ o .right ∷ []))) os ≡ joined-left a (o ∷ os)
+unfolding joined-left
+joined-turn a o os = refl

@@ -1,14 +1,14 @@
--- Bytes and names (document 01, "The text"): a name is a list of bytes. What is written is ordered by its bytes, names by their runs of digits as
--- numbers and their other bytes (document 02, Twelve).
+-- Bytes and names (document 01, "The text"; 02, request Two): a name is a list of bytes. What is written is ordered by its bytes, names by their
+-- runs of digits as numbers and their other bytes (document 02, Twelve).
 use Prim.Native.Nat.{ℕ, _+_, _-_, _*_, _^_}
 use Prim.Native.Char.{Char, code}
 use Prim.Native.String.{String}
 use mathlib.Core.Bool.{Bool, true, false, _&&_}
 use mathlib.Core.Option.{Option, none, some}
-use mathlib.Core.List.{List, [], _∷_}
+use mathlib.Core.List.{List, [], _∷_, _++_}
 use lib.Dec.{eqb, leb}
-use lib.ListN.{take, drop}
-use Rattle.meaning.specs.Lists.{pick, sorted}
+use lib.ListN.{take, drop, getD}
+use Rattle.meaning.specs.Lists.{pick, any, sorted}
 
 -- a quoted text's bytes: quoted texts are ASCII, where a character is a byte
 abbrev pub bytes : String → List ℕ
@@ -72,7 +72,22 @@ weights (other b ∷ es) = 1 ∷ b ∷ weights es
 unfoldable pub not-after : Name → Name → Bool
 not-after v w = bytes-not-after (weights (elements v)) (weights (elements w))
 
--- ---- by these orders
+-- ---- an operator's name has its underlines, as listings write it: `-_` and `_+_` are two names
+
+unfoldable pub prefix-name : Name → Name
+prefix-name o = o ++ bytes "_"
+
+unfoldable pub infix-name : Name → Name
+infix-name o = bytes "_" ++ (o ++ bytes "_")
+
+-- an identifier has no underline, and neither has an operator without its own
+unfoldable pub is-operator : Name → Bool
+is-operator w = any (λ (b : ℕ). eqb b (byte "_")) w
+
+unfoldable pub is-infix : Name → Bool
+is-infix w = eqb (getD w 0 0) (byte "_")
+
+-- ---- names among names
 
 unfoldable pub member : Name → List Name → Bool
 member w [] = false
@@ -86,6 +101,8 @@ lesser x (some y) = pick (not-after x y) (some x) (some y)
 unfoldable pub least : List Name → Option Name
 least [] = none
 least (x ∷ xs) = lesser x (least xs)
+
+-- ---- by these orders
 
 -- in the order of what they are called
 abbrev pub by-name : {A : Type 0} → (A → Name) → List A → List A
@@ -113,5 +130,5 @@ words (b ∷ s) = let r = words s in let more = on-front b r in pick (eqb b 32) 
 
 -- opens every definition of this file
 unfoldable pub names-opened : Unit {0}
-unfolding same bytes-not-after is-digit led-by elements weights not-after member lesser least by-two words
+unfolding same bytes-not-after is-digit led-by elements weights not-after prefix-name infix-name is-operator is-infix member lesser least by-two words
 names-opened = tt

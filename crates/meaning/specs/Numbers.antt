@@ -118,7 +118,7 @@ bad-variable = 12
 abbrev pub bad-sort : ℕ
 bad-sort = 13
 
--- 14: old name not visible, or given twice
+-- 14: old name not visible, or given twice; new name an operator that does not fit
 abbrev pub bad-renaming : ℕ
 bad-renaming = 14
 
@@ -126,7 +126,7 @@ bad-renaming = 14
 abbrev pub bad-parameter : ℕ
 bad-parameter = 15
 
--- 16: binding pair wrong; then a formal unpaired
+-- 16: binding pair wrong, an operator that does not fit included; then a formal unpaired
 abbrev pub bad-binding : ℕ
 bad-binding = 16
 

@@ -8,7 +8,7 @@ use lib.Dec.{ltb}
 use lib.ListN.{length}
 use Rattle.meaning.specs.Lists.{pick}
 use Rattle.meaning.specs.Names.{bytes, Name, bytes-not-after, not-after}
-use Rattle.meaning.specs.Numbers.{memory-size, clashing, lent-short, bad-line}
+use Rattle.meaning.specs.Numbers.{memory-size, no-token-there, not-allowed, clashing, bad-renaming, lent-short, bad-line}
 use Rattle.meaning.specs.Texts.{Texts, two-texts}
 use Rattle.meaning.specs.Answer.{listing, refusal, answer}
 use Rattle.meaning.specs.Reader.{a-line, at-end, refused-line, line-at}
@@ -119,3 +119,50 @@ by-kind = ((refl, refl), (refl, refl), (refl, refl), (refl, refl), (refl, refl))
 by-bytes-alone : (bytes-not-after (bytes "A10") (bytes "A9") ≡ true) × (not-after (bytes "A10") (bytes "A9") ≡ false)
 unfolding all-opened
 by-bytes-alone = (refl, refl)
+
+-- ---- operators (document 02, request Two)
+
+-- infix joins to the left and is weaker than prefix; a listing has the underlines and prints applications in prefix form
+joins-left :
+    listing
+    (answer memory-size 999 (bytes "M") (two-texts [] (bytes "module M begin exports begin sorts A functions a:->A _ + _:A#A->A _.b._:A#A->A end functions -_:A->A equations [e] -a + a .b. a = a + (- a) end M")))
+    ≡ bytes "module=M\nsort=A\norigin=[M,export,sort,A]\nfunction=_+_:A#A->A\norigin=[M,export,function,_+_:A#A->A]\nfunction=_.b._:A#A->A\norigin=[M,export,function,_.b._:A#A->A]\nfunction=a:->A\norigin=[M,export,function,a:->A]\nhidden-function={1}:A->A\norigin=[M,hidden,function,-_:A->A]\nequation=[e] _.b._(_+_({1}(a),a),a)=_+_(a,{1}(a))\nend=M\n"
+unfolding all-opened
+joins-left = refl
+
+-- after an operator comes a primary
+no-second-operator : answer memory-size 0 (bytes "M") (two-texts [] (bytes "module M begin equations [e] a + - b = a end M")) ≡ refusal not-allowed 0 [] [] 33
+unfolding all-opened
+no-second-operator = refl
+
+-- a lone hyphen before > is the arrow; a longer run that ends so is one operator, and the > behind it is no token
+no-arrow : answer memory-size 0 (bytes "M") (two-texts [] (bytes "module M begin equations [e]a+->a=a end M")) ≡ refusal no-token-there 0 [] [] 31
+unfolding all-opened
+no-arrow = refl
+
+-- two hyphens after layout are a comment, elsewhere an operator
+hyphens :
+    listing
+    (answer memory-size 999 (bytes "M") (two-texts [] (bytes "module M begin exports begin sorts A functions--_:A->A a:->A end equations [e](--a)=a --a\n end M")))
+    ≡ bytes "module=M\nsort=A\norigin=[M,export,sort,A]\nfunction=--_:A->A\norigin=[M,export,function,--_:A->A]\nfunction=a:->A\norigin=[M,export,function,a:->A]\nequation=[e] --_(a)=a\nend=M\n"
+unfolding all-opened
+hyphens = refl
+
+-- and after a comment's closing hyphens they are no token
+closing-hyphens : answer memory-size 0 (bytes "M") (two-texts [] (bytes "module M --c---- begin end M")) ≡ refusal no-token-there 0 [] [] 14
+unfolding all-opened
+closing-hyphens = refl
+
+-- an operator has its number of arguments, in every instance that it renames
+wrong-number :
+    answer memory-size 0 (bytes "N") (two-texts [] (bytes "module M begin exports begin sorts A functions h:A#A->A h:A->A end end M module N begin imports M { renamed by [h->_*_] } end N"))
+    ≡ refusal bad-renaming 2 (bytes "N") (bytes "h") 0
+unfolding all-opened
+wrong-number = refl
+
+-- and is no sort
+operator-for-sort :
+    answer memory-size 0 (bytes "N") (two-texts [] (bytes "module M begin exports begin sorts A end end M module N begin imports M { renamed by [A->*_] } end N"))
+    ≡ refusal bad-renaming 2 (bytes "N") (bytes "A") 0
+unfolding all-opened
+operator-for-sort = refl

@@ -1,10 +1,10 @@
--- What a text says, as it is read (document 01, "The text"; 004, section 2.1): modules, with all in text order.
+-- What a text says, as it is read (document 01, "The text"; 02, request Two; 004, section 2.1): modules, with all in text order.
 use Prim.Native.Nat.{ℕ}
 use mathlib.Core.List.{List, [], _∷_, _++_, map}
 use Rattle.meaning.specs.Lists.{before, each}
-use Rattle.meaning.specs.Names.{Name}
+use Rattle.meaning.specs.Names.{Name, infix-name}
 
--- `f : A # B -> C`; without inputs, a constant
+-- `f : A # B -> C`; without inputs, a constant. An operator's name has its underlines: `_+_ : A # B -> C`
 pub record Function : Type 0 where
   pub name : Name
   pub inputs : List Name
@@ -42,7 +42,7 @@ pub record Variable : Type 0 where
   pub name : Name
   pub sort : Name
 
--- a name and its arguments: none for an identifier that stands alone
+-- a name and its arguments: none for an identifier that stands alone. `a + b` is the name `_+_` with two
 mutual
   pub data Term : Type 0 where
     node : Name → Terms → Term
@@ -55,6 +55,16 @@ infixr 40 _then_
 unfoldable pub terms : List Term → Terms
 terms [] = no-terms
 terms (t ∷ ts) = t then terms ts
+
+-- `+ b`: an infix operator and what stands on its right
+pub record Operand : Type 0 where
+  pub operator : Name
+  pub right : Term
+
+-- `a + b - c` joins to the left: `_-_(_+_(a,b),c)`
+unfoldable pub joined-left : Term → List Operand → Term
+joined-left t [] = t
+joined-left t (o ∷ os) = joined-left (node (infix-name (o .operator)) (terms (t ∷ o .right ∷ []))) os
 
 -- the two sides of a conclusion or a condition
 pub record Sides : Type 0 where
@@ -91,5 +101,5 @@ variables-of m = each group-variables (m .groups)
 
 -- opens every definition of this file
 unfoldable pub syntax-opened : Unit {0}
-unfolding terms conditions-of group-variables variables-of
+unfolding terms joined-left conditions-of group-variables variables-of
 syntax-opened = tt

@@ -1,4 +1,5 @@
--- Tokens by place (document 01, "The text"): layout and comments, identifiers and keywords, marks, `->`, `=`, implication, or none.
+-- Tokens by place (document 01, "The text"; 02, request Two): layout and comments, identifiers and keywords, marks, `->`, `=`, implication,
+-- operators, or none.
 use Prim.Native.Nat.{ℕ, zero, suc, _+_, _-_}
 use mathlib.Core.Bool.{Bool, true, false, not, _&&_, _||_}
 use mathlib.Core.List.{List, [], _∷_}
@@ -22,7 +23,11 @@ abbrev pub is-newline : ℕ → Bool
 is-newline b = is-in (bytes "\n\r") b
 
 abbrev pub is-mark : ℕ → Bool
-is-mark b = is-in (bytes ":,#()[]{}") b
+is-mark b = is-in (bytes ":,#()[]{}_") b
+
+-- what operators are made of
+abbrev pub is-symbol : ℕ → Bool
+is-symbol b = is-in (bytes "+-*/&|!@%?~") b
 
 -- letters, digits, the single quote: what an identifier begins and ends with
 unfoldable pub is-word : ℕ → Bool
@@ -49,6 +54,9 @@ at-hyphen s = eqb (getD s 0 0) (byte "-")
 
 abbrev pub at-equals : List ℕ → Bool
 at-equals s = eqb (getD s 0 0) (byte "=")
+
+abbrev pub at-symbol : List ℕ → Bool
+at-symbol s = is-symbol (getD s 0 0)
 
 -- an identifier has hyphens inside only: it goes on while the next byte that is no hyphen is a word's. In `A->B` it is `A`
 abbrev pub at-word : List ℕ → Bool
@@ -84,12 +92,17 @@ skip text (suc n) i =
     let r = skip text n k in
     pick (eqb k j) j r
 
+-- two hyphens at i are a comment's sign, and no operator begins there: at byte 0, after layout, or after a comment's closing `--`. No other
+-- token begins straight after a hyphen, since a run of symbols goes on for as long as it can
+unfoldable pub comment-sign : List ℕ → ℕ → Bool
+comment-sign text i = at-dashes (drop i text) && (eqb i 0 || is-layout (getD text (i - 1) 0) || eqb (getD text (i - 1) 0) (byte "-"))
+
 -- ---- tokens
 
 abbrev pub token : ℕ → ℕ → ℕ → Token
 token k i e = record { kind = k; start = i; end = e }
 
--- The kinds. Each of the marks : , # ( ) [ ] { } and = is its own byte; the fifteen keywords are numbered from 129 in the order of `keywords`
+-- The kinds. Each of the marks : , # ( ) [ ] { } _ and = is its own byte; the fifteen keywords are numbered from 129 in the order of `keywords`
 abbrev pub end-of-text : ℕ
 end-of-text = 0
 
@@ -104,6 +117,9 @@ implies = 3
 
 abbrev pub no-token : ℕ
 no-token = 4
+
+abbrev pub operator : ℕ
+operator = 5
 
 abbrev pub begin-key : ℕ
 begin-key = 129
@@ -171,18 +187,34 @@ equals-at text i =
 unfoldable pub word-at : List ℕ → ℕ → Token
 word-at text i = let e = run-end at-word text i in token (word-kind (slice text i e)) i e
 
+-- a run of symbols, as long as it can be
+unfoldable pub symbols-at : List ℕ → ℕ → Token
+symbols-at text i = token operator i (run-end at-symbol text i)
+
+-- an identifier that is no keyword, between dots
+unfoldable pub dotted-at : List ℕ → ℕ → Token
+dotted-at text i =
+    let w = word-at text (i + 1) in
+    pick (is-word (getD text (i + 1) 0) && eqb (w .kind) ident && eqb (getD text (w .end) 0) (byte "."))
+    (token operator i (w .end + 1))
+    (token no-token i i)
+
 -- the longest token that starts at i; the end of the text is one, and `no-token` says that there is none
 unfoldable pub start-at : List ℕ → ℕ → Token
 start-at text i =
     let b = getD text i 0 in
     let w = word-at text i in
     let e = equals-at text i in
+    let o = symbols-at text i in
+    let d = dotted-at text i in
     pick (ltb i (length text))
     (pick (is-mark b) (token b i (i + 1))
     (pick (is-word b) w
     (pick (eqb b (byte "=")) e
     (pick (eqb b (byte "-") && eqb (getD text (i + 1) 0) (byte ">")) (token arrow i (i + 2))
-    (token no-token i i)))))
+    (pick (is-symbol b && not (comment-sign text i)) o
+    (pick (eqb b (byte ".")) d
+    (token no-token i i)))))))
     (token end-of-text i i)
 
 -- the first token from a place on, past layout and comments
@@ -191,5 +223,5 @@ token-at text at = start-at text (skip text (length text) at)
 
 -- opens every definition of this file
 unfoldable pub tokens-opened : Unit {0}
-unfolding is-in is-word run run-end at-dashes opens comment-end skip number-in word-kind equals-at word-at start-at token-at
+unfolding is-in is-word run run-end at-dashes opens comment-end skip comment-sign number-in word-kind equals-at word-at symbols-at dotted-at start-at token-at
 tokens-opened = tt

@@ -9,7 +9,7 @@ use Rattle.meaning.specs.Names.{Name, same, member}
 use Rattle.meaning.specs.Numbers.{bad-renaming, bad-parameter, bad-binding}
 use Rattle.meaning.specs.Syntax.{Pair, Clause, Import, Equation, Module, conditions-of, renamed-by, bound-by}
 use Rattle.meaning.specs.Origins.{ResolvedSides, Item}
-use Rattle.meaning.specs.Normal.{Visible, Normal, nothing-visible, empty, names-in, unite-visible, unite, move-visible, move}
+use Rattle.meaning.specs.Normal.{Visible, Normal, nothing-visible, empty, unite-visible, unite, move-visible, move}
 use Rattle.meaning.specs.Written.{visible-in-order, in-order}
 use Rattle.meaning.specs.Checks.{_>>=_, _>>_, Outcome, Check, unless, consistent, Size, room, total-room, checked, fine, stop}
 use Rattle.meaning.specs.Clauses.{renaming, wrong-renaming, rename, formals, new-sort, new-function, wrong-pair, unpaired, without-visible, without, bound-to, bind}
@@ -24,7 +24,7 @@ checked-visibly v = consistent v [] >> fine v
 
 unfoldable pub rename-visibly : List Pair → Visible → Outcome Visible
 rename-visibly rs v = do
-  unless bad-renaming (wrong-renaming (names-in (v .items)) [] rs)
+  unless bad-renaming (wrong-renaming (v .items) [] rs)
   checked-visibly (move-visible (renaming rs) (λ f t. renaming rs f) v)
 
 unfoldable pub bound-visibly : Name → List Pair → Visible → Visible → Outcome Visible
