@@ -267,6 +267,24 @@ evaluate-from declared earlier home total env m =
     (then-from _ _ (then-from _ _ (once-in-parameters-from [] (m .parameters)) (then-from _ _ (once-in-from (m .exports)) (once-in-from (m .hidden))))
     (bound-from _ _ (bound-from _ _ (expressions-from env (m .imports)) (united-from empty)) (joined-own-from home total m)))
 
+abbrev FromSix : Ended → Type 0
+FromSix (normalised count n) = Unit {0}
+FromSix (refused-at number count told culprit) = 6 ≤ number
+
+-- what evaluating refuses has a number from 6 up, so 0 is no refusal's
+pub refused-from-six : (asked : Name) (ms : List Module) (number count : ℕ) (told culprit : Name)
+    → normalise asked ms ≡ refused-at number count told culprit → 6 ≤ number
+unfolding normalise
+refused-from-six asked ms number count told culprit e =
+    subst FromSix e
+    (by-cases FromSix _ _ _ (λ b. go (in-turn (module-names ms) [] empty (reached asked ms)) (in-turn-counted (module-names ms) [] empty (reached asked ms)))
+    (λ b. omega arith))
+  where
+    go : (r : Ended) → CountedIn (module-names ms) 0 (reached asked ms) r → FromSix r
+    go (normalised c n) h = tt
+    go (refused-at k c m w) h =
+        let from = subst SevenToEighteen (h .1 .outcome) (evaluate-from _ _ _ _ _ (h .1 .refused .self)) in omega (arith, from .0)
+
 -- a call that gives 1 to 6 has evaluated nothing
 pub none-evaluated : (memory-lent output-lent : ℕ) (asked : Name) (texts : Texts) → let r = answer memory-lent output-lent asked texts in
     1 ≤ r .number → r .number ≤ 6 → r .modules ≡ 0

@@ -6,13 +6,7 @@ pub mod Enough
 pub mod Members
 -- a listing's bytes and its lines: no name has an LF
 pub mod Tie
-pub mod Inline
-pub mod Moving
-pub mod Keeping
-pub mod Joining
-pub mod PlainLines
 pub mod Spelling
-pub mod Reading
 pub mod Tied
 -- demand 3
 pub mod Public
@@ -42,6 +36,8 @@ pub mod SoundEvaluation
 pub mod AcceptedForms
 pub mod PlainText
 pub mod OneListing
+-- where two hyphens begin a comment
+pub mod Hyphens
 -- the count of modules
 pub mod Counts
 pub mod Library

@@ -12,7 +12,7 @@ use lib.ListN.{length, length-append}
 use Rattle.meaning.specs.Laws.{by-cases}
 use Rattle.meaning.specs.Lists.{pick, before, each, agree}
 use Rattle.meaning.specs.Names.{bytes, byte, Name, same}
-use Rattle.meaning.specs.Tokens.{is-in, is-word}
+use Rattle.meaning.specs.Tokens.{is-in, is-symbol, is-word}
 use Rattle.meaning.specs.Written.{digits, decimal, numbered, sort-text, function-type-text, shape-text, shape-rank, argument-text, head-text, variable-text, term-text, term-texts, sides-text, conditions-text, equation-text, between-marks, type-text, section-text, declared-text, origin-text}
 use Rattle.meaning.specs.Origins.{Section, export-section, hidden-section, parameter-section, Declared, declared-sort, declared-function, declared-variable, Origin, same-section, same-declared, same-origin, Sort, visible-sort, hidden-sort, same-sort, FunctionType, same-type, Shape, sort-shape, function-shape, variable-shape, same-shape, Item, one-item, Head, visible-head, hidden-head, ResolvedTerm, var, app, ResolvedTerms, none-left, _and-then_, ResolvedSides, ResolvedEquation}
 use Rattle.meaning.specs.Listing.{Line, line-text, lines-text}
@@ -55,9 +55,12 @@ told-run p (x ∷ xs) (y ∷ ys) us vs h k o q e =
 abbrev pub not-byte : ℕ → ℕ → Bool
 not-byte c b = not (eqb b c)
 
--- a key has no `=`, a value no LF
+-- a key has no `=` and no LF, a value no LF
+abbrev pub key-letter : ℕ → Bool
+key-letter b = not-byte (byte "=") b && not-byte (byte "\n") b
+
 pub record Separable (l : Line) : Type 0 where
-  pub key : Within (not-byte (byte "=")) (l .key)
+  pub key : Within key-letter (l .key)
   pub value : Within (not-byte (byte "\n")) (l .value)
 
 line-then : (l : Line) (s : List ℕ) → line-text l ++ s ≡ l .key ++ (byte "=" ∷ (l .value ++ (byte "\n" ∷ s)))
@@ -81,7 +84,7 @@ told-lines (l ∷ ls) (l′ ∷ ls′) h k e =
     let s = lines-text ls in
     let s′ = lines-text ls′ in
     let a =
-    told-run (not-byte (byte "=")) (l .key) (l′ .key) (byte "=" ∷ (l .value ++ (byte "\n" ∷ s))) (byte "=" ∷ (l′ .value ++ (byte "\n" ∷ s′)))
+    told-run key-letter (l .key) (l′ .key) (byte "=" ∷ (l .value ++ (byte "\n" ∷ s))) (byte "=" ∷ (l′ .value ++ (byte "\n" ∷ s′)))
     (h .0 .key) (k .0 .key) refl refl (sym (line-then l s) ∙ e ∙ line-then l′ s′) in
     let b =
     told-run (not-byte (byte "\n")) (l .value) (l′ .value) (byte "\n" ∷ s) (byte "\n" ∷ s′) (h .0 .value) (k .0 .value) refl refl
@@ -91,9 +94,9 @@ told-lines (l ∷ ls) (l′ ∷ ls′) h k e =
 
 -- ---- names and types
 
--- what stands in an identifier
+-- what stands in an identifier, and in an operator with its underlines
 unfoldable pub in-name : ℕ → Bool
-in-name b = is-word b || eqb b (byte "-")
+in-name b = is-word b || (is-symbol b || is-in (bytes "._") b)
 
 -- and in a written sort, which is a name or `{k}`
 unfoldable pub in-sort : ℕ → Bool
@@ -103,7 +106,7 @@ abbrev pub NonEmpty : {A : Type 0} → List A → Type 0
 NonEmpty [] = ⊥
 NonEmpty (x ∷ xs) = Unit {0}
 
--- a name as identifiers are
+-- a name as identifiers and operators are
 pub record Plain (w : Name) : Type 0 where
   pub letters : Within in-name w
   pub some-letter : NonEmpty w
@@ -240,7 +243,7 @@ plain-sorts ws h = every-so Plain WrittenSort ws plain-sort h
 -- a name and its declared type
 told-function : (f g : Name) (i j : List Name) (o p : Name) → Plain f → Plain g → Every Plain i → Every Plain j → Plain o → Plain p
     → f ++ type-text i o ≡ g ++ type-text j p → (f ≡ g) × (i ≡ j) × (o ≡ p)
-unfolding type-text in-name is-word pick
+unfolding type-text in-name is-word pick is-in
 told-function f g i j o p hf hg hi hj ho hp e =
     let a = told-run in-name f g (type-text i o) (type-text j p) (hf .letters) (hg .letters) refl refl e in
     let b = told-type [] [] tt tt i j o p (plain-sorts i hi) (plain-sorts j hj) (plain-sort o ho) (plain-sort p hp) (ap (_++ []) (a .1)) in
@@ -278,7 +281,7 @@ within-by p (b ∷ s) e = go (p b) refl e (within-by p s)
     go false h e i = absurd (false≢true e)
 
 section-letters : (s : Section) → PlainSection s → Within in-section (section-text s)
-unfolding section-text in-section in-name is-word pick
+unfolding section-text in-section in-name is-word pick is-in
 section-letters export-section h = within-by in-section (bytes "export") refl
 section-letters hidden-section h = within-by in-section (bytes "hidden") refl
 section-letters (parameter-section p) h =
@@ -287,7 +290,7 @@ section-letters (parameter-section p) h =
 
 -- an origin can be told from how it is written
 pub told-origin : (o p : Origin) → PlainOrigin o → PlainOrigin p → origin-text o ≡ origin-text p → o ≡ p
-unfolding origin-text in-name is-word in-section pick
+unfolding origin-text in-name is-word in-section pick is-in
 told-origin o p h k e =
     let a = told-run in-name (o .home) (p .home) _ _ (h .home .letters) (k .home .letters) refl refl (rest-of e) in
     let b =
@@ -337,7 +340,7 @@ unfolding numbered decimal
 told-number k l b c e = told-digits 10 k l b c (append-cancel-right (digits 10 k) (digits 10 l) (bytes "}") (rest-of e))
 
 digit-letter : (d : ℕ) → d < 10 → in-sort (48 + d) ≡ true
-unfolding in-sort in-name is-word pick
+unfolding in-sort in-name is-word pick is-in
 digit-letter d h = rw (lt-leb 97 (48 + d) (omega arith), lt-leb 65 (48 + d) (omega arith), le-leb 48 (48 + d) (omega arith), le-leb (48 + d) 57 (omega arith))
 
 digits-letters : (n k : ℕ) → Within in-sort (digits n k)
@@ -385,7 +388,7 @@ section-equal (parameter-section p) export-section e = absurd (false≢true e)
 section-equal (parameter-section p) hidden-section e = absurd (false≢true e)
 section-equal (parameter-section p) (parameter-section q) e = ap parameter-section (same-equal p q e)
 
-section-self : (s : Section) → same-section s s ≡ true
+pub section-self : (s : Section) → same-section s s ≡ true
 unfolding same-section
 section-self export-section = refl
 section-self hidden-section = refl
@@ -537,7 +540,7 @@ module _ (hidden : List Item) (few : length hidden + 1 < 10 ^ 10) where
 
   -- a name does not begin with a brace
   pub no-name : {X : Type 0} (a : Name) (k : ℕ) → Plain a → a ≡ numbered k → X
-  unfolding numbered in-name is-word pick
+  unfolding numbered in-name is-word pick is-in
   no-name a k h e = absurd (false≢true (subst (Within in-name) e (h .letters) .0))
 
   told-sort : (s t : Sort) → SortIn hidden s → SortIn hidden t → sort-text hidden s ≡ sort-text hidden t → s ≡ t

@@ -1,101 +1,33 @@
--- The names of a text that is read are identifiers.
-use mathlib.Core.Path.{_≡_, refl, subst}
-use Prim.Native.Nat.{ℕ, zero, suc, _+_, _-_, _<_}
-use native.Mathlib.Omega.{arith}
-use mathlib.Core.Bool.{Bool, true, false, _||_, false≢true}
+-- The names of a text that is read are identifiers, or operators with their underlines.
+use mathlib.Core.Path.{_≡_, subst}
+use Prim.Native.Nat.{ℕ, zero, suc, _+_, _-_}
+use mathlib.Core.Bool.{Bool, true}
 use mathlib.Core.List.{List, [], _∷_, _++_}
-use lib.Dec.{eqb}
-use lib.ListN.{length, take, drop, getD}
-use lib.Seq.{drop-cons}
-use borrow.Author.Tests.{ltb-true, eqb-true}
 use Rattle.meaning.specs.Laws.{by-cases}
-use Rattle.meaning.specs.Lists.{pick, first}
 use Rattle.types.specs.declared.Token.{Token}
-use Rattle.meaning.specs.Tokens.{is-in, is-mark, is-word, run, run-end, at-word, at-hyphen, ident, skip, equals-at, word-at, start-at, token-at}
 use Rattle.meaning.specs.Names.{byte, slice, Name}
-use Rattle.meaning.specs.Checks.{size}
 use Rattle.meaning.specs.Syntax.{Term, _then_, Sides, group-variables, variables-of, renamed-by, bound-by, Module}
 use Rattle.meaning.specs.Evaluate.{clauses}
 use Rattle.meaning.specs.Normal.{Normal}
-use Rattle.promises.specs.ListingLaws.{Within, in-name, NonEmpty, Plain, every-append}
-use Rattle.meaning.specs.Numbers.{text-size, module-limit, over-size, other-end, module-twice}
+use Rattle.promises.specs.ListingLaws.{Plain, every-append}
+use Rattle.promises.specs.Spelling.{is-spelled, ident-spelled, operator-spelled, token-named, prefix-plain, infix-plain}
+use Rattle.meaning.specs.Numbers.{text-size, over-size, other-end, module-twice}
 use Rattle.meaning.specs.Texts.{Texts, all-read, read-texts}
 use Rattle.meaning.specs.TextsLaws.{of-both}
-use Rattle.meaning.specs.Grammar.{State, Result, done, refused, Parser, after, _>>=_ as bind-read, _>>_ as next-read, return, refuse, unexpected, if-next, too-many, step, expect, short-name, name, that-name, this-name, separated, many, some-of, optional, sort-list, input-type, function, signature, parameter, exports, pair, pairs, renamed, bound, perhaps-renamed, modifier, modifier-end, import-expression, imports, variable-group, variables, counted-name, term-name, term-by, in-brackets, term, sides, sides-list, implied, conditional, equation-after, no-nodes, equation, fresh-name, a-module, modules, empty-signature, is, is-name, read}
+use Rattle.meaning.specs.Grammar.{State, Result, done, refused, Parser, after, _>>=_ as bind-read, _>>_ as next-read, return, refuse, unexpected, if-next, too-many, step, expect, short-name, name, bare-operator, that-name, this-name, separated, many, some-of, optional, sort-list, input-type, prefix-operator, infix-operator, one-input, two-inputs, function-by, function, signature, parameter, exports, function-name, pair, pairs, renamed, bound, perhaps-renamed, modifier, modifier-end, import-expression, imports, variable-group, variables, counted, term-name, term-operator, primary-by, prefixed, operand, term-by, in-brackets, term, sides, sides-list, implied, conditional, equation-after, no-nodes, equation, fresh-name, a-module, modules, empty-signature, is, is-name, read}
 use Rattle.meaning.specs.Reached.{normalised, normalise}
 use Rattle.meaning.specs.OrderLaws.{Every}
 use Rattle.promises.specs.Told.{every-each}
 use Rattle.promises.specs.Sound.{every-map}
 use Rattle.promises.specs.SoundEvaluation.{AcceptedCall, PlainClause, PlainFunction, PlainModule, PlainPairs, PlainParameter, PlainSignature, PlainVariable, call-accepted}
 
--- ---- the names of a text that is read are identifiers
-
-or-true : (x : Bool) → (x || true) ≡ true
-or-true true = refl
-or-true false = refl
-
--- a byte at which a word goes on is one of a name's
-word-letter : (b : ℕ) (s : List ℕ) → at-word (b ∷ s) ≡ true → in-name b ≡ true
-unfolding run in-name pick
-word-letter b s e = go (eqb b (byte "-")) refl e
-  where
-    go : (h : Bool) → eqb b (byte "-") ≡ h → is-word (getD (b ∷ s) (pick h (suc (run at-hyphen s)) 0) 0) ≡ true
-        → (is-word b || eqb b (byte "-")) ≡ true
-    go true q e = rw q (or-true (is-word b))
-    go false q e = rw e
-
-word-run : (s : List ℕ) → Within in-name (take (run at-word s) s)
-unfolding run pick
-word-run [] = tt
-word-run (b ∷ s) = go (at-word (b ∷ s)) refl (word-run s)
-  where
-    go : (w : Bool) → at-word (b ∷ s) ≡ w → Within in-name (take (run at-word s) s) → Within in-name (take (pick w (suc (run at-word s)) 0) (b ∷ s))
-    go true e i = (word-letter b s e, i)
-    go false e i = tt
-
--- a word has a first byte, which is no hyphen
-word-begins : (b : ℕ) (s : List ℕ) → is-word b ≡ true → NonEmpty (take (run at-word (b ∷ s)) (b ∷ s))
-unfolding run pick is-word
-word-begins b s e = go (eqb b (byte "-")) refl
-  where
-    go : (h : Bool) → eqb b (byte "-") ≡ h → NonEmpty (take (run at-word (b ∷ s)) (b ∷ s))
-    go true q = absurd (false≢true (rw (eqb-true b (byte "-") q) at e))
-    go false q = rw (q, e) tt
+-- ---- the names of a text that is read are identifiers, or operators with their underlines
 
 module _ (text : List ℕ) where
-  word-plain : (i : ℕ) → i < length text → is-word (getD text i 0) ≡ true → Plain (slice text i (run-end at-word text i))
-  unfolding run-end
-  word-plain i h e =
-      let r = run at-word (drop i text) in
-      let size : i + r - i ≡ r = omega arith in
-      rw (size, drop-cons text i 0 h) (record {
-        letters = word-run (getD text i 0 ∷ drop (suc i) text);
-        some-letter = word-begins (getD text i 0) (drop (suc i) text) e;
-      })
-
-  -- an identifier is plain
   abbrev Named : Token → Type 0
-  Named t = eqb (t .kind) ident ≡ true → Plain (slice text (t .start) (t .end))
+  Named t = is-spelled (t .kind) ≡ true → Plain (slice text (t .start) (t .end))
 
-  no-mark : (b : ℕ) → is-mark b ≡ true → eqb b ident ≡ true → ⊥
-  unfolding is-in
-  no-mark b m e = false≢true (rw (eqb-true b ident e) at m)
-
-  start-named : (i : ℕ) → Named (start-at text i)
-  unfolding start-at word-at equals-at
-  start-named i =
-      by-cases Named _ _ _
-      (λ here. by-cases Named _ _ _ (λ m e. absurd (no-mark _ m e))
-      (λ m. by-cases Named _ _ _ (λ w e. word-plain i (ltb-true i (length text) here) w)
-      (λ w. by-cases Named _ _ _ (λ q. by-cases Named _ _ _ (λ r e. absurd (false≢true e)) (λ r e. absurd (false≢true e)))
-      (λ q. by-cases Named _ _ _ (λ a e. absurd (false≢true e)) (λ a e. absurd (false≢true e))))))
-      (λ past e. absurd (false≢true e))
-
-  token-named : (i : ℕ) → Named (token-at text i)
-  unfolding token-at
-  token-named i = start-named (skip text (length text) i)
-
-  -- what is read is such, and the next token is a plain name if it is an identifier
+  -- what is read is such, and the next token is a plain name if it is an identifier or an operator
   abbrev GivesRead : {A : Type 0} → (A → Type 0) → Result A → Type 0
   GivesRead P (done a t) = P a × Named (t .token)
   GivesRead P (refused k p) = Unit {0}
@@ -152,21 +84,39 @@ module _ (text : List ℕ) where
 
   reads-step : Reads Any (step text)
   unfolding step
-  reads-step = record { reads = λ s n. (tt, token-named (s .token .end)) }
+  reads-step = record { reads = λ s n. (tt, token-named text (s .token .end)) }
 
   reads-expect : (k : ℕ) → Reads Any (expect text k)
   unfolding expect
   reads-expect k = reads-if _ reads-step reads-unexpected
 
-  -- a name is plain
+  -- a name is plain, and so is an operator, with its underlines too
+  short-read : (s : State) → Named (s .token) → is-spelled (s .token .kind) ≡ true → GivesRead Plain (short-name text s)
+  unfolding short-name bind-read after step return
+  short-read s n e =
+      by-cases (GivesRead Plain) _ _ _ (λ f. (n e, token-named text (s .token .end))) (λ f. reads-refuse over-size .reads s n)
+
   reads-name : Reads Plain (name text)
-  unfolding name if-next short-name bind-read after step return
-  reads-name = record {
-    reads = λ s n.
-        by-cases (GivesRead Plain) _ _ _
-        (λ e. by-cases (GivesRead Plain) _ _ _ (λ f. (n e, token-named (s .token .end))) (λ f. reads-refuse over-size .reads s n))
-        (λ e. reads-unexpected .reads s n);
+  unfolding name if-next
+  reads-name = record { reads = λ s n. by-cases (GivesRead Plain) _ _ _ (λ e. short-read s n (ident-spelled (s .token .kind) e)) (λ e. reads-unexpected .reads s n) }
+
+  reads-bare : Reads Plain (bare-operator text)
+  unfolding bare-operator if-next
+  reads-bare = record {
+    reads = λ s n. by-cases (GivesRead Plain) _ _ _ (λ e. short-read s n (operator-spelled (s .token .kind) e)) (λ e. reads-unexpected .reads s n);
   }
+
+  reads-prefix : Reads Plain (prefix-operator text)
+  unfolding prefix-operator
+  reads-prefix = reads-bind reads-bare (λ o p. reads-then (reads-expect _) (reads-return _ (prefix-plain o p)))
+
+  reads-infix : Reads Plain (infix-operator text)
+  unfolding infix-operator
+  reads-infix = reads-then (reads-expect _) (reads-bind reads-bare (λ o p. reads-then (reads-expect _) (reads-return _ (infix-plain o p))))
+
+  reads-function-name : Reads Plain (function-name text)
+  unfolding function-name
+  reads-function-name = reads-if _ reads-prefix (reads-if _ reads-infix reads-name)
 
   reads-that-name : (w : Name) → Reads Any (this-name text w)
   unfolding this-name that-name
@@ -210,11 +160,27 @@ module _ (text : List ℕ) where
   unfolding input-type
   reads-input-type = reads-if _ (reads-return [] tt) (reads-separated Plain _ _ _ (name text) reads-name)
 
+  reads-one-input : Reads (Every Plain) (one-input text)
+  unfolding one-input
+  reads-one-input = reads-bind reads-name (λ a p. reads-return _ (p, tt))
+
+  reads-two-inputs : Reads (Every Plain) (two-inputs text)
+  unfolding two-inputs
+  reads-two-inputs =
+      reads-bind reads-name (λ a p. reads-then (reads-expect _) (reads-bind reads-name (λ b q. reads-return _ (p, (q, tt)))))
+
+  reads-function-by : {inputs : Parser (List Name)} → Reads (Every Plain) inputs → (f : Name) → Plain f
+      → Reads PlainFunction (function-by text inputs f)
+  unfolding function-by
+  reads-function-by h f p =
+      reads-then (reads-expect _) (reads-bind h (λ i q.
+      reads-then (reads-expect _) (reads-bind reads-name (λ o r. reads-return _ (record { name = p; inputs = q; output = r })))))
+
   reads-function : Reads PlainFunction (function text)
   unfolding function
   reads-function =
-      reads-bind reads-name (λ f p. reads-then (reads-expect _) (reads-bind reads-input-type (λ i q.
-      reads-then (reads-expect _) (reads-bind reads-name (λ o r. reads-return _ (record { name = p; inputs = q; output = r }))))))
+      reads-if _ (reads-bind reads-prefix (reads-function-by reads-one-input))
+      (reads-if _ (reads-bind reads-infix (reads-function-by reads-two-inputs)) (reads-bind reads-name (reads-function-by reads-input-type)))
 
   reads-signature : Reads PlainSignature (signature text)
   unfolding signature
@@ -237,7 +203,8 @@ module _ (text : List ℕ) where
 
   reads-pair : Reads (λ r. Plain (r .new)) (pair text)
   unfolding pair
-  reads-pair = reads-bind reads-name (λ a p. reads-then (reads-expect _) (reads-bind reads-name (λ b q. reads-return _ q)))
+  reads-pair =
+      reads-bind reads-function-name (λ a p. reads-then (reads-expect _) (reads-bind reads-function-name (λ b q. reads-return _ q)))
 
   reads-pairs : Reads PlainPairs (pairs text)
   unfolding pairs
@@ -283,19 +250,34 @@ module _ (text : List ℕ) where
 
   -- ---- terms and equations: of a term's names nothing is asked, they are those of items
 
-  reads-term-name : Reads Any (term-name text)
-  unfolding term-name counted-name
-  reads-term-name = reads-if _ (record { reads = counted-name-read }) reads-unexpected
-    where
-      counted-name-read : (s : State) → Named (s .token) → GivesRead Any (counted-name text s)
-      counted-name-read s n =
-          by-cases (GivesRead Any) _ _ _ (λ e. (reads-refuse {P = Any} over-size) .reads s n)
-          (λ e. (reads-any reads-name) .reads (record { token = s .token; nodes = suc (s .nodes) }) n)
+  reads-counted : {p : Parser Name} → Reads Any p → Reads Any (counted text p)
+  unfolding counted
+  reads-counted h = record {
+    reads = λ s n.
+        by-cases (GivesRead Any) _ _ _ (λ e. (reads-refuse {P = Any} over-size) .reads s n)
+        (λ e. h .reads (record { token = s .token; nodes = suc (s .nodes) }) n);
+  }
 
-  reads-term-by : {arguments : Parser (List Term)} {inner : Parser Term} → Reads Any arguments → Reads Any inner → Reads Any (term-by text arguments inner)
-  unfolding term-by
-  reads-term-by h g =
+  reads-term-name : Reads Any (term-name text)
+  unfolding term-name
+  reads-term-name = reads-if _ (reads-counted (reads-any reads-name)) reads-unexpected
+
+  reads-term-operator : Reads Any (term-operator text)
+  unfolding term-operator
+  reads-term-operator = reads-if _ (reads-counted (reads-any reads-bare)) reads-unexpected
+
+  reads-primary-by : {arguments : Parser (List Term)} {inner : Parser Term} → Reads Any arguments → Reads Any inner
+      → Reads Any (primary-by text arguments inner)
+  unfolding primary-by
+  reads-primary-by h g =
       reads-if _ g (reads-bind reads-term-name (λ f p. reads-bind (reads-if _ h (reads-return [] tt)) (λ a q. reads-return _ tt)))
+
+  reads-term-by : {primary : Parser Term} → Reads Any primary → Reads Any (term-by text primary)
+  unfolding term-by prefixed operand
+  reads-term-by {primary} h =
+      reads-bind (reads-if _ (reads-bind reads-term-operator (λ o p. reads-bind h (λ a q. reads-return _ tt))) h) (λ t p.
+      reads-bind (reads-many Any _ _ _ (reads-bind reads-term-operator (λ o p. reads-bind h (λ b q. reads-return _ tt)))) (λ os q.
+      reads-return _ tt))
 
   reads-in-brackets : {A : Type 0} {p : Parser A} → Reads Any p → Reads Any (in-brackets text p)
   unfolding in-brackets
@@ -303,9 +285,10 @@ module _ (text : List ℕ) where
 
   reads-term : (d : ℕ) → Reads Any (term text d)
   unfolding term
-  reads-term zero = reads-term-by (reads-refuse over-size) (reads-refuse over-size)
+  reads-term zero = reads-term-by (reads-primary-by (reads-refuse over-size) (reads-refuse over-size))
   reads-term (suc d) =
-      reads-term-by (reads-in-brackets (reads-any (reads-separated Any _ _ _ (term text d) (reads-term d)))) (reads-in-brackets (reads-term d))
+      reads-term-by
+      (reads-primary-by (reads-in-brackets (reads-any (reads-separated Any _ _ _ (term text d) (reads-term d)))) (reads-in-brackets (reads-term d)))
 
   reads-sides : Reads Any (sides text)
   unfolding sides
@@ -397,7 +380,7 @@ module _ (text : List ℕ) where
   unfolding read
   text-plain n taken ms s e =
       subst (λ (r : Result (List Module)). GivesRead (Every PlainModule) r) e
-      (by-cases (GivesRead (Every PlainModule)) _ _ _ (λ f. reads-modules n taken .reads _ (token-named 0)) (λ f. tt)) .0
+      (by-cases (GivesRead (Every PlainModule)) _ _ _ (λ f. reads-modules n taken .reads _ (token-named text 0)) (λ f. tt)) .0
 
 both-plain : (ls ms : List Module) → Every PlainModule ls → Every PlainModule ms → Every PlainModule (ls ++ ms)
 both-plain [] ms h g = g

@@ -9,7 +9,7 @@ use Rattle.meaning.specs.Names.{Name}
 use Rattle.meaning.specs.Numbers.{bracket-limit, over-size, other-end, module-twice}
 use Rattle.meaning.specs.Syntax.{Term, Sides, Module}
 use Rattle.meaning.specs.Texts.{Texts, Reading, all-read, refused-in, behind, read-behind, library-first, read-texts}
-use Rattle.meaning.specs.Grammar.{State, Result, done, refused, Parser, after, _>>=_ as bind-read, _>>_ as next-read, return, refuse, unexpected, if-next, too-many, step, expect, short-name, name, that-name, this-name, separated, many, some-of, optional, sort-list, input-type, function, signature, parameter, exports, pair, pairs, renamed, bound, perhaps-renamed, modifier, modifier-end, import-expression, imports, variable-group, variables, counted-name, term-name, term-by, in-brackets, term, sides, sides-list, implied, conditional, equation-after, no-nodes, equation, fresh-name, a-module, modules, read}
+use Rattle.meaning.specs.Grammar.{State, Result, done, refused, Parser, after, _>>=_ as bind-read, _>>_ as next-read, return, refuse, unexpected, if-next, too-many, step, expect, short-name, name, bare-operator, that-name, this-name, separated, many, some-of, optional, sort-list, input-type, prefix-operator, infix-operator, one-input, two-inputs, function-by, function, signature, parameter, exports, function-name, pair, pairs, renamed, bound, perhaps-renamed, modifier, modifier-end, import-expression, imports, variable-group, variables, counted, term-name, term-operator, primary-by, prefixed, operand, term-by, in-brackets, term, sides, sides-list, implied, conditional, equation-after, no-nodes, equation, fresh-name, a-module, modules, read}
 
 abbrev UpToFive : {A : Type 0} → Result A → Type 0
 UpToFive (done a s) = Unit {0}
@@ -60,15 +60,32 @@ module _ (text : List ℕ) where
   unfolding expect
   low-expect k = low-if _ low-step low-unexpected
 
+  low-short : Refuses (short-name text)
+  unfolding short-name
+  low-short = record {
+    refuses = λ s.
+        by-cases UpToFive _ _ _ (λ e. low-bind low-step (λ t. low-return _) .refuses s) (λ e. low-refuse over-size (omega arith) .refuses s);
+  }
+
   low-name : Refuses (name text)
-  unfolding name short-name
-  low-name =
-      low-if _
-      (record {
-        refuses = λ s.
-            by-cases UpToFive _ _ _ (λ e. low-bind low-step (λ t. low-return _) .refuses s) (λ e. low-refuse over-size (omega arith) .refuses s);
-      })
-      low-unexpected
+  unfolding name
+  low-name = low-if _ low-short low-unexpected
+
+  low-bare : Refuses (bare-operator text)
+  unfolding bare-operator
+  low-bare = low-if _ low-short low-unexpected
+
+  low-prefix : Refuses (prefix-operator text)
+  unfolding prefix-operator
+  low-prefix = low-bind low-bare (λ o. low-then (low-expect _) (low-return _))
+
+  low-infix : Refuses (infix-operator text)
+  unfolding infix-operator
+  low-infix = low-then (low-expect _) (low-bind low-bare (λ o. low-then (low-expect _) (low-return _)))
+
+  low-function-name : Refuses (function-name text)
+  unfolding function-name
+  low-function-name = low-if _ low-prefix (low-if _ low-infix low-name)
 
   low-this-name : (n : Name) → Refuses (this-name text n)
   unfolding this-name that-name
@@ -103,11 +120,17 @@ module _ (text : List ℕ) where
   low-names : (n mark : ℕ) (begins : ℕ → Bool) → Refuses (separated text n mark begins (name text))
   low-names n mark begins = low-separated n mark begins (name text) low-name
 
+  low-function-by : {inputs : Parser (List Name)} → Refuses inputs → (f : Name) → Refuses (function-by text inputs f)
+  unfolding function-by
+  low-function-by h f = low-then (low-expect _) (low-bind h (λ i. low-then (low-expect _) (low-bind low-name (λ o. low-return _))))
+
   low-function : Refuses (function text)
-  unfolding function input-type
+  unfolding function input-type one-input two-inputs
   low-function =
-      low-bind low-name (λ f. low-then (low-expect _)
-      (low-bind (low-if _ (low-return []) (low-names _ _ _)) (λ i. low-then (low-expect _) (low-bind low-name (λ o. low-return _)))))
+      low-if _ (low-bind low-prefix (low-function-by (low-bind low-name (λ a. low-return _))))
+      (low-if _
+      (low-bind low-infix (low-function-by (low-bind low-name (λ a. low-then (low-expect _) (low-bind low-name (λ b. low-return _))))))
+      (low-bind low-name (low-function-by (low-if _ (low-return []) (low-names _ _ _)))))
 
   low-signature : Refuses (signature text)
   unfolding signature sort-list
@@ -130,7 +153,7 @@ module _ (text : List ℕ) where
   unfolding pairs pair
   low-pairs =
       low-then (low-expect _)
-      (low-bind (low-separated _ _ _ _ (low-bind low-name (λ a. low-then (low-expect _) (low-bind low-name (λ b. low-return _)))))
+      (low-bind (low-separated _ _ _ _ (low-bind low-function-name (λ a. low-then (low-expect _) (low-bind low-function-name (λ b. low-return _)))))
       (λ r. low-then (low-expect _) (low-return r)))
 
   low-renamed : Refuses (renamed text)
@@ -164,17 +187,31 @@ module _ (text : List ℕ) where
       low-some _ _ _
       (low-bind (low-names _ _ _) (λ v. low-then (low-expect _) (low-then (low-expect _) (low-bind low-name (λ s. low-return _)))))
 
-  low-term-name : Refuses (term-name text)
-  unfolding term-name counted-name
-  low-term-name =
-      low-if _
-      (record { refuses = λ s. by-cases UpToFive _ _ _ (λ e. low-refuse over-size (omega arith) .refuses s) (λ e. low-name .refuses _) })
-      low-unexpected
+  low-counted : {p : Parser Name} → Refuses p → Refuses (counted text p)
+  unfolding counted
+  low-counted h = record {
+    refuses = λ s. by-cases UpToFive _ _ _ (λ e. low-refuse over-size (omega arith) .refuses s) (λ e. h .refuses _);
+  }
 
-  low-term-by : {arguments : Parser (List Term)} {inner : Parser Term} → Refuses arguments → Refuses inner → Refuses (term-by text arguments inner)
-  unfolding term-by
-  low-term-by h g =
+  low-term-name : Refuses (term-name text)
+  unfolding term-name
+  low-term-name = low-if _ (low-counted low-name) low-unexpected
+
+  low-term-operator : Refuses (term-operator text)
+  unfolding term-operator
+  low-term-operator = low-if _ (low-counted low-bare) low-unexpected
+
+  low-primary-by : {arguments : Parser (List Term)} {inner : Parser Term} → Refuses arguments → Refuses inner
+      → Refuses (primary-by text arguments inner)
+  unfolding primary-by
+  low-primary-by h g =
       low-if _ g (low-bind low-term-name (λ f. low-bind (low-if _ h (low-return [])) (λ a. low-return _)))
+
+  low-term-by : {primary : Parser Term} → Refuses primary → Refuses (term-by text primary)
+  unfolding term-by prefixed operand
+  low-term-by h =
+      low-bind (low-if _ (low-bind low-term-operator (λ o. low-bind h (λ a. low-return _))) h) (λ t.
+      low-bind (low-many _ _ _ (low-bind low-term-operator (λ o. low-bind h (λ b. low-return _)))) (λ os. low-return _))
 
   low-brackets : {A : Type 0} {p : Parser A} → Refuses p → Refuses (in-brackets text p)
   unfolding in-brackets
@@ -182,8 +219,8 @@ module _ (text : List ℕ) where
 
   low-term : (d : ℕ) → Refuses (term text d)
   unfolding term
-  low-term zero = low-term-by (low-refuse over-size (omega arith)) (low-refuse over-size (omega arith))
-  low-term (suc d) = low-term-by (low-brackets (low-separated _ _ _ _ (low-term d))) (low-brackets (low-term d))
+  low-term zero = low-term-by (low-primary-by (low-refuse over-size (omega arith)) (low-refuse over-size (omega arith)))
+  low-term (suc d) = low-term-by (low-primary-by (low-brackets (low-separated _ _ _ _ (low-term d))) (low-brackets (low-term d)))
 
   low-sides : Refuses (sides text)
   unfolding sides

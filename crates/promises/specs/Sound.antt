@@ -60,7 +60,7 @@ sorts-agree : (a b : Item) → a .shape ≡ sort-shape → b .shape ≡ sort-sha
 unfolding sorts-clash other-origin is-sort
 sorts-agree a b p q n e = origin-equal (a .origin) (b .origin) (not-false _ (rw (p, q, n, same-self (b .name)) at e))
 
-functions-agree : (a b : Item) (t : FunctionType) → a .shape ≡ function-shape t → b .shape ≡ function-shape t → a .name ≡ b .name
+pub functions-agree : (a b : Item) (t : FunctionType) → a .shape ≡ function-shape t → b .shape ≡ function-shape t → a .name ≡ b .name
     → functions-clash a b ≡ false → a .origin ≡ b .origin
 unfolding functions-clash other-origin is-function
 functions-agree a b t p q n e = origin-equal (a .origin) (b .origin) (not-false _ (rw (p, q, n, same-self (b .name), shape-self (function-shape t)) at e))

@@ -1,78 +1,185 @@
--- An identifier has no LF: of every token that is read, if it is a name, the bytes stay within a line.
+-- How names and operators are spelled: of every token that is read, if it is one of these, the bytes are a name's.
 use mathlib.Core.Path.{_≡_, refl, sym, ap, subst, _∙_}
-use Prim.Native.Nat.{ℕ, suc, _+_, _-_}
+use Prim.Native.Nat.{ℕ, suc, _+_, _-_, _<_}
 use native.Mathlib.Omega.{arith}
-use mathlib.Core.Bool.{Bool, true, false}
-use mathlib.Core.List.{List, [], _∷_}
-use lib.Dec.{eqb, T, eqb→eq}
+use mathlib.Core.Bool.{Bool, true, false, _&&_, _||_, false≢true}
+use mathlib.Core.List.{List, [], _∷_, _++_}
+use lib.Dec.{eqb}
 use lib.ListN.{length, take, drop, getD}
+use lib.Seq.{drop-cons, getD-drop}
+use borrow.Author.Tests.{ltb-true, eqb-true}
 use Rattle.types.specs.declared.Token.{Token}
+use Rattle.meaning.specs.Laws.{by-cases}
 use Rattle.meaning.specs.Lists.{pick}
-use Rattle.meaning.specs.Names.{byte, slice}
-use Rattle.meaning.specs.Tokens.{is-in, is-mark, is-word, run, run-end, at-word, skip, token, ident, implies, equals-at, word-at, start-at, token-at}
-use Rattle.promises.specs.Members.{clear}
-use Rattle.promises.specs.Tie.{lacks, Inline, lacks-cons}
+use Rattle.meaning.specs.Names.{bytes, byte, slice, Name, prefix-name, infix-name}
+use Rattle.meaning.specs.Tokens.{is-in, is-mark, is-symbol, is-word, run, run-end, at-word, at-hyphen, at-symbol, skip, ident, operator, equals-at, word-at, symbols-at, dotted-at, start-at, token-at}
+use Rattle.promises.specs.ListingLaws.{Within, in-name, NonEmpty, Plain, every-append}
 
-equal : (a b : ℕ) → eqb a b ≡ true → a ≡ b
-equal a b e = eqb→eq a b (subst T (sym e) tt)
+-- ---- bytes
 
--- ---- words
+or-true : (x : Bool) → (x || true) ≡ true
+or-true true = refl
+or-true false = refl
 
-not-newline : (b : ℕ) (s : List ℕ) → at-word (b ∷ s) ≡ true → eqb b 10 ≡ false
-unfolding run is-word pick
-not-newline b s h = go (eqb b 10) refl
+and-first : (x y : Bool) → (x && y) ≡ true → x ≡ true
+and-first true y e = refl
+and-first false y e = e
+
+and-second : (x y : Bool) → (x && y) ≡ true → y ≡ true
+and-second true y e = e
+and-second false y e = absurd (false≢true e)
+
+-- a byte at which a word goes on is one of a name's, and so is a symbol
+word-letter : (b : ℕ) (s : List ℕ) → at-word (b ∷ s) ≡ true → in-name b ≡ true
+unfolding run in-name pick is-word is-in
+word-letter b s e = go (eqb b (byte "-")) refl e
   where
-    go : (c : Bool) → eqb b 10 ≡ c → c ≡ false
-    go true q = sym (sym (ap (λ (x : ℕ). at-word (x ∷ s)) (equal b 10 q)) ∙ h)
-    go false q = refl
+    go : (h : Bool) → eqb b (byte "-") ≡ h → is-word (getD (b ∷ s) (pick h (suc (run at-hyphen s)) 0) 0) ≡ true → in-name b ≡ true
+    go true q e = subst (λ (x : ℕ). in-name x ≡ true) (sym (eqb-true b (byte "-") q)) refl
+    go false q e = rw e
 
-word-inline : (s : List ℕ) → Inline (take (run at-word s) s)
-unfolding run lacks pick
-word-inline [] = refl
-word-inline (b ∷ s) = go (at-word (b ∷ s)) refl (word-inline s)
+symbol-letter : (b : ℕ) → is-symbol b ≡ true → in-name b ≡ true
+unfolding in-name
+symbol-letter b e = rw e (or-true (is-word b))
+
+dot-letter : (b : ℕ) → eqb b (byte ".") ≡ true → in-name b ≡ true
+unfolding in-name is-word is-in pick
+dot-letter b e = subst (λ (x : ℕ). in-name x ≡ true) (sym (eqb-true b (byte ".") e)) refl
+
+-- ---- runs
+
+word-run : (s : List ℕ) → Within in-name (take (run at-word s) s)
+unfolding run pick
+word-run [] = tt
+word-run (b ∷ s) = go (at-word (b ∷ s)) refl (word-run s)
   where
-    go : (c : Bool) → at-word (b ∷ s) ≡ c → Inline (take (run at-word s) s) → Inline (take (pick c (suc (run at-word s)) 0) (b ∷ s))
-    go true q h = lacks-cons 10 b (take (run at-word s) s) (not-newline b s q) h
-    go false q h = refl
+    go : (w : Bool) → at-word (b ∷ s) ≡ w → Within in-name (take (run at-word s) s) → Within in-name (take (pick w (suc (run at-word s)) 0) (b ∷ s))
+    go true e i = (word-letter b s e, i)
+    go false e i = tt
 
-run-length : (i r : ℕ) → (i + r) - i ≡ r
-run-length i r = omega arith
+-- a word has a first byte, which is no hyphen
+word-begins : (b : ℕ) (s : List ℕ) → is-word b ≡ true → NonEmpty (take (run at-word (b ∷ s)) (b ∷ s))
+unfolding run pick is-word
+word-begins b s e = go (eqb b (byte "-")) refl
+  where
+    go : (h : Bool) → eqb b (byte "-") ≡ h → NonEmpty (take (run at-word (b ∷ s)) (b ∷ s))
+    go true q = absurd (false≢true (rw (eqb-true b (byte "-") q) at e))
+    go false q = rw (q, e) tt
 
-slice-inline : (text : List ℕ) (i : ℕ) → Inline (slice text i (run-end at-word text i))
-unfolding run-end
-slice-inline text i = ap (λ (r : ℕ). lacks 10 (take r (drop i text))) (run-length i (run at-word (drop i text))) ∙ word-inline (drop i text)
+symbol-run : (s : List ℕ) → Within in-name (take (run at-symbol s) s)
+unfolding run pick
+symbol-run [] = tt
+symbol-run (b ∷ s) = go (is-symbol b) refl (symbol-run s)
+  where
+    go : (w : Bool) → is-symbol b ≡ w → Within in-name (take (run at-symbol s) s) → Within in-name (take (pick w (suc (run at-symbol s)) 0) (b ∷ s))
+    go true e i = (symbol-letter b e, i)
+    go false e i = tt
+
+symbol-begins : (b : ℕ) (s : List ℕ) → is-symbol b ≡ true → NonEmpty (take (run at-symbol (b ∷ s)) (b ∷ s))
+unfolding run pick
+symbol-begins b s e = rw e tt
+
+-- a word and the dot after it
+dot-run : (s : List ℕ) → eqb (getD s (run at-word s) 0) (byte ".") ≡ true → Within in-name (take (suc (run at-word s)) s)
+unfolding run pick
+dot-run [] e = tt
+dot-run (b ∷ s) e = go (at-word (b ∷ s)) refl e (dot-run s)
+  where
+    go : (w : Bool) → at-word (b ∷ s) ≡ w → eqb (getD (b ∷ s) (pick w (suc (run at-word s)) 0) 0) (byte ".") ≡ true
+        → (eqb (getD s (run at-word s) 0) (byte ".") ≡ true → Within in-name (take (suc (run at-word s)) s))
+        → Within in-name (take (suc (pick w (suc (run at-word s)) 0)) (b ∷ s))
+    go true q e i = (word-letter b s q, i e)
+    go false q e i = (dot-letter b e, tt)
 
 -- ---- tokens
 
--- if the token is a name, its bytes stay within a line
-abbrev pub SpelledInline : List ℕ → Token → Type 0
-SpelledInline text t = eqb (t .kind) ident ≡ true → Inline (slice text (t .start) (t .end))
+-- a token that a name is read from
+unfoldable pub is-spelled : ℕ → Bool
+is-spelled kind = eqb kind ident || eqb kind operator
+
+pub ident-spelled : (kind : ℕ) → eqb kind ident ≡ true → is-spelled kind ≡ true
+unfolding is-spelled
+ident-spelled kind e = rw e
+
+pub operator-spelled : (kind : ℕ) → eqb kind operator ≡ true → is-spelled kind ≡ true
+unfolding is-spelled
+operator-spelled kind e = rw e (or-true (eqb kind ident))
 
 module _ (text : List ℕ) where
-  chosen : (b : Bool) (t u : Token) → (b ≡ true → SpelledInline text t) → SpelledInline text u → SpelledInline text (pick b t u)
-  unfolding pick
-  chosen true t u h k = h refl
-  chosen false t u h k = k
+  -- if it is one, its bytes are a name's
+  abbrev pub Named : Token → Type 0
+  Named t = is-spelled (t .kind) ≡ true → Plain (slice text (t .start) (t .end))
 
-  -- a mark is no name
-  mark-inline : (b i e : ℕ) → is-mark b ≡ true → SpelledInline text (token b i e)
-  unfolding is-in
-  mark-inline b i e h q = clear (sym (sym (ap (λ (x : ℕ). is-mark x) (equal b ident q)) ∙ h))
+  module _ (i : ℕ) (h : i < length text) where
+    word-plain : is-word (getD text i 0) ≡ true → Plain (slice text i (run-end at-word text i))
+    unfolding run-end
+    word-plain e =
+        let r = run at-word (drop i text) in
+        let size : i + r - i ≡ r = omega arith in
+        rw (size, drop-cons text i 0 h) (record {
+          letters = word-run (getD text i 0 ∷ drop (suc i) text);
+          some-letter = word-begins (getD text i 0) (drop (suc i) text) e;
+        })
 
-  equals-inline : (i : ℕ) → SpelledInline text (equals-at text i)
-  unfolding equals-at
-  equals-inline i = chosen _ (token implies i _) (token (byte "=") i _) (λ b q. clear (sym q)) (λ q. clear (sym q))
+    symbols-plain : is-symbol (getD text i 0) ≡ true → Plain (slice text i (run-end at-symbol text i))
+    unfolding run-end
+    symbols-plain e =
+        let r = run at-symbol (drop i text) in
+        let size : i + r - i ≡ r = omega arith in
+        rw (size, drop-cons text i 0 h) (record {
+          letters = symbol-run (getD text i 0 ∷ drop (suc i) text);
+          some-letter = symbol-begins (getD text i 0) (drop (suc i) text) e;
+        })
 
-  start-inline : (i : ℕ) → SpelledInline text (start-at text i)
-  unfolding start-at word-at
-  start-inline i =
-      chosen _ _ _
-      (λ b. chosen _ _ _ (λ m. mark-inline (getD text i 0) i (i + 1) m)
-      (chosen _ _ _ (λ w q. slice-inline text i)
-      (chosen _ _ _ (λ e. equals-inline i)
-      (chosen _ _ _ (λ a q. clear (sym q)) (λ q. clear (sym q))))))
-      (λ q. clear (sym q))
+    dotted-plain : eqb (getD text i 0) (byte ".") ≡ true → eqb (getD text (run-end at-word text (i + 1)) 0) (byte ".") ≡ true
+        → Plain (slice text i (run-end at-word text (i + 1) + 1))
+    unfolding run-end
+    dotted-plain e d =
+        let r = run at-word (drop (i + 1) text) in
+        let size : i + 1 + r + 1 - i ≡ suc (suc r) = omega arith in
+        let next : suc i ≡ i + 1 = omega arith in
+        let front : drop i text ≡ getD text i 0 ∷ drop (i + 1) text =
+        drop-cons text i 0 h ∙ ap (λ (j : ℕ). getD text i 0 ∷ drop j text) next in
+        let at : eqb (getD (drop (i + 1) text) r 0) (byte ".") ≡ true = rw (getD-drop (i + 1) text r 0) d in
+        rw (size, front) (record { letters = (dot-letter (getD text i 0) e, dot-run (drop (i + 1) text) at); some-letter = tt })
 
-  pub token-inline : (at : ℕ) → SpelledInline text (token-at text at)
+  no-mark : (b : ℕ) → is-mark b ≡ true → is-spelled b ≡ true → ⊥
+  unfolding is-in is-spelled
+  no-mark b m e = go (eqb b ident) refl e
+    where
+      go : (h : Bool) → eqb b ident ≡ h → (h || eqb b operator) ≡ true → ⊥
+      go true q k = false≢true (rw (eqb-true b ident q) at m)
+      go false q k = false≢true (rw (eqb-true b operator k) at m)
+
+  start-named : (i : ℕ) → Named (start-at text i)
+  unfolding start-at word-at equals-at symbols-at dotted-at is-spelled
+  start-named i =
+      by-cases Named _ _ _
+      (λ here. let h = ltb-true i (length text) here in
+      by-cases Named _ _ _ (λ m e. absurd (no-mark _ m e))
+      (λ m. by-cases Named _ _ _ (λ w e. word-plain i h w)
+      (λ w. by-cases Named _ _ _ (λ q. by-cases Named _ _ _ (λ r e. absurd (false≢true e)) (λ r e. absurd (false≢true e)))
+      (λ q. by-cases Named _ _ _ (λ a e. absurd (false≢true e))
+      (λ a. by-cases Named _ _ _ (λ o e. symbols-plain i h (and-first _ _ o))
+      (λ o. by-cases Named _ _ _
+      (λ d. by-cases Named _ _ _ (λ k e. dotted-plain i h d (and-second (is-word (getD text (i + 1) 0) && eqb (word-at text (i + 1) .kind) ident) _ k)) (λ k e. absurd (false≢true e)))
+      (λ d e. absurd (false≢true e))))))))
+      (λ past e. absurd (false≢true e))
+
+  pub token-named : (i : ℕ) → Named (token-at text i)
   unfolding token-at
-  token-inline at = start-inline (skip text (length text) at)
+  token-named i = start-named (skip text (length text) i)
+
+-- ---- an operator's name, with its underlines
+
+pub prefix-plain : (o : Name) → Plain o → Plain (prefix-name o)
+unfolding prefix-name in-name is-word is-in pick
+prefix-plain o h = record { letters = every-append _ o (bytes "_") (h .letters) (refl, tt); some-letter = go o (h .some-letter) }
+  where
+    go : (o : Name) → NonEmpty o → NonEmpty (o ++ bytes "_")
+    go [] k = absurd k
+    go (b ∷ o) k = tt
+
+pub infix-plain : (o : Name) → Plain o → Plain (infix-name o)
+unfolding infix-name in-name is-word is-in pick
+infix-plain o h = record { letters = (refl, every-append _ o (bytes "_") (h .letters) (refl, tt)); some-letter = tt }

@@ -285,7 +285,7 @@ module _ (visible hidden : List Item) (plain : Every (λ i. Plain (i .name)) vis
   -- an equation can be told from its written line, but for its module and position
   pub told-equation : (a b : ResolvedEquation) → Plain (a .tag) → Plain (b .tag) → TypedEquation visible hidden a → TypedEquation visible hidden b
       → equation-text hidden a ≡ equation-text hidden b → content a ≡ content b
-  unfolding equation-text content in-name is-word pick
+  unfolding equation-text content in-name is-word pick is-in
   told-equation a b p q d d′ e =
       let t = told-run in-name (a .tag) (b .tag) _ _ (p .letters) (q .letters) refl refl (rest-of e) in
       let s =

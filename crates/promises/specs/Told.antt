@@ -3,7 +3,7 @@
 use mathlib.Core.Path.{_≡_, refl, sym, ap, ap₂, subst, _∙_}
 use mathlib.Core.Logic.{_⊎_, ⊎-elim}
 use mathlib.Core.Option.{none}
-use Prim.Native.Nat.{ℕ, suc, _+_, _-_, _^_, _≤_, _<_}
+use Prim.Native.Nat.{ℕ, _+_, _-_, _^_, _≤_, _<_}
 use Prim.Native.String.{String}
 use native.Mathlib.Omega.{arith}
 use mathlib.Core.Bool.{Bool, true, false, not, false≢true}
@@ -12,8 +12,8 @@ use lib.Dec.{lit<}
 use lib.ListN.{length}
 use Rattle.meaning.specs.Laws.{by-cases}
 use Rattle.meaning.specs.Lists.{pick, keep, first, before, each}
-use Rattle.meaning.specs.Tokens.{is-word}
-use Rattle.meaning.specs.Names.{bytes, byte, Name, same, member, words}
+use Rattle.meaning.specs.Tokens.{is-in, is-word}
+use Rattle.meaning.specs.Names.{bytes, Name, same, member, words}
 use Rattle.meaning.specs.Origins.{Section, export-section, parameter-section, hidden-section, Declared, declared-sort, declared-function, declared-variable, Origin, same-origin, Sort, visible-sort, hidden-sort, Shape, sort-shape, function-shape, variable-shape, is-sort, Item, ResolvedEquation}
 use Rattle.meaning.specs.Checks.{in-parameter}
 use Rattle.meaning.specs.Typing.{alone}
@@ -22,7 +22,7 @@ use Rattle.meaning.specs.Clauses.{formals}
 use Rattle.meaning.specs.Normal.{Visible, Normal, sorts-among}
 use Rattle.meaning.specs.Written.{numbered, sort-text, type-text, function-type-text, origin-text, shape-text, equation-text, shape-rank}
 use Rattle.meaning.specs.Listing.{is-exported, visible-lines, Line, origin-line, kind-key, item-line, exported-lines, formal-lines, parameter-lines, hidden-item-lines, line, lines-text, equation-line, hidden-lines, listing-lines}
-use Rattle.promises.specs.ListingLaws.{first-of, rest-of, not-empty, Within, StartsOutside, starts, told-run, in-name, Plain, PlainOrigin, told-origin, origins-of, SortIn, ShapeIn, told-shape, every-so, every-append, not-byte, Separable, told-lines, all-pass, within-by, before-map, OneLine, in-line-then, plain-in-line, number-in-line, origin-in-line, shape-in-line, PlainEquation, equation-in-line}
+use Rattle.promises.specs.ListingLaws.{first-of, rest-of, not-empty, Within, StartsOutside, starts, told-run, in-name, Plain, PlainOrigin, told-origin, origins-of, SortIn, ShapeIn, told-shape, every-so, every-append, key-letter, Separable, told-lines, all-pass, within-by, before-map, OneLine, in-line-then, plain-in-line, number-in-line, origin-in-line, shape-in-line, PlainEquation, equation-in-line}
 use Rattle.meaning.specs.Grammar.{after, name, function, parameter, equation, modules, is}
 use Rattle.meaning.specs.Answer.{listing}
 use Rattle.meaning.specs.OrderLaws.{Every, same-self}
@@ -88,7 +88,7 @@ module _ (s f v : String) (sf : same (bytes s) (bytes f) ≡ false) (sv : same (
 
 -- what follows a name does not go on with it
 shape-outside : (hidden : List Item) (s : Shape) → StartsOutside in-name (shape-text hidden s)
-unfolding shape-text function-type-text type-text in-name is-word pick
+unfolding shape-text function-type-text type-text in-name is-word pick is-in
 shape-outside hidden sort-shape = tt
 shape-outside hidden (function-shape t) = refl
 shape-outside hidden (variable-shape s) = refl
@@ -426,12 +426,12 @@ module _ (m m′ : Name) (n n′ : Normal) (sound : Sound n) (sound′ : Sound n
 
 -- ---- and so do its bytes
 
-separable : (k : String) {value : List ℕ} → all-pass (not-byte (byte "=")) (bytes k) ≡ true → OneLine value → Separable (line k value)
+separable : (k : String) {value : List ℕ} → all-pass key-letter (bytes k) ≡ true → OneLine value → Separable (line k value)
 separable k e h = record { key = within-by _ (bytes k) e; value = h .within }
 
 -- an item's first line, of whatever kind
-item-separable : (s f v : String) (called : List ℕ) (hidden : List Item) (shape : Shape) → all-pass (not-byte (byte "=")) (bytes s) ≡ true
-    → all-pass (not-byte (byte "=")) (bytes f) ≡ true → all-pass (not-byte (byte "=")) (bytes v) ≡ true
+item-separable : (s f v : String) (called : List ℕ) (hidden : List Item) (shape : Shape) → all-pass key-letter (bytes s) ≡ true
+    → all-pass key-letter (bytes f) ≡ true → all-pass key-letter (bytes v) ≡ true
     → OneLine (called ++ shape-text hidden shape) → Separable (item-line (kind-key s f v shape) called hidden shape)
 unfolding kind-key
 item-separable s f v called hidden sort-shape p q r h = record { key = within-by _ (bytes s) p; value = h .within }
@@ -487,7 +487,7 @@ unfolding equation-line
 equations-separable hidden [] h = tt
 equations-separable hidden (e ∷ es) h = (separable "equation" refl (equation-in-line hidden e (h .0)), equations-separable hidden es (h .1))
 
-listing-separable : (m : Name) (n : Normal) → Plain m → Sound n → Every Separable (listing-lines m n)
+pub listing-separable : (m : Name) (n : Normal) → Plain m → Sound n → Every Separable (listing-lines m n)
 listing-separable m n g s =
     subst (Every Separable) (sym (listing-parts m n)) (
       separable "module" refl (plain-in-line m g),

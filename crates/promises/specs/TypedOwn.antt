@@ -16,7 +16,6 @@ use Rattle.meaning.specs.Typing.{Typed, TypedList, head-of, of-shape, found-wit
 use Rattle.meaning.specs.Written.{shape-rank}
 use Rattle.meaning.specs.OrderLaws.{Every}
 use Rattle.promises.specs.ListingLaws.{Plain, PlainEquation, PlainHead, PlainSides, PlainTerm, PlainTerms, agree-equal, both-true, every-so, sort-equal}
-use Rattle.promises.specs.Inline.{OfFound}
 use Rattle.promises.specs.Told.{StandsIn}
 use Rattle.promises.specs.Sound.{Gives, every-member, gives-bound, no-variable}
 use Rattle.promises.specs.WellTyped.{From, TypedEquation, TypedHead, TypedSides, TypedTerm, TypedTerms, head-type, sort-of, sorts-of}
@@ -53,6 +52,11 @@ module _ (visible hidden : List Item) where
     }
 
 -- what is found passes the test, and is one of the list
+-- of what is found
+abbrev OfFound : {A : Type 0} → (A → Type 0) → Option A → Type 0
+OfFound P none = Unit {0}
+OfFound P (some x) = P x
+
 first-found : {A : Type 0} (p : A → Bool) (xs : List A) → OfFound (λ x. List·Memᴰ x xs × (p x ≡ true)) (first p xs)
 unfolding first
 first-found p [] = tt

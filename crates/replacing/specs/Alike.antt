@@ -1,0 +1,641 @@
+-- Two normal forms that are alike: the second has the items and equations of the first under a change of names, in whatever order. What an
+-- import expression makes of the one, where it accepts it, and of the other are alike.
+use mathlib.Core.Path.{_≡_, refl, sym, ap, ap₂, subst, _∙_}
+use mathlib.Core.Logic.{_⊎_, ⊎-elim}
+use Prim.Native.Nat.{ℕ, _+_}
+use native.Mathlib.Omega.{arith}
+use mathlib.Core.Bool.{Bool, true, false, not, _&&_, true≢false, false≢true}
+use mathlib.Core.Option.{Option, none, some, Option·map}
+use mathlib.Core.List.{List, [], _∷_, _++_, map, map-append, List·Memᴰ, List·Memᴰ·head, List·Memᴰ·tail, List·Memᴰ·cases-cons, List·Permᴰ·nil, List·Permᴰ·trans, Permᴰ·map, Permᴰ·append-right, Permᴰ·append-left, Memᴰ·append-left}
+use lib.ListN.{length}
+use Rattle.meaning.specs.Laws.{by-cases}
+use Rattle.meaning.specs.Lists.{pick, keep, any, first, sum, union}
+use Rattle.meaning.specs.Names.{Name, same, not-after, member, least, lesser}
+use Rattle.meaning.specs.Numbers.{bad-parameter, bad-binding}
+use Rattle.meaning.specs.Syntax.{Pair}
+use Rattle.meaning.specs.Origins.{Origin, Sort, visible-sort, hidden-sort, FunctionType, ResolvedTerm, var, app, ResolvedTerms, none-left, _and-then_, ResolvedSides, ResolvedEquation, Shape, sort-shape, function-shape, variable-shape, same-shape, is-sort, Item, one-item, one-equation}
+use Rattle.meaning.specs.Normal.{Visible, Normal, names-in, sorts-among, sort-names, is-called, unite-visible, unite-hidden, unite, move-type, move-item, move-hidden-item, move-equation, move-visible, move-hidden, move}
+use Rattle.meaning.specs.Checks.{Outcome, fine, stop, _>>_, unless, least-at-odds, other-origin, sorts-clash, functions-clash, other-output, both-in-one, overloaded, consistent, term-nodes, terms-nodes, sides-nodes, equation-nodes, size, room, checked}
+use Rattle.meaning.specs.Clauses.{paired, otherwise, renaming, may-name, renames, wrong-renaming, rename, origin-of-item, origin-of, same-origins, is-among, formals, is-formal-sort, new-sort, new-function, sort-right, sorts-right, shape-right, pair-right, wrong-pair, unpaired, without-visible, without, bound-to, bind}
+use Rattle.meaning.specs.OrderLaws.{Every, Rearranged, rearranged-length, rearranged-every, pairwise-rearranged, any-none, none-least-at-odds, same-equal, same-self}
+use Rattle.meaning.specs.Mirror.{then-fine, unless-fine, fine-same}
+use Rattle.promises.specs.ListingLaws.{origin-equal, item-equal, both-true}
+use Rattle.promises.specs.Sound.{compatible, every-map, every-union}
+use Rattle.promises.specs.SameListing.{kept-member}
+use Rattle.replacing.specs.Changing.{re-pair, re-origin, re-sort, re-type, re-shape, re-item, re-term, re-terms, re-sides, re-equation}
+use Rattle.replacing.specs.Exchanging.{map-twice, map-length, any-map, keep-map, first-map, pick-map, member-kept, origin-kept, sort-kept, sorts-kept, shape-kept, is-sort-kept, is-function-kept, called-kept, names-in-kept, items-united, equations-united, move-type-kept, move-item-kept, move-hidden-item-kept, move-equation-kept}
+use Rattle.replacing.specs.Reordering.{Tagged, item-self, test-symmetric, equation-equal, equations-symmetric, any-rearranged, keep-rearranged, sum-rearranged, first-image, union-rearranged, names-symmetric, sorts-clash-symmetric, functions-clash-symmetric, overloaded-symmetric, none-of, least-at-odds-none, pairwise-map}
+
+-- ---- names among names, in whatever order
+
+pub member-any : (w : Name) (ws : List Name) → member w ws ≡ any (same w) ws
+unfolding member any
+member-any w [] = refl
+member-any w (x ∷ ws) = ap (λ (r : Bool). pick (same w x) true r) (member-any w ws)
+
+pub member-rearranged : (w : Name) {ws vs : List Name} → Rearranged ws vs → member w ws ≡ member w vs
+member-rearranged w {ws} {vs} d = member-any w ws ∙ any-rearranged (same w) d ∙ sym (member-any w vs)
+
+nothing-left : {A : Type 0} (xs : List A) → Rearranged [] xs → xs ≡ []
+nothing-left [] d = refl
+nothing-left (x ∷ xs) d = let e = rearranged-length d in absurd (omega (arith, e))
+
+-- two visible sorts of one name have one origin
+abbrev pub OneOrigin : List Item → Type 0
+OneOrigin is =
+    (a b : Item) → List·Memᴰ a is → List·Memᴰ b is → is-sort (a .shape) ≡ true → is-sort (b .shape) ≡ true → a .name ≡ b .name
+    → a .origin ≡ b .origin
+
+sorts-one : (a b : Item) → is-sort (a .shape) ≡ true → is-sort (b .shape) ≡ true → a .name ≡ b .name → sorts-clash a b ≡ false
+    → a .origin ≡ b .origin
+unfolding sorts-clash other-origin
+sorts-one a b p q n e = origin-equal (a .origin) (b .origin) (go _ (rw (p, q, n, same-self (b .name)) at e))
+  where
+    go : (x : Bool) → not x ≡ false → x ≡ true
+    go true e = refl
+    go false e = sym e
+
+pub consistent-one : (v : Visible) (own : List Item) → consistent v own ≡ fine tt → OneOrigin (v .items)
+unfolding consistent
+consistent-one v own c a b m k p q n =
+    let sorts = unless-fine _ _ (then-fine _ _ tt (then-fine _ _ tt c .1) .0) in
+    ⊎-elim (λ (e : a ≡ b). ap (λ (i : Item). i .origin) e)
+    (⊎-elim (λ r. sorts-one a b p q n r) (λ r. sym (sorts-one b a q p (sym n) r)))
+    (compatible sorts-clash (v .items ++ own) sorts a b (Memᴰ·append-left own m) (Memᴰ·append-left own k))
+
+-- the second list has the items of the first under g, in whatever order
+pub record Like {A B : Type 0} (g : A → B) (xs : List A) (ys : List B) : Type 0 where
+  pub arranged : Rearranged (map g xs) ys
+
+pub like : {A B : Type 0} (g : A → B) (xs : List A) {rs ys : List B} → rs ≡ map g xs → Rearranged rs ys → Like g xs ys
+like g xs {rs} {ys} e d = record { arranged = subst (λ (r : List _). Rearranged r ys) e d }
+
+pub like-none : {A B : Type 0} (g : A → B) → Like g [] []
+like-none g = record { arranged = List·Permᴰ·nil }
+
+pub member-map-from : {A B : Type 0} (g : A → B) (xs : List A) {y : B} → List·Memᴰ y (map g xs) → (x : A) × List·Memᴰ x xs × (y ≡ g x)
+member-map-from g [] m = elim m [ ]
+member-map-from g (x ∷ xs) m =
+    ⊎-elim (λ e. (x, List·Memᴰ·head refl, e)) (λ k. let r = member-map-from g xs k in (r .0, List·Memᴰ·tail (r .1), r .2)) (List·Memᴰ·cases-cons m)
+
+kept-sort : (is : List Item) (i : Item) → List·Memᴰ i (sorts-among is) → List·Memᴰ i is × (is-sort (i .shape) ≡ true)
+unfolding sorts-among
+kept-sort is i m = kept-member (λ (x : Item). is-sort (x .shape)) is m
+
+least-none : (ws : List Name) → ws ≡ [] → least ws ≡ none
+unfolding least
+least-none ws e = rw e
+
+none-least : (ws : List Name) → least ws ≡ none → ws ≡ []
+unfolding least lesser
+none-least [] e = refl
+none-least (w ∷ ws) e = go (least ws) e
+  where
+    go : (o : Option Name) → lesser w o ≡ none → w ∷ ws ≡ []
+    go none e = let z : _≡_ {A = ℕ} 0 1 = cc in absurd (omega arith)
+    go (some v) e = by-cases (λ (x : Option Name). x ≡ none → w ∷ ws ≡ []) (not-after w v) (some w) (some v)
+        (λ q f. let z : _≡_ {A = ℕ} 0 1 = cc in absurd (omega arith)) (λ q f. let z : _≡_ {A = ℕ} 0 1 = cc in absurd (omega arith)) e
+
+every-any : {A : Type 0} (xs : List A) → Every (λ x. Unit {0}) xs
+every-any [] = tt
+every-any (x ∷ xs) = (tt, every-any xs)
+
+pick-none : {A : Type 0} (b : Bool) (more : Option A) (a : A) → pick b more (some a) ≡ none → (b ≡ true) × (more ≡ none)
+unfolding pick
+pick-none true more a e = (refl, e)
+pick-none false more a e = let z : _≡_ {A = ℕ} 0 1 = cc in absurd (omega arith)
+
+not-true : (b : Bool) → not b ≡ true → b ≡ false
+not-true true e = absurd (false≢true e)
+not-true false e = refl
+
+module _ (τ : Name → Name) (keeps : (v w : Name) → same (τ v) (τ w) ≡ same v w) (tags : ℕ → ℕ → Name) where
+  pub record AlikeVisible (v v′ : Visible) : Type 0 where
+    pub parameters : Rearranged (v .parameters) (v′ .parameters)
+    pub items : Like (re-item τ) (v .items) (v′ .items)
+
+  pub record Alike (n n′ : Normal) : Type 0 where
+    pub visible : AlikeVisible (n .visible) (n′ .visible)
+    pub hidden-items : Like (re-item τ) (n .hidden .items) (n′ .hidden .items)
+    pub equations : Like (re-equation τ) (n .hidden .equations) (n′ .hidden .equations)
+
+  -- ---- lists that are alike
+
+  module _ {A B : Type 0} (g : A → B) (p : B → Bool) (q : A → Bool) (h : (x : A) → p (g x) ≡ q x) {xs : List A} {ys : List B}
+      (d : Like g xs ys) where
+    pub any-alike : any p ys ≡ any q xs
+    any-alike = sym (any-rearranged p (d .arranged)) ∙ any-map g p q h xs
+
+    pub keep-alike : Like g (keep q xs) (keep p ys)
+    keep-alike = like g (keep q xs) (keep-map g p q h xs) (keep-rearranged p (d .arranged))
+
+  pub sorts-alike : {is is′ : List Item} → Like (re-item τ) is is′ → Like (re-item τ) (sorts-among is) (sorts-among is′)
+  unfolding sorts-among re-item
+  sorts-alike d = keep-alike (re-item τ) _ _ (λ i. is-sort-kept τ keeps (i .shape)) d
+
+  pub names-alike : {is is′ : List Item} → Like (re-item τ) is is′ → Like τ (names-in is) (names-in is′)
+  unfolding names-in
+  names-alike {is} {is′} d = like τ (names-in is) (names-in-kept τ keeps is) (Permᴰ·map (λ (i : Item). i .name) (d .arranged))
+
+  pub sort-names-alike : {v v′ : Visible} → AlikeVisible v v′ → Like τ (sort-names v) (sort-names v′)
+  unfolding sort-names
+  sort-names-alike a = names-alike (sorts-alike (a .items))
+
+  pub member-alike : (w : Name) {ws ws′ : List Name} → Like τ ws ws′ → member (τ w) ws′ ≡ member w ws
+  member-alike w {ws} d = sym (member-rearranged (τ w) (d .arranged)) ∙ member-kept τ keeps w ws
+
+  -- ---- the checks after each clause and union
+
+  clash-kept : (a b : Item) → sorts-clash (re-item τ a) (re-item τ b) ≡ sorts-clash a b
+  unfolding sorts-clash other-origin re-item
+  clash-kept a b =
+      rw (is-sort-kept τ keeps (a .shape), is-sort-kept τ keeps (b .shape), keeps (a .name) (b .name), origin-kept τ keeps (a .origin) (b .origin))
+
+  functions-kept : (a b : Item) → functions-clash (re-item τ a) (re-item τ b) ≡ functions-clash a b
+  unfolding functions-clash other-origin re-item
+  functions-kept a b =
+      rw (
+        is-function-kept τ keeps (a .shape),
+        shape-kept τ keeps (a .shape) (b .shape),
+        keeps (a .name) (b .name),
+        origin-kept τ keeps (a .origin) (b .origin),
+      )
+
+  output-kept : (s t : Shape) → other-output (re-shape τ s) (re-shape τ t) ≡ other-output s t
+  unfolding other-output re-shape re-type
+  output-kept sort-shape t = refl
+  output-kept (variable-shape s) t = refl
+  output-kept (function-shape t) sort-shape = refl
+  output-kept (function-shape t) (variable-shape s) = refl
+  output-kept (function-shape t) (function-shape u) =
+      rw (sorts-kept τ keeps (t .inputs) (u .inputs), sort-kept τ keeps (t .output) (u .output))
+
+  overloaded-kept : (a b : Item) → overloaded (re-item τ a) (re-item τ b) ≡ overloaded a b
+  unfolding overloaded both-in-one re-item
+  overloaded-kept a b =
+      rw (keeps (a .name) (b .name), output-kept (a .shape) (b .shape), is-function-kept τ keeps (a .shape), is-function-kept τ keeps (b .shape))
+
+  none-alike : (wrong : Item → Item → Bool) → ((a b : Item) → wrong a b ≡ wrong b a)
+      → ((a b : Item) → wrong (re-item τ a) (re-item τ b) ≡ wrong a b) → {is is′ : List Item} → Like (re-item τ) is is′
+      → least-at-odds (λ (i : Item). i .name) wrong is ≡ none → least-at-odds (λ (i : Item). i .name) wrong is′ ≡ none
+  none-alike wrong symmetric kept {is} {is′} d e =
+      least-at-odds-none (λ (i : Item). i .name) wrong symmetric is′
+      (pairwise-rearranged (λ x y. wrong x y ≡ false) (λ a b q. symmetric b a ∙ q) (d .arranged)
+      (pairwise-map (λ x y. wrong x y ≡ false) (λ x y. wrong x y ≡ false) (re-item τ) (λ a b q. kept a b ∙ q) is
+      (none-least-at-odds (λ (i : Item). i .name) wrong symmetric is e)))
+
+  pub consistent-alike : {v v′ : Visible} → AlikeVisible v v′ → (own : List Item) → consistent v own ≡ fine tt
+      → consistent v′ (map (re-item τ) own) ≡ fine tt
+  unfolding consistent _>>_ unless
+  consistent-alike {v} {v′} a own c =
+      let p = then-fine _ _ tt c in
+      let s = then-fine _ _ tt (p .1) in
+      let f = then-fine _ _ tt (s .1) in
+      let d =
+      like (re-item τ) (v .items ++ own) (sym (map-append (re-item τ) (v .items) own))
+      (Permᴰ·append-right (map (re-item τ) own) (a .items .arranged)) in
+      let once =
+      least-at-odds-none (λ (q : Name). q) same names-symmetric (v′ .parameters)
+      (pairwise-rearranged (λ x y. same x y ≡ false) (λ x y q. names-symmetric y x ∙ q) (a .parameters)
+      (none-least-at-odds (λ (q : Name). q) same names-symmetric (v .parameters) (unless-fine _ _ (p .0)))) in
+      rw (
+        once,
+        none-alike sorts-clash sorts-clash-symmetric clash-kept d (unless-fine _ _ (s .0)),
+        none-alike functions-clash functions-clash-symmetric functions-kept d (unless-fine _ _ (f .0)),
+        none-alike overloaded overloaded-symmetric overloaded-kept d (unless-fine _ _ (f .1)),
+      )
+
+  -- ---- room
+
+  mutual
+    unfolding term-nodes re-term
+
+    nodes-kept : (x : ResolvedTerm) → term-nodes (re-term τ x) ≡ term-nodes x
+    nodes-kept (var o s) = refl
+    nodes-kept (app f xs) = ap (λ (n : ℕ). 1 + n) (all-nodes-kept xs)
+
+    all-nodes-kept : (xs : ResolvedTerms) → terms-nodes (re-terms τ xs) ≡ terms-nodes xs
+    all-nodes-kept none-left = refl
+    all-nodes-kept (x and-then xs) = ap₂ (λ (m n : ℕ). m + n) (nodes-kept x) (all-nodes-kept xs)
+
+  sides-nodes-kept : (e : ResolvedSides) → sides-nodes (re-sides τ e) ≡ sides-nodes e
+  unfolding sides-nodes re-sides
+  sides-nodes-kept e = rw (nodes-kept (e .left), nodes-kept (e .right))
+
+  sum-map : {A B : Type 0} (g : A → B) (f : B → ℕ) (f′ : A → ℕ) → ((x : A) → f (g x) ≡ f′ x) → (xs : List A) → sum f (map g xs) ≡ sum f′ xs
+  unfolding sum
+  sum-map g f f′ h [] = refl
+  sum-map g f f′ h (x ∷ xs) = ap₂ (λ (m n : ℕ). m + n) (h x) (sum-map g f f′ h xs)
+
+  equation-nodes-kept : (e : ResolvedEquation) → equation-nodes (re-equation τ e) ≡ equation-nodes e
+  unfolding equation-nodes re-equation
+  equation-nodes-kept e =
+      rw (sides-nodes-kept (e .conclusion), sum-map (re-sides τ) sides-nodes sides-nodes sides-nodes-kept (e .conditions))
+
+  length-alike : {A B : Type 0} {g : A → B} {xs : List A} {ys : List B} → Like g xs ys → length ys ≡ length xs
+  length-alike {g = g} {xs} d = sym (rearranged-length (d .arranged)) ∙ map-length g xs
+
+  pub size-alike : {n n′ : Normal} → Alike n n′ → size n′ ≡ size n
+  unfolding size
+  size-alike {n} {n′} a =
+      let nodes : sum equation-nodes (n′ .hidden .equations) ≡ sum equation-nodes (n .hidden .equations) =
+      sym (sum-rearranged equation-nodes (a .equations .arranged))
+      ∙ sum-map (re-equation τ) equation-nodes equation-nodes equation-nodes-kept (n .hidden .equations) in
+      λ i. record {
+        items = length-alike (a .visible .items) i + length-alike (a .hidden-items) i;
+        equations = length-alike (a .equations) i;
+        nodes = nodes i;
+      }
+
+  pub room-alike : {n n′ : Normal} → Alike n n′ → room n′ ≡ room n
+  unfolding room
+  room-alike {n} {n′} a = rw (size-alike a, sym (rearranged-length (a .visible .parameters)))
+
+  -- ---- what is accepted is alike, and its visible sorts of one name have one origin
+
+  pub record Both (n n′ : Normal) : Type 0 where
+    pub alike : Alike n n′
+    pub one : OneOrigin (n .visible .items)
+    pub tagged : Every (Tagged tags) (n .hidden .equations)
+
+  abbrev pub Follows : Normal → Outcome Normal → Type 0
+  Follows k o = (k′ : Normal) × (o ≡ fine k′) × Both k k′
+
+  pub checked-alike : {n n′ : Normal} → Alike n n′ → Every (Tagged tags) (n .hidden .equations) → (k : Normal) → checked n ≡ fine k
+      → Follows k (checked n′)
+  unfolding checked _>>_
+  checked-alike {n} {n′} a t k e =
+      let c = then-fine (consistent (n .visible) []) (room n >> fine n) k e in
+      let r = then-fine (room n) (fine n) k (c .1) in
+      let q : n ≡ k = fine-same n k (r .1) in (
+        n′,
+        rw (consistent-alike (a .visible) [] (c .0), room-alike a, r .0),
+        record {
+          alike = subst (λ (x : Normal). Alike x n′) q a;
+          one = subst (λ (x : Normal). OneOrigin (x .visible .items)) q (consistent-one (n .visible) [] (c .0));
+          tagged = subst (λ (x : Normal). Every (Tagged tags) (x .hidden .equations)) q t;
+        },
+      )
+
+  -- ---- union
+
+  pub items-union-alike : {xs xs′ ys ys′ : List Item} → Like (re-item τ) xs xs′ → Like (re-item τ) ys ys′
+      → Like (re-item τ) (union one-item xs ys) (union one-item xs′ ys′)
+  items-union-alike {xs} {xs′} {ys} {ys′} d k =
+      like (re-item τ) (union one-item xs ys) (items-united τ keeps xs ys)
+      (union-rearranged one-item (test-symmetric one-item item-equal item-self) (λ i. Unit {0}) (λ a b x y e. item-equal a b e) (d .arranged)
+      (k .arranged) (every-any (map (re-item τ) ys)))
+
+  pub retagged : (es : List ResolvedEquation) → Every (Tagged tags) es → Every (Tagged tags) (map (re-equation τ) es)
+  unfolding re-equation
+  retagged es h = every-map (Tagged tags) (Tagged tags) (re-equation τ) (λ e t. record { tagged = t .tagged }) es h
+
+  pub equations-union-alike : {xs xs′ ys ys′ : List ResolvedEquation} → Like (re-equation τ) xs xs′ → Like (re-equation τ) ys ys′
+      → Every (Tagged tags) ys → Like (re-equation τ) (union one-equation xs ys) (union one-equation xs′ ys′)
+  equations-union-alike {xs} {xs′} {ys} {ys′} d k h =
+      like (re-equation τ) (union one-equation xs ys) (equations-united τ keeps xs ys)
+      (union-rearranged one-equation equations-symmetric (Tagged tags) (equation-equal tags) (d .arranged) (k .arranged) (retagged ys h))
+
+  pub unite-visible-alike : {a a′ b b′ : Visible} → AlikeVisible a a′ → AlikeVisible b b′ → AlikeVisible (unite-visible a b) (unite-visible a′ b′)
+  unfolding unite-visible
+  unite-visible-alike {a} {a′} {b} {b′} p q = record {
+    parameters = List·Permᴰ·trans (Permᴰ·append-right (b .parameters) (p .parameters)) (Permᴰ·append-left (a′ .parameters) (q .parameters));
+    items = items-union-alike (p .items) (q .items);
+  }
+
+  pub unite-alike : {a a′ b b′ : Normal} → Alike a a′ → Alike b b′ → Every (Tagged tags) (b .hidden .equations) → Alike (unite a b) (unite a′ b′)
+  unfolding unite unite-hidden
+  unite-alike p q h = record {
+    visible = unite-visible-alike (p .visible) (q .visible);
+    hidden-items = items-union-alike (p .hidden-items) (q .hidden-items);
+    equations = equations-union-alike (p .equations) (q .equations) h;
+  }
+
+  pub unite-tagged : (a b : Normal) → Every (Tagged tags) (a .hidden .equations) → Every (Tagged tags) (b .hidden .equations)
+      → Every (Tagged tags) (unite a b .hidden .equations)
+  unfolding unite unite-hidden
+  unite-tagged a b h k = every-union (Tagged tags) one-equation (a .hidden .equations) (b .hidden .equations) h k
+
+  -- ---- translation
+
+  module _ (σ σ′ : Name → Name) (φ φ′ : Name → FunctionType → Name) (same-σ : (a : Name) → σ′ (τ a) ≡ τ (σ a))
+      (same-φ : (f : Name) (t : FunctionType) → φ′ (τ f) (re-type τ t) ≡ τ (φ f t)) where
+    moved-tagged : (es : List ResolvedEquation) → Every (Tagged tags) es → Every (Tagged tags) (map (move-equation σ φ) es)
+    unfolding move-equation
+    moved-tagged es h = every-map (Tagged tags) (Tagged tags) (move-equation σ φ) (λ e t. record { tagged = t .tagged }) es h
+
+    moved-items : {is is′ : List Item} → Like (re-item τ) is is′ → Like (re-item τ) (map (move-item σ φ) is) (map (move-item σ′ φ′) is′)
+    moved-items {is} {is′} d =
+        like (re-item τ) (map (move-item σ φ) is)
+        (map-twice (re-item τ) (move-item σ′ φ′) (move-item σ φ) (re-item τ) (move-item-kept τ keeps σ σ′ φ φ′ same-σ same-φ) is)
+        (Permᴰ·map (move-item σ′ φ′) (d .arranged))
+
+    moved-hidden-items : {is is′ : List Item} → Like (re-item τ) is is′
+        → Like (re-item τ) (map (move-hidden-item σ φ) is) (map (move-hidden-item σ′ φ′) is′)
+    moved-hidden-items {is} {is′} d =
+        like (re-item τ) (map (move-hidden-item σ φ) is)
+        (map-twice (re-item τ) (move-hidden-item σ′ φ′) (move-hidden-item σ φ) (re-item τ)
+        (move-hidden-item-kept τ keeps σ σ′ φ φ′ same-σ same-φ) is)
+        (Permᴰ·map (move-hidden-item σ′ φ′) (d .arranged))
+
+    moved-equations : {es es′ : List ResolvedEquation} → Like (re-equation τ) es es′
+        → Like (re-equation τ) (map (move-equation σ φ) es) (map (move-equation σ′ φ′) es′)
+    moved-equations {es} {es′} d =
+        like (re-equation τ) (map (move-equation σ φ) es)
+        (map-twice (re-equation τ) (move-equation σ′ φ′) (move-equation σ φ) (re-equation τ)
+        (move-equation-kept τ keeps σ σ′ φ φ′ same-σ same-φ) es)
+        (Permᴰ·map (move-equation σ′ φ′) (d .arranged))
+
+    pub move-alike : {n n′ : Normal} → Alike n n′ → Every (Tagged tags) (n .hidden .equations) → Alike (move σ φ n) (move σ′ φ′ n′)
+    unfolding move move-visible move-hidden
+    move-alike {n} {n′} a t = record {
+      visible = record { parameters = a .visible .parameters; items = items-union-alike (like-none _) (moved-items (a .visible .items)) };
+      hidden-items = items-union-alike (like-none _) (moved-hidden-items (a .hidden-items));
+      equations = equations-union-alike (like-none _) (moved-equations (a .equations)) (moved-tagged (n .hidden .equations) t);
+    }
+
+    pub move-tagged : (n : Normal) → Every (Tagged tags) (n .hidden .equations) → Every (Tagged tags) (move σ φ n .hidden .equations)
+    unfolding move move-hidden
+    move-tagged n t = every-union (Tagged tags) one-equation [] (map (move-equation σ φ) (n .hidden .equations)) tt (moved-tagged (n .hidden .equations) t)
+
+  -- ---- renaming
+
+  abbrev pub re-pairs : List Pair → List Pair
+  re-pairs rs = map (re-pair τ) rs
+
+  paired-kept : (rs : List Pair) (w : Name) → paired (re-pairs rs) (τ w) ≡ Option·map τ (paired rs w)
+  unfolding paired re-pair
+  paired-kept [] w = refl
+  paired-kept (r ∷ rs) w =
+      ap₂ (λ (b : Bool) (o : Option Name). pick b (some (τ (r .new))) o) (keeps (r .old) w) (paired-kept rs w)
+      ∙ pick-map (Option·map τ) (same (r .old) w) (some (r .new)) (paired rs w)
+
+  renaming-kept : (rs : List Pair) (w : Name) → renaming (re-pairs rs) (τ w) ≡ τ (renaming rs w)
+  unfolding renaming otherwise
+  renaming-kept rs w = ap (otherwise (τ w)) (paired-kept rs w) ∙ go (paired rs w)
+    where
+      go : (o : Option Name) → otherwise (τ w) (Option·map τ o) ≡ τ (otherwise w o)
+      go none = refl
+      go (some n) = refl
+
+  old-kept : (r : Pair) → re-pair τ r .old ≡ τ (r .old)
+  unfolding re-pair
+  old-kept r = refl
+
+  -- the new name may stand for what it did under the change: it is so of all but the name that the change takes to an operator
+  abbrev pub Easier : Pair → Type 0
+  Easier r = (s : Shape) → may-name (r .new) s ≡ true → may-name (τ (r .new)) (re-shape τ s) ≡ true
+
+  renames-alike : {is is′ : List Item} → Like (re-item τ) is is′ → (r : Pair) → Easier r → renames is r ≡ true
+      → renames is′ (re-pair τ r) ≡ true
+  unfolding renames re-pair re-item
+  renames-alike {is} {is′} d r easier e =
+      let h = both-true _ _ e in
+      let found : any (is-called (τ (r .old))) is′ ≡ true =
+      any-alike (re-item τ) _ (is-called (r .old)) (called-kept τ keeps (r .old)) d ∙ h .0 in
+      let none-wrong =
+      none-of (λ (i : Item). i .name) (λ a b. false) (λ (i : Item). is-called (τ (r .old)) i && not (may-name (τ (r .new)) (i .shape))) is′
+      (rearranged-every _ (d .arranged) (every-map _ _ (re-item τ) fits is (any-none _ is (not-true _ (h .1))))) in
+      rw (found, none-wrong)
+    where
+      fits : (i : Item) → (is-called (r .old) i && not (may-name (r .new) (i .shape))) ≡ false
+          → (is-called (τ (r .old)) (re-item τ i) && not (may-name (τ (r .new)) (re-item τ i .shape))) ≡ false
+      fits i q = rw (called-kept τ keeps (r .old) i) (go (is-called (r .old) i) (may-name (r .new) (i .shape)) refl q)
+        where
+          go : (b c : Bool) → may-name (r .new) (i .shape) ≡ c → (b && not c) ≡ false → (b && not (may-name (τ (r .new)) (re-item τ i .shape))) ≡ false
+          go false c k q = refl
+          go true true k q = ap not (shaped k)
+            where
+              shaped : may-name (r .new) (i .shape) ≡ true → may-name (τ (r .new)) (re-item τ i .shape) ≡ true
+              shaped k = easier (i .shape) k
+          go true false k q = absurd (true≢false q)
+
+  renamings-alike : {is is′ : List Item} → Like (re-item τ) is is′ → (seen : List Name) (rs : List Pair) → Every Easier rs
+      → wrong-renaming is seen rs ≡ none → wrong-renaming is′ (map τ seen) (re-pairs rs) ≡ none
+  unfolding wrong-renaming re-pair pick
+  renamings-alike d seen [] h e = refl
+  renamings-alike {is} {is′} d seen (r ∷ rs) h e =
+      let p = pick-none _ _ _ e in
+      let q = both-true _ _ (p .0) in
+      rw (renames-alike d r (h .0) (q .0), member-kept τ keeps (r .old) seen, q .1) (renamings-alike d (r .old ∷ seen) rs (h .1) (p .1))
+
+  pub rename-alike : {n n′ : Normal} → Both n n′ → (rs : List Pair) → Every Easier rs → (k : Normal) → rename rs n ≡ fine k
+      → Follows k (rename (re-pairs rs) n′)
+  unfolding rename _>>_ unless
+  rename-alike {n} {n′} b rs h k e =
+      let c = then-fine _ _ k e in
+      rw (renamings-alike (b .alike .visible .items) [] rs h (unless-fine _ _ (c .0)))
+      (checked-alike
+      (move-alike (renaming rs) (renaming (re-pairs rs)) (λ f t. renaming rs f) (λ f t. renaming (re-pairs rs) f) (renaming-kept rs)
+      (λ f t. renaming-kept rs f) (b .alike) (b .tagged))
+      (move-tagged (renaming rs) (renaming (re-pairs rs)) (λ f t. renaming rs f) (λ f t. renaming (re-pairs rs) f) (renaming-kept rs)
+      (λ f t. renaming-kept rs f) n (b .tagged))
+      k (c .1))
+
+  -- ---- binding
+
+  formals-alike : (p : Name) {v v′ : Visible} → AlikeVisible v v′ → Like (re-item τ) (formals p v) (formals p v′)
+  unfolding formals re-item
+  formals-alike p a = keep-alike (re-item τ) _ _ (λ i. refl) (a .items)
+
+  without-alike : (p : Name) {n n′ : Normal} → Alike n n′ → Alike (without p n) (without p n′)
+  unfolding without without-visible re-item
+  without-alike p a = record {
+    visible = record {
+      parameters = keep-rearranged (λ (q : Name). not (same p q)) (a .visible .parameters);
+      items = keep-alike (re-item τ) _ _ (λ i. refl) (a .visible .items);
+    };
+    hidden-items = a .hidden-items;
+    equations = a .equations;
+  }
+
+  -- where a visible sort comes from
+  origin-of-alike : {v v′ : Visible} → AlikeVisible v v′ → OneOrigin (v .items) → (w : Name)
+      → origin-of v′ (τ w) ≡ Option·map (re-origin τ) (origin-of v w)
+  unfolding origin-of origin-of-item is-called re-item
+  origin-of-alike {v} {v′} a one w =
+      as-map (first (is-called (τ w)) (sorts-among (v′ .items)))
+      ∙ sym (first-image (λ (i : Item). i .origin) (is-called (τ w)) (sorts-alike (a .items) .arranged) image)
+      ∙ ap (Option·map (λ (i : Item). i .origin)) (first-map (re-item τ) (is-called (τ w)) (is-called w) (called-kept τ keeps w) (sorts-among (v .items)))
+      ∙ both (first (is-called w) (sorts-among (v .items)))
+    where
+      as-map : (o : Option Item) → origin-of-item o ≡ Option·map (λ (i : Item). i .origin) o
+      as-map none = refl
+      as-map (some i) = refl
+
+      both : (o : Option Item) → Option·map (λ (i : Item). i .origin) (Option·map (re-item τ) o) ≡ Option·map (re-origin τ) (origin-of-item o)
+      both none = refl
+      both (some i) = refl
+
+      image : (x y : Item) → List·Memᴰ x (map (re-item τ) (sorts-among (v .items))) → List·Memᴰ y (map (re-item τ) (sorts-among (v .items)))
+          → same (τ w) (x .name) ≡ true → same (τ w) (y .name) ≡ true → x .origin ≡ y .origin
+      image x y m k p q =
+          let i = member-map-from (re-item τ) (sorts-among (v .items)) m in
+          let j = member-map-from (re-item τ) (sorts-among (v .items)) k in
+          let s = kept-sort (v .items) (i .0) (i .1) in
+          let t = kept-sort (v .items) (j .0) (j .1) in
+          let n : same w (i .0 .name) ≡ true = sym (keeps w (i .0 .name)) ∙ subst (λ (z : Item). same (τ w) (z .name) ≡ true) (i .2) p in
+          let l : same w (j .0 .name) ≡ true = sym (keeps w (j .0 .name)) ∙ subst (λ (z : Item). same (τ w) (z .name) ≡ true) (j .2) q in
+          ap (λ (z : Item). z .origin) (i .2)
+          ∙ ap (re-origin τ) (one (i .0) (j .0) (s .0) (t .0) (s .1) (t .1) (sym (same-equal w (i .0 .name) n) ∙ same-equal w (j .0 .name) l))
+          ∙ ap (λ (z : Item). z .origin) (sym (j .2))
+
+  module _ (formal formal′ : List Item) (like-formal : Like (re-item τ) formal formal′) (rs : List Pair) (whole whole′ : Visible)
+      (like-whole : AlikeVisible whole whole′) (one-whole : OneOrigin (whole .items)) (actual actual′ : Visible)
+      (like-actual : AlikeVisible actual actual′) (one-actual : OneOrigin (actual .items)) where
+    formal-sort-kept : (s : Name) → is-formal-sort formal′ (re-pairs rs) whole′ actual′ (τ s) ≡ is-formal-sort formal rs whole actual s
+    unfolding is-formal-sort
+    formal-sort-kept s = any-alike (re-item τ) (is-called (τ s)) (is-called s) (called-kept τ keeps s) (sorts-alike like-formal)
+
+    pub new-sort-kept : (s : Name) → new-sort formal′ (re-pairs rs) whole′ actual′ (τ s) ≡ τ (new-sort formal rs whole actual s)
+    unfolding new-sort
+    new-sort-kept s =
+        ap₂ (λ (b : Bool) (w : Name). pick b w (τ s)) (formal-sort-kept s) (renaming-kept rs s)
+        ∙ pick-map τ (is-formal-sort formal rs whole actual s) (renaming rs s) s
+
+    pub new-function-kept : (f : Name) (t : FunctionType)
+        → new-function formal′ (re-pairs rs) whole′ actual′ (τ f) (re-type τ t) ≡ τ (new-function formal rs whole actual f t)
+    unfolding new-function re-item re-shape
+    new-function-kept f t =
+        ap₂ (λ (b : Bool) (w : Name). pick b w (τ f))
+        (any-alike (re-item τ) (λ (i : Item). is-called (τ f) i && same-shape (function-shape (re-type τ t)) (i .shape))
+        (λ (i : Item). is-called f i && same-shape (function-shape t) (i .shape))
+        (λ i. ap₂ (λ (b c : Bool). b && c) (called-kept τ keeps f i) (shape-kept τ keeps (function-shape t) (i .shape))) like-formal)
+        (renaming-kept rs f)
+        ∙ pick-map τ (any (λ (i : Item). is-called f i && same-shape (function-shape t) (i .shape)) formal) (renaming rs f) f
+
+    among-kept : (o : Option Name) → is-among (sort-names actual′) (Option·map τ o) ≡ is-among (sort-names actual) o
+    unfolding is-among
+    among-kept none = refl
+    among-kept (some w) = member-alike w (sort-names-alike like-actual)
+
+    origins-kept : (o p : Option Origin) → same-origins (Option·map (re-origin τ) o) (Option·map (re-origin τ) p) ≡ same-origins o p
+    unfolding same-origins
+    origins-kept none none = refl
+    origins-kept none (some p) = refl
+    origins-kept (some o) none = refl
+    origins-kept (some o) (some p) = origin-kept τ keeps o p
+
+    sort-right-kept : (s : Sort) → sort-right formal′ (re-pairs rs) whole′ actual′ (re-sort τ s) ≡ sort-right formal rs whole actual s
+    unfolding sort-right re-sort
+    sort-right-kept (hidden-sort o) = refl
+    sort-right-kept (visible-sort s) =
+        rw (
+          formal-sort-kept s,
+          paired-kept rs s,
+          among-kept (paired rs s),
+          origin-of-alike like-whole one-whole s,
+          origin-of-alike like-actual one-actual s,
+          origins-kept (origin-of whole s) (origin-of actual s),
+        )
+
+    sorts-right-kept : (t : FunctionType) → sorts-right formal′ (re-pairs rs) whole′ actual′ (re-type τ t) ≡ sorts-right formal rs whole actual t
+    unfolding sorts-right re-type
+    sorts-right-kept t =
+        ap not (any-map (re-sort τ) (λ (s : Sort). not (sort-right formal′ (re-pairs rs) whole′ actual′ s))
+        (λ (s : Sort). not (sort-right formal rs whole actual s)) (λ s. ap not (sort-right-kept s)) (t .output ∷ t .inputs))
+
+    shape-right-kept : (w : Name) (s : Shape)
+        → shape-right formal′ (re-pairs rs) whole′ actual′ (τ w) (re-shape τ s) ≡ shape-right formal rs whole actual w s
+    unfolding shape-right re-shape re-item
+    shape-right-kept w sort-shape = member-alike w (sort-names-alike like-actual)
+    shape-right-kept w (variable-shape s) = refl
+    shape-right-kept w (function-shape t) =
+        ap₂ (λ (b c : Bool). b && c) (sorts-right-kept t)
+        (any-alike (re-item τ)
+        (λ (i : Item). is-called (τ w) i && same-shape (function-shape (move-type (new-sort formal′ (re-pairs rs) whole′ actual′) (new-function formal′ (re-pairs rs) whole′ actual′) (re-type τ t))) (i .shape))
+        (λ (i : Item). is-called w i && same-shape (function-shape (move-type (new-sort formal rs whole actual) (new-function formal rs whole actual) t)) (i .shape))
+        (λ i. ap₂ (λ (b c : Bool). b && c) (called-kept τ keeps w i)
+        (ap (λ (u : FunctionType). same-shape (function-shape u) (re-shape τ (i .shape)))
+        (move-type-kept τ keeps (new-sort formal rs whole actual) (new-sort formal′ (re-pairs rs) whole′ actual′)
+        (new-function formal rs whole actual) (new-function formal′ (re-pairs rs) whole′ actual′) new-sort-kept new-function-kept t)
+        ∙ shape-kept τ keeps (function-shape (move-type (new-sort formal rs whole actual) (new-function formal rs whole actual) t)) (i .shape)))
+        (like-actual .items))
+
+    pair-right-kept : (r : Pair) → pair-right formal′ (re-pairs rs) whole′ actual′ (re-pair τ r) ≡ pair-right formal rs whole actual r
+    unfolding pair-right re-pair re-item
+    pair-right-kept r =
+        ap₂ (λ (b c : Bool). b && not c)
+        (any-alike (re-item τ) (is-called (τ (r .old))) (is-called (r .old)) (called-kept τ keeps (r .old)) like-formal)
+        (any-alike (re-item τ) (λ (i : Item). is-called (τ (r .old)) i && not (shape-right formal′ (re-pairs rs) whole′ actual′ (τ (r .new)) (i .shape)))
+        (λ (i : Item). is-called (r .old) i && not (shape-right formal rs whole actual (r .new) (i .shape)))
+        (λ i. ap₂ (λ (b c : Bool). b && not c) (called-kept τ keeps (r .old) i) (shape-right-kept (r .new) (i .shape))) like-formal)
+
+    pub pairs-right-kept : (seen : List Name) (xs : List Pair) → wrong-pair formal rs whole actual seen xs ≡ none
+        → wrong-pair formal′ (re-pairs rs) whole′ actual′ (map τ seen) (re-pairs xs) ≡ none
+    unfolding wrong-pair pick
+    pairs-right-kept seen [] e = refl
+    pairs-right-kept seen (x ∷ xs) e =
+        let p = pick-none _ _ _ e in
+        let q = both-true (pair-right formal rs whole actual x) (not (member (x .old) seen)) (p .0) in
+        let old : re-pair τ x .old ≡ τ (x .old) = old-kept x in
+        rw (pair-right-kept x, q .0, old, member-kept τ keeps (x .old) seen, q .1) (pairs-right-kept (x .old ∷ seen) xs (p .1))
+
+    pub none-unpaired : unpaired formal rs whole actual ≡ none → unpaired formal′ (re-pairs rs) whole′ actual′ ≡ none
+    unfolding unpaired re-pair
+    none-unpaired e =
+        let d =
+        keep-alike τ (λ (w : Name). not (any (λ (r : Pair). same w (r .old)) (re-pairs rs))) (λ (w : Name). not (any (λ (r : Pair). same w (r .old)) rs))
+        (λ w. ap not (any-map (re-pair τ) (λ (r : Pair). same (τ w) (r .old)) (λ (r : Pair). same w (r .old)) (λ r. keeps w (r .old)) rs))
+        (names-alike like-formal) in
+        least-none left (nothing-left left (subst (λ (r : List Name). Rearranged (map τ r) left) (none-least _ e) (d .arranged)))
+      where
+        left : List Name
+        left = keep (λ (w : Name). not (any (λ (r : Pair). same w (r .old)) (re-pairs rs))) (names-in formal′)
+
+  module _ {n n′ a a′ : Normal} (b : Both n n′) (c : Both a a′) (p : Name) (rs : List Pair) where
+    abbrev F : List Item
+    F = formals p (n .visible)
+
+    abbrev F′ : List Item
+    F′ = formals p (n′ .visible)
+
+    abbrev σ : Name → Name
+    σ = new-sort F rs (n .visible) (a .visible)
+
+    abbrev σ′ : Name → Name
+    σ′ = new-sort F′ (re-pairs rs) (n′ .visible) (a′ .visible)
+
+    abbrev φ : Name → FunctionType → Name
+    φ = new-function F rs (n .visible) (a .visible)
+
+    abbrev φ′ : Name → FunctionType → Name
+    φ′ = new-function F′ (re-pairs rs) (n′ .visible) (a′ .visible)
+
+    like-F : Like (re-item τ) F F′
+    like-F = formals-alike p (b .alike .visible)
+
+    same-σ : (s : Name) → σ′ (τ s) ≡ τ (σ s)
+    same-σ = new-sort-kept F F′ like-F rs (n .visible) (n′ .visible) (b .alike .visible) (b .one) (a .visible) (a′ .visible) (c .alike .visible) (c .one)
+
+    same-φ : (f : Name) (t : FunctionType) → φ′ (τ f) (re-type τ t) ≡ τ (φ f t)
+    same-φ = new-function-kept F F′ like-F rs (n .visible) (n′ .visible) (b .alike .visible) (b .one) (a .visible) (a′ .visible) (c .alike .visible) (c .one)
+
+    still-tagged : Every (Tagged tags) (without p n .hidden .equations)
+    unfolding without
+    still-tagged = b .tagged
+
+    bound-alike : (k : Normal) → bound-to p rs n a ≡ fine k → Follows k (bound-to p (re-pairs rs) n′ a′)
+    unfolding bound-to _>>_ unless
+    bound-alike k e =
+        let f = then-fine (unless bad-binding (wrong-pair F rs (n .visible) (a .visible) [] rs)) _ k e in
+        let g = then-fine (unless bad-binding (unpaired F rs (n .visible) (a .visible))) _ k (f .1) in
+        rw (
+          pairs-right-kept F F′ like-F rs (n .visible) (n′ .visible) (b .alike .visible) (b .one) (a .visible) (a′ .visible) (c .alike .visible) (c .one) [] rs
+              (unless-fine _ _ (f .0)),
+          none-unpaired F F′ like-F rs (n .visible) (n′ .visible) (b .alike .visible) (b .one) (a .visible) (a′ .visible) (c .alike .visible) (c .one)
+              (unless-fine _ _ (g .0)),
+        )
+        (checked-alike (unite-alike (move-alike σ σ′ φ φ′ same-σ same-φ (without-alike p (b .alike)) still-tagged) (c .alike) (c .tagged))
+        (unite-tagged (move σ φ (without p n)) a (move-tagged σ σ′ φ φ′ same-σ same-φ (without p n) still-tagged) (c .tagged)) k (g .1))
+
+    pub bind-alike : (k : Normal) → bind p rs n a ≡ fine k → Follows k (bind p (re-pairs rs) n′ a′)
+    unfolding bind pick
+    bind-alike k e =
+        rw (← member-rearranged p (b .alike .visible .parameters))
+        (go (member p (n .visible .parameters)) (bound-to p rs n a) (bound-to p (re-pairs rs) n′ a′) e bound-alike)
+      where
+        go : (x : Bool) (o o′ : Outcome Normal) → pick x o (stop bad-parameter p) ≡ fine k → ((j : Normal) → o ≡ fine j → Follows j o′)
+            → Follows k (pick x o′ (stop bad-parameter p))
+        go true o o′ q h = h k q
+        go false o o′ q h = let z : _≡_ {A = ℕ} 0 1 = cc in absurd (omega arith)

@@ -1,0 +1,16 @@
+-- a change of names, and the statement
+pub mod Changing
+pub mod Replacing
+-- what respects such a change, and what minds no order
+pub mod Exchanging
+pub mod Reordering
+pub mod Alike
+pub mod OwnAlike
+pub mod ModulesAlike
+pub mod Changed
+-- the names of a normal form
+pub mod NamesFrom
+pub mod ReplacedNames
+-- the proof, and texts that meet the premises
+pub mod Replaced
+pub mod ReplacedInstance

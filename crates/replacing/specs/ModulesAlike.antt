@@ -1,0 +1,495 @@
+-- Evaluating respects a change of names that keeps different names different and makes no renaming harder, and does not mind the order of
+-- items: module by module in text order, with normal forms that are alike in both calls.
+use mathlib.Core.Path.{_≡_, refl, sym, ap, ap₂, subst, _∙_}
+use Prim.Native.Nat.{ℕ, suc, _+_}
+use native.Mathlib.Omega.{arith}
+use mathlib.Core.Bool.{Bool, true, false, _||_}
+use mathlib.Core.Option.{Option, none, some, Option·map}
+use mathlib.Core.List.{List, [], _∷_, _++_, map, map-append, List·Permᴰ·nil, List·Permᴰ·trans, Permᴰ·refl, Permᴰ·symm, Permᴰ·map, Permᴰ·append-right}
+use lib.ListN.{length}
+use Rattle.meaning.specs.Lists.{pick, any, each, repeated}
+use Rattle.meaning.specs.Names.{Name, same, member}
+use Rattle.meaning.specs.Numbers.{declared-twice, asked-absent}
+use Rattle.meaning.specs.Syntax.{Function, Signature, Parameter, Clause, renamed-by, bound-by, Import, Equation, Module, variables-of}
+use Rattle.meaning.specs.Origins.{ResolvedEquation, Item, one-equation}
+use Rattle.meaning.specs.Normal.{Visible, Normal, nothing-visible, nothing-hidden, empty, sort-names, unite-hidden, unite}
+use Rattle.meaning.specs.Written.{in-order}
+use Rattle.meaning.specs.Checks.{Outcome, fine, stop, _>>=_, _>>_, unless, consistent, Size, size, add-sizes, room, total-room, checked}
+use Rattle.meaning.specs.Own.{own-hidden-items, constants}
+use Rattle.meaning.specs.Typing.{made-equation, typed-equations}
+use Rattle.meaning.specs.Evaluate.{Evaluated, clause-names, import-names, named-by, names-right, same-function, name-of-function, once-in, once-in-parameters, declared-once, normal-of, clause, clauses, expressions, united, imported, seen-sorts, joined-visible, own-checks, own-equations, joined-hidden, joined-own, evaluate}
+use Rattle.meaning.specs.Reached.{wanted, Placed, reached-among, reached, Ended, normalised, refused-at, end-or, total-of, in-turn, module-names, normalise, short-or-blank}
+use Rattle.meaning.specs.OrderLaws.{Every, Rearranged, rearranged-every, rearranged-member}
+use Rattle.meaning.specs.Mirror.{then-fine, bind-fine, unless-fine, fine-same}
+use Rattle.promises.specs.Demand.{InTurn}
+use Rattle.promises.specs.Told.{SoundVisible}
+use Rattle.promises.specs.Sound.{Gives, every-union}
+use Rattle.promises.specs.SoundEvaluation.{WholeEnv, PlainModule, Accepted, evaluated-accepted}
+use Rattle.promises.specs.AcceptedForms.{same-ordered}
+use Rattle.replacing.specs.Changing.{re-function, re-signature, re-parameter, re-clause, re-import, re-module, re-item, re-equation}
+use Rattle.replacing.specs.Exchanging.{map-map, pick-map, any-map, agree-map, member-kept}
+use Rattle.replacing.specs.Reordering.{Tagged}
+use Rattle.replacing.specs.Alike.{Like, like, like-none, consistent-one, AlikeVisible, Alike, Both, Follows, member-alike, sort-names-alike, consistent-alike, size-alike, room-alike, checked-alike, items-union-alike, unite-visible-alike, equations-union-alike, unite-alike, unite-tagged, Easier, rename-alike, bind-alike}
+use Rattle.replacing.specs.OwnAlike.{member-append, each-map, variables-kept, own-visible-alike, own-hidden-kept, available-kept, constants-alike, variables-right, equations-kept, finds-alike}
+
+-- ---- lists
+
+repeated-none : {A B : Type 0} (g : A → B) (e : B → B → Bool) (d : A → A → Bool) → ((x y : A) → e (g x) (g y) ≡ d x y) → (seen xs : List A)
+    → repeated e (map g seen) (map g xs) ≡ Option·map g (repeated d seen xs)
+unfolding repeated
+repeated-none g e d h seen [] = refl
+repeated-none g e d h seen (x ∷ xs) =
+    ap₂ (λ (b : Bool) (r : Option _). pick b (some (g x)) r) (any-map g (e (g x)) (d x) (h x) seen) (repeated-none g e d h (x ∷ seen) xs)
+    ∙ pick-map (Option·map g) (any (d x) seen) (some x) (repeated d (x ∷ seen) xs)
+
+-- the tags of a module's equations, from position `at` on
+abbrev pub HasTags : (ℕ → ℕ → Name) → ℕ → ℕ → List Equation → Type 0
+HasTags tags home at [] = Unit {0}
+HasTags tags home at (r ∷ rs) = (tags home at ≡ r .tag) × HasTags tags home (at + 1) rs
+
+module _ (τ : Name → Name) (keeps : (v w : Name) → same (τ v) (τ w) ≡ same v w) (tags : ℕ → ℕ → Name) where
+  abbrev pub Twin : Normal → Normal → Type 0
+  Twin n n′ = Both τ keeps tags n n′
+
+  abbrev Leads : Normal → Outcome Normal → Type 0
+  Leads k o = Follows τ keeps tags k o
+
+  record EvaluatedAlike (e e′ : Evaluated) : Type 0 where
+    name : e .name ≡ e′ .name
+    both : Twin (e .normal) (e′ .normal)
+
+  abbrev EnvAlike : List Evaluated → List Evaluated → Type 0
+  EnvAlike env env′ = InTurn EvaluatedAlike env env′
+
+  empty-both : Twin empty empty
+  unfolding empty nothing-visible nothing-hidden
+  empty-both = record {
+    alike = record { visible = record { parameters = List·Permᴰ·nil; items = like-none _ }; hidden-items = like-none _; equations = like-none _ };
+    one = λ a b m. elim m [ ];
+    tagged = tt;
+  }
+
+  normal-of-alike : (env env′ : List Evaluated) → EnvAlike env env′ → (w : Name) → Twin (normal-of env w) (normal-of env′ w)
+  unfolding normal-of pick
+  normal-of-alike [] [] h w = empty-both
+  normal-of-alike [] (e′ ∷ es′) h w = absurd h
+  normal-of-alike (e ∷ es) [] h w = absurd h
+  normal-of-alike (e ∷ es) (e′ ∷ es′) h w =
+      subst (λ (x : Name). Twin (normal-of (e ∷ es) w) (pick (same w x) (e′ .normal) (normal-of es′ w))) (h .0 .name)
+      (go (same w (e .name)) (normal-of-alike es es′ (h .1) w))
+    where
+      go : (b : Bool) → Twin (normal-of es w) (normal-of es′ w) → Twin (pick b (e .normal) (normal-of es w)) (pick b (e′ .normal) (normal-of es′ w))
+      go true k = h .0 .both
+      go false k = k
+
+  -- ---- import expressions
+
+  abbrev pub EasyClause : Clause → Type 0
+  EasyClause (renamed-by rs) = Every (Easier τ keeps tags) rs
+  EasyClause (bound-by p rs m) = Unit {0}
+
+  abbrev pub EasyImport : Import → Type 0
+  EasyImport i = Every EasyClause (i .clauses)
+
+  module _ (env env′ : List Evaluated) (h : EnvAlike env env′) where
+    clause-alike : (c : Clause) → EasyClause c → {n n′ : Normal} → Twin n n′ → (k : Normal) → clause env c n ≡ fine k
+        → Leads k (clause env′ (re-clause τ c) n′)
+    unfolding clause re-clause
+    clause-alike (renamed-by rs) z b k e = rename-alike τ keeps tags b rs z k e
+    clause-alike (bound-by p rs m) z b k e = bind-alike τ keeps tags b (normal-of-alike env env′ h m) p rs k e
+
+    clauses-alike : (cs : List Clause) → Every EasyClause cs → {n n′ : Normal} → Twin n n′ → (k : Normal) → clauses env cs n ≡ fine k
+        → Leads k (clauses env′ (map (re-clause τ) cs) n′)
+    unfolding clauses _>>=_
+    clauses-alike [] z {n} {n′} b k e = (n′, refl, subst (λ (x : Normal). Twin x n′) (fine-same n k e) b)
+    clauses-alike (c ∷ cs) z {n} b k e =
+        let f = bind-fine (clause env c n) (λ j. clauses env cs j) k e in
+        let r = clause-alike c (z .0) b (f .0) (f .1) in
+        rw (r .1) (clauses-alike cs (z .1) (r .2) k (f .2))
+
+    expressions-alike : (is : List Import) → Every EasyImport is → (ns : List Normal) → expressions env is ≡ fine ns
+        → (ns′ : List Normal) × (expressions env′ (map (re-import τ) is) ≡ fine ns′) × InTurn Twin ns ns′
+    unfolding expressions _>>=_ re-import
+    expressions-alike [] z ns e = ([], refl, subst (λ (x : List Normal). InTurn Twin x []) (fine-same [] ns e) tt)
+    expressions-alike (i ∷ is) z ns e =
+        let f = bind-fine _ _ ns e in
+        let g = bind-fine (expressions env is) _ ns (f .2) in
+        let r = clauses-alike (i .clauses) (z .0) (normal-of-alike env env′ h (i .name)) (f .0) (f .1) in
+        let s = expressions-alike is (z .1) (g .0) (g .1) in
+        (r .0 ∷ s .0, rw (r .1, s .1) refl, subst (λ (x : List Normal). InTurn Twin x (r .0 ∷ s .0)) (fine-same (f .0 ∷ g .0) ns (g .2)) (r .2, s .2))
+
+    united-alike : (ns ns′ : List Normal) → InTurn Twin ns ns′ → {n n′ : Normal} → Twin n n′ → (k : Normal) → united n ns ≡ fine k
+        → Leads k (united n′ ns′)
+    unfolding united _>>=_
+    united-alike [] [] z {n} {n′} b k e = (n′, refl, subst (λ (x : Normal). Twin x n′) (fine-same n k e) b)
+    united-alike [] (x′ ∷ xs′) z b k e = absurd z
+    united-alike (x ∷ xs) [] z b k e = absurd z
+    united-alike (x ∷ xs) (x′ ∷ xs′) z {n} {n′} b k e =
+        let f = bind-fine (checked (unite n x)) (λ u. united u xs) k e in
+        let r =
+        checked-alike τ keeps tags (unite-alike τ keeps tags (b .alike) (z .0 .alike) (z .0 .tagged)) (unite-tagged τ keeps tags n x (b .tagged) (z .0 .tagged))
+        (f .0) (f .1) in
+        rw (r .1) (united-alike xs xs′ (z .1) (r .2) k (f .2))
+
+    imported-alike : (is : List Import) → Every EasyImport is → (k : Normal) → imported env is ≡ fine k → Leads k (imported env′ (map (re-import τ) is))
+    unfolding imported _>>=_
+    imported-alike is z k e =
+        let f = bind-fine (expressions env is) (λ ns. united empty ns) k e in
+        let r = expressions-alike is z (f .0) (f .1) in
+        rw (r .1) (united-alike (f .0) (r .0) (r .2) empty-both k (f .2))
+
+  -- ---- M's own
+
+  in-order-alike : {n n′ : Normal} → Alike τ keeps tags n n′ → Alike τ keeps tags (in-order n) (in-order n′)
+  in-order-alike {n} {n′} a =
+      let s = same-ordered n in
+      let t = same-ordered n′ in
+      record {
+        visible = record {
+          parameters = List·Permᴰ·trans (Permᴰ·symm (s .parameters)) (List·Permᴰ·trans (a .visible .parameters) (t .parameters));
+          items = again (re-item τ) (s .items) (a .visible .items) (t .items);
+        };
+        hidden-items = again (re-item τ) (s .hidden-items) (a .hidden-items) (t .hidden-items);
+        equations = again (re-equation τ) (s .equations) (a .equations) (t .equations);
+      }
+    where
+      again : {A B : Type 0} (g : A → B) {xs ys : List A} {us vs : List B} → Rearranged xs ys → Like g xs us → Rearranged us vs → Like g ys vs
+      again g p d q = record { arranged = List·Permᴰ·trans (Permᴰ·map g (Permᴰ·symm p)) (List·Permᴰ·trans (d .arranged) q) }
+
+  made-tagged : (home at : ℕ) (tag : Name) (o : Option _) (p : Option (List _)) (x : ResolvedEquation) → tags home at ≡ tag
+      → made-equation home at tag o p ≡ fine x → Tagged tags x
+  unfolding made-equation
+  made-tagged home at tag none p x q e = let z : _≡_ {A = ℕ} 0 1 = cc in absurd (omega arith)
+  made-tagged home at tag (some c) none x q e = let z : _≡_ {A = ℕ} 0 1 = cc in absurd (omega arith)
+  made-tagged home at tag (some c) (some ks) x q e = subst (Tagged tags) (fine-same _ x e) (record { tagged = q })
+
+  own-tagged : (known : List Item) (home at : ℕ) (es : List Equation) → HasTags tags home at es → (xs : List ResolvedEquation)
+      → typed-equations known home at es ≡ fine xs → Every (Tagged tags) xs
+  unfolding typed-equations
+  own-tagged known home at [] h xs e = subst (Every (Tagged tags)) (fine-same [] xs e) tt
+  own-tagged known home at (r ∷ rs) h xs e =
+      let a = bind-fine _ _ xs e in
+      let b = bind-fine (typed-equations known home (at + 1) rs) _ xs (a .2) in
+      subst (Every (Tagged tags)) (fine-same (a .0 ∷ b .0) xs (b .2))
+      (made-tagged home at (r .tag) _ _ (a .0) (h .0) (a .1), own-tagged known home (at + 1) rs (h .1) (b .0) (b .1))
+
+  module _ {n n′ : Normal} (b : Twin n n′) (m : Module) where
+    abbrev m′ : Module
+    m′ = re-module τ m
+
+    abbrev seen : List Name
+    seen = seen-sorts m (n .visible)
+
+    abbrev seen′ : List Name
+    seen′ = seen-sorts m′ (n′ .visible)
+
+    own-sorts-kept : each (λ (p : Parameter). p .signature .sorts) (m′ .parameters) ++ m′ .exports .sorts
+        ≡ map τ (each (λ (p : Parameter). p .signature .sorts) (m .parameters) ++ m .exports .sorts)
+    unfolding re-module re-parameter re-signature
+    own-sorts-kept =
+        ap (λ (r : List Name). r ++ map τ (m .exports .sorts))
+        (each-map (re-parameter τ) τ (λ (p : Parameter). p .signature .sorts) (λ (p : Parameter). p .signature .sorts) (λ p. refl) (m .parameters))
+        ∙ sym (map-append τ (each (λ (p : Parameter). p .signature .sorts) (m .parameters)) (m .exports .sorts))
+
+    seen-same : (s : Name) → member (τ s) seen′ ≡ member s seen
+    unfolding seen-sorts
+    seen-same s =
+        let own = each (λ (p : Parameter). p .signature .sorts) (m .parameters) ++ m .exports .sorts in
+        member-append (τ s) (sort-names (n′ .visible)) (each (λ (p : Parameter). p .signature .sorts) (m′ .parameters) ++ m′ .exports .sorts)
+        ∙ ap₂ (λ (x y : Bool). x || y) (member-alike τ keeps tags s (sort-names-alike τ keeps tags (b .alike .visible)))
+        (ap (member (τ s)) own-sorts-kept ∙ member-kept τ keeps s own)
+        ∙ sym (member-append s (sort-names (n .visible)) own)
+
+    abbrev v : Visible
+    v = joined-visible m (n .visible)
+
+    abbrev v′ : Visible
+    v′ = joined-visible m′ (n′ .visible)
+
+    abbrev own : List Item
+    own = own-hidden-items m seen
+
+    own-same : own-hidden-items m′ seen′ ≡ map (re-item τ) own
+    own-same = own-hidden-kept τ keeps tags m seen seen′ seen-same
+
+    visible-alike : AlikeVisible τ keeps tags v v′
+    unfolding joined-visible
+    visible-alike = unite-visible-alike τ keeps tags (b .alike .visible) (own-visible-alike τ keeps tags m seen seen′ seen-same)
+
+    known-alike : Like (re-item τ) (v .items ++ own) (v′ .items ++ map (re-item τ) own)
+    known-alike =
+        like (re-item τ) (v .items ++ own) (sym (map-append (re-item τ) (v .items) own))
+        (Permᴰ·append-right (map (re-item τ) own) (visible-alike .items .arranged))
+
+    own-checks-alike : own-checks m seen v ≡ fine tt → own-checks m′ seen′ v′ ≡ fine tt
+    unfolding own-checks _>>_ unless
+    own-checks-alike e =
+        let c = then-fine _ _ tt e in
+        let a = then-fine _ _ tt (c .1) in
+        rw (
+          own-same,
+          consistent-alike τ keeps tags visible-alike own (c .0),
+          available-kept τ keeps tags m seen seen′ seen-same (a .0),
+          variables-kept τ keeps tags m,
+          variables-right τ keeps tags (constants (v .items ++ own)) (constants (v′ .items ++ map (re-item τ) own))
+              (λ w. member-alike τ keeps tags w (constants-alike τ keeps tags known-alike)) [] (variables-of m) (unless-fine _ _ (a .1)),
+        )
+
+    abbrev whole : List ResolvedEquation → Normal
+    whole es = record { visible = v; hidden = joined-hidden m seen (n .hidden) es }
+
+    abbrev whole′ : List ResolvedEquation → Normal
+    whole′ es = record { visible = v′; hidden = joined-hidden m′ seen′ (n′ .hidden) es }
+
+    whole-alike : (es : List ResolvedEquation) → Every (Tagged tags) es → Alike τ keeps tags (whole es) (whole′ (map (re-equation τ) es))
+    unfolding joined-hidden unite-hidden
+    whole-alike es t = record {
+      visible = visible-alike;
+      hidden-items = items-union-alike τ keeps tags (b .alike .hidden-items) (like (re-item τ) own own-same (Permᴰ·refl _));
+      equations = equations-union-alike τ keeps tags (b .alike .equations) (like (re-equation τ) es refl (Permᴰ·refl _)) t;
+    }
+
+    whole-tagged : (es : List ResolvedEquation) → Every (Tagged tags) es → Every (Tagged tags) (whole es .hidden .equations)
+    unfolding joined-hidden unite-hidden
+    whole-tagged es t = every-union (Tagged tags) one-equation (n .hidden .equations) es (b .tagged) t
+
+    own-equations-alike : (home : ℕ) (es : List ResolvedEquation) → consistent v own ≡ fine tt → Every SoundVisible (v .items)
+        → own-equations home m seen v ≡ fine es → own-equations home m′ seen′ v′ ≡ fine (map (re-equation τ) es)
+    unfolding own-equations re-module
+    own-equations-alike home es c sound e =
+        rw own-same
+        (equations-kept τ keeps tags (v .items ++ own) (v′ .items ++ map (re-item τ) own) (finds-alike τ keeps tags visible-alike own c sound) home 0 (m .equations) es e)
+
+    own-equations-tagged : (home : ℕ) → HasTags tags home 0 (m .equations) → (es : List ResolvedEquation) → own-equations home m seen v ≡ fine es
+        → Every (Tagged tags) es
+    unfolding own-equations
+    own-equations-tagged home h es e = own-tagged (v .items ++ own) home 0 (m .equations) h es e
+
+    consistent-first : own-checks m seen v ≡ fine tt → consistent v own ≡ fine tt
+    unfolding own-checks
+    consistent-first e = then-fine _ _ tt e .0
+
+    pub joined-own-alike : (home : ℕ) (total : Size) → HasTags tags home 0 (m .equations) → (k : Normal) → joined-own home total m n ≡ fine k
+        → Every SoundVisible (k .visible .items) → Leads k (joined-own home total m′ n′)
+    unfolding joined-own _>>=_ _>>_
+    joined-own-alike home total h k e sound =
+        let c = then-fine (own-checks m seen v) _ k e in
+        let f = bind-fine (own-equations home m seen v) _ k (c .1) in
+        let es = f .0 in
+        let r = then-fine (room (whole es)) _ k (f .2) in
+        let t = then-fine (total-room (add-sizes total (size (whole es)))) _ k (r .1) in
+        let q : in-order (whole es) ≡ k = fine-same (in-order (whole es)) k (t .1) in
+        let clear = consistent-first (c .0) in
+        let tagged = own-equations-tagged home h es (f .1) in
+        let a = whole-alike es tagged in
+        let s = same-ordered (whole es) in
+        let seen-sound =
+        rearranged-every SoundVisible (Permᴰ·symm (s .items)) (subst (λ (x : Normal). Every SoundVisible (x .visible .items)) (sym q) sound) in (
+          in-order (whole′ (map (re-equation τ) es)),
+          rw (own-checks-alike (c .0), own-equations-alike home es clear seen-sound (f .1), room-alike τ keeps tags a, r .0, size-alike τ keeps tags a, t .0) refl,
+          subst (λ (x : Normal). Twin x (in-order (whole′ (map (re-equation τ) es)))) q (record {
+            alike = in-order-alike a;
+            one = λ x y m k. consistent-one v own clear x y (rearranged-member (Permᴰ·symm (s .items)) m) (rearranged-member (Permᴰ·symm (s .items)) k);
+            tagged = rearranged-every (Tagged tags) (s .equations) (whole-tagged es tagged);
+          }),
+        )
+
+  -- ---- one module
+
+  name-kept : (m : Module) → re-module τ m .name ≡ m .name
+  unfolding re-module
+  name-kept m = refl
+
+  imports-kept : (m : Module) → re-module τ m .imports ≡ map (re-import τ) (m .imports)
+  unfolding re-module
+  imports-kept m = refl
+
+  each-same : {A B C : Type 0} (g : A → B) (f : B → List C) (f′ : A → List C) → ((x : A) → f (g x) ≡ f′ x) → (xs : List A)
+      → each f (map g xs) ≡ each f′ xs
+  unfolding each
+  each-same g f f′ h [] = refl
+  each-same g f f′ h (x ∷ xs) = ap₂ (λ (u v : List _). u ++ v) (h x) (each-same g f f′ h xs)
+
+  clause-names-kept : (c : Clause) → clause-names (re-clause τ c) ≡ clause-names c
+  unfolding clause-names re-clause
+  clause-names-kept (renamed-by rs) = refl
+  clause-names-kept (bound-by p rs m) = refl
+
+  named-by-kept : (m : Module) → named-by (re-module τ m) ≡ named-by m
+  unfolding named-by import-names re-module re-import
+  named-by-kept m =
+      each-same (re-import τ) import-names import-names
+      (λ i. ap (λ (r : List Name). i .name ∷ r) (each-same (re-clause τ) clause-names clause-names clause-names-kept (i .clauses))) (m .imports)
+
+  same-function-kept : (f g : Function) → same-function (re-function τ f) (re-function τ g) ≡ same-function f g
+  unfolding same-function re-function
+  same-function-kept f g =
+      rw (keeps (f .name) (g .name), agree-map τ same same keeps (f .inputs) (g .inputs), keeps (f .output) (g .output))
+
+  no-function : (o : Option Function) → name-of-function o ≡ none → o ≡ none
+  unfolding name-of-function
+  no-function none e = refl
+  no-function (some f) e = let z : _≡_ {A = ℕ} 0 1 = cc in absurd (omega arith)
+
+  once-in-kept : (s : Signature) → once-in s ≡ fine tt → once-in (re-signature τ s) ≡ fine tt
+  unfolding once-in re-signature _>>_ unless name-of-function
+  once-in-kept s e =
+      let a =
+      then-fine (unless declared-twice (repeated same [] (s .sorts)))
+      (unless declared-twice (name-of-function (repeated same-function [] (s .functions)))) tt e in
+      let sorts : repeated same [] (map τ (s .sorts)) ≡ none =
+      repeated-none τ same same keeps [] (s .sorts) ∙ ap (Option·map τ) (unless-fine declared-twice (repeated same [] (s .sorts)) (a .0)) in
+      let functions : repeated same-function [] (map (re-function τ) (s .functions)) ≡ none =
+      repeated-none (re-function τ) same-function same-function same-function-kept [] (s .functions)
+      ∙ ap (Option·map (re-function τ)) (no-function (repeated same-function [] (s .functions))
+      (unless-fine declared-twice (name-of-function (repeated same-function [] (s .functions))) (a .1))) in
+      rw (sorts, functions)
+
+  once-in-parameters-kept : (seen : List Name) (ps : List Parameter) → once-in-parameters seen ps ≡ fine tt
+      → once-in-parameters seen (map (re-parameter τ) ps) ≡ fine tt
+  unfolding once-in-parameters re-parameter _>>_ pick
+  once-in-parameters-kept seen [] e = refl
+  once-in-parameters-kept seen (p ∷ ps) e = go (member (p .name) seen) e (once-in-parameters-kept (p .name ∷ seen) ps)
+    where
+      go : (b : Bool) → pick b (stop declared-twice (p .name)) (once-in (p .signature) >> once-in-parameters (p .name ∷ seen) ps) ≡ fine tt
+          → (once-in-parameters (p .name ∷ seen) ps ≡ fine tt → once-in-parameters (p .name ∷ seen) (map (re-parameter τ) ps) ≡ fine tt)
+          → pick b (stop declared-twice (p .name)) (once-in (re-signature τ (p .signature)) >> once-in-parameters (p .name ∷ seen) (map (re-parameter τ) ps)) ≡ fine tt
+      go true q i = let z : _≡_ {A = ℕ} 0 1 = cc in absurd (omega arith)
+      go false q i =
+          let a = then-fine (once-in (p .signature)) _ tt q in
+          rw (once-in-kept (p .signature) (a .0)) (i (a .1))
+
+  declared-once-kept : (m : Module) → declared-once m ≡ fine tt → declared-once (re-module τ m) ≡ fine tt
+  unfolding declared-once re-module _>>_
+  declared-once-kept m e =
+      let a = then-fine _ _ tt e in
+      let b = then-fine _ _ tt (a .1) in
+      rw (once-in-parameters-kept [] (m .parameters) (a .0), once-in-kept (m .exports) (b .0)) (once-in-kept (m .hidden) (b .1))
+
+  abbrev pub EasyModule : Module → Type 0
+  EasyModule m = Every EasyImport (m .imports)
+
+  evaluates-so : (declared earlier : List Name) (home : ℕ) (total : Size) (env : List Evaluated) (m : Module) (j k : Normal)
+      → names-right declared earlier (named-by m) ≡ fine tt → declared-once m ≡ fine tt
+      → imported env (m .imports) ≡ fine j → joined-own home total m j ≡ fine k → evaluate declared earlier home total env m ≡ fine k
+  unfolding evaluate _>>=_ _>>_
+  evaluates-so declared earlier home total env m j k a b c d = rw (a, b, c) d
+
+  evaluate-alike : (declared earlier : List Name) (home : ℕ) (total : Size) (env env′ : List Evaluated) → EnvAlike env env′ → (m : Module)
+      → EasyModule m → HasTags tags home 0 (m .equations) → (k : Normal) → evaluate declared earlier home total env m ≡ fine k
+      → Every SoundVisible (k .visible .items) → Leads k (evaluate declared earlier home total env′ (re-module τ m))
+  unfolding evaluate
+  evaluate-alike declared earlier home total env env′ h m easy t k e sound =
+      let a = then-fine (names-right declared earlier (named-by m)) _ k e in
+      let c = then-fine (declared-once m) _ k (a .1) in
+      let f = bind-fine (imported env (m .imports)) _ k (c .1) in
+      let r = imported-alike env env′ h (m .imports) easy (f .0) (f .1) in
+      let s = joined-own-alike (r .2) m home total t k (f .2) sound in (
+        s .0,
+        evaluates-so declared earlier home total env′ (re-module τ m) (r .0) (s .0) (ap (names-right declared earlier) (named-by-kept m) ∙ a .0)
+            (declared-once-kept m (c .0)) (ap (imported env′) (imports-kept m) ∙ r .1) (s .1),
+        s .2,
+      )
+
+  -- ---- all modules in turn
+
+  unfoldable pub re-placed : Placed → Placed
+  re-placed x = record { self = re-module τ (x .self); number = x .number; earlier = x .earlier }
+
+  module-names-kept : (ms : List Module) → module-names (map (re-module τ) ms) ≡ module-names ms
+  unfolding module-names re-module
+  module-names-kept ms = map-map (re-module τ) (λ (m : Module). m .name) ms
+
+  wanted-kept : (asked : Name) (ms : List Module) → wanted asked (map (re-module τ) ms) ≡ wanted asked ms
+  unfolding wanted
+  wanted-kept asked [] = refl
+  wanted-kept asked (m ∷ ms) =
+      let later = wanted-kept asked ms in
+      λ i. pick (member (name-kept m i) (later i)) (named-by-kept m i ++ later i) (later i)
+
+  reached-kept : (asked : Name) (k : ℕ) (earlier : List Name) (ms : List Module)
+      → reached-among asked k earlier (map (re-module τ) ms) ≡ map re-placed (reached-among asked k earlier ms)
+  unfolding reached-among re-placed
+  reached-kept asked k earlier [] = refl
+  reached-kept asked k earlier (m ∷ ms) =
+      (λ i. pick (member (name-kept m i) (wanted-kept asked ms i))
+      (record { self = re-module τ m; number = k; earlier = earlier } ∷ reached-among asked (k + 1) (name-kept m i ∷ earlier) (map (re-module τ) ms))
+      (reached-among asked (k + 1) (name-kept m i ∷ earlier) (map (re-module τ) ms)))
+      ∙ (λ i. pick (member (m .name) (wanted asked ms))
+      (record { self = re-module τ m; number = k; earlier = earlier } ∷ reached-kept asked (k + 1) (m .name ∷ earlier) ms i)
+      (reached-kept asked (k + 1) (m .name ∷ earlier) ms i))
+      ∙ pick-map (map re-placed) (member (m .name) (wanted asked ms))
+      (record { self = m; number = k; earlier = earlier } ∷ reached-among asked (k + 1) (m .name ∷ earlier) ms)
+      (reached-among asked (k + 1) (m .name ∷ earlier) ms)
+
+  totals-kept : (env env′ : List Evaluated) → EnvAlike env env′ → total-of env′ ≡ total-of env
+  unfolding total-of
+  totals-kept [] [] h = refl
+  totals-kept [] (e′ ∷ es′) h = absurd h
+  totals-kept (e ∷ es) [] h = absurd h
+  totals-kept (e ∷ es) (e′ ∷ es′) h = ap₂ add-sizes (size-alike τ keeps tags (h .0 .both .alike)) (totals-kept es es′ (h .1))
+
+  counts-kept : (env env′ : List Evaluated) → EnvAlike env env′ → length env′ ≡ length env
+  counts-kept [] [] h = refl
+  counts-kept [] (e′ ∷ es′) h = absurd h
+  counts-kept (e ∷ es) [] h = absurd h
+  counts-kept (e ∷ es) (e′ ∷ es′) h = ap suc (counts-kept es es′ (h .1))
+
+  pub record GoodPlaced (x : Placed) : Type 0 where
+    pub plain : PlainModule (x .self)
+    pub easy : EasyModule (x .self)
+    pub has-tags : HasTags tags (x .number) 0 (x .self .equations)
+
+  abbrev pub EndsAlike : ℕ → Normal → Ended → Type 0
+  EndsAlike count n r = (n′ : Normal) × (r ≡ normalised count n′) × Twin n n′
+
+  in-turn-alike : (declared : List Name) (env env′ : List Evaluated) → EnvAlike env env′ → WholeEnv env → (last last′ : Normal) → Twin last last′
+      → (xs : List Placed) → Every GoodPlaced xs → (count : ℕ) (n : Normal) → in-turn declared env last xs ≡ normalised count n
+      → EndsAlike count n (in-turn declared env′ last′ (map re-placed xs))
+  unfolding in-turn end-or re-placed
+  in-turn-alike declared env env′ h w last last′ b [] g count n e =
+      (last′, ap (λ (c : ℕ). normalised c last′) (counts-kept env env′ h ∙ counts-same e), subst (λ (x : Normal). Twin x last′) (last-same e) b)
+    where
+      counts-same : normalised (length env) last ≡ normalised count n → length env ≡ count
+      counts-same e = cc
+
+      last-same : normalised (length env) last ≡ normalised count n → last ≡ n
+      last-same e = cc
+  in-turn-alike declared env env′ h w last last′ b (x ∷ xs) g count n e =
+      go (evaluate declared (x .earlier) (x .number) (total-of env) env (x .self)) refl e
+      (evaluated-accepted declared (x .earlier) (x .number) (total-of env) env (x .self) (g .0 .plain) w)
+      (λ k k′ t a. in-turn-alike declared _ _
+      (record { name = sym (name-kept (x .self)); both = t }, h) (a .whole, w) k k′ t xs (g .1) count n)
+    where
+      more : Normal → Ended
+      more k = in-turn declared (record { name = x .self .name; normal = k } ∷ env) k xs
+
+      more′ : Normal → Ended
+      more′ k =
+          in-turn declared (record { name = re-module τ (x .self) .name; normal = k } ∷ env′) k (map re-placed xs)
+
+      go : (o : Outcome Normal) → evaluate declared (x .earlier) (x .number) (total-of env) env (x .self) ≡ o
+          → end-or (length env + 1) (x .self .name) more o ≡ normalised count n → Gives Accepted o
+          → ((k k′ : Normal) → Twin k k′ → Accepted k → more k ≡ normalised count n → EndsAlike count n (more′ k′))
+          → EndsAlike count n
+          (end-or (length env′ + 1) (re-module τ (x .self) .name) more′
+          (evaluate declared (x .earlier) (x .number) (total-of env′) env′ (re-module τ (x .self))))
+      go (stop k v) q e a i = let z : _≡_ {A = ℕ} 0 1 = cc in absurd (omega arith)
+      go (fine k) q e a i =
+          let r =
+          evaluate-alike declared (x .earlier) (x .number) (total-of env) env env′ h (x .self) (g .0 .easy) (g .0 .has-tags) k q
+          (a .whole .sound .visible) in
+          rw (totals-kept env env′ h, r .1) (i k (r .0) (r .2) a e)
+
+  pub normalise-alike : (asked : Name) (ms : List Module) → Every GoodPlaced (reached asked ms) → (count : ℕ) (n : Normal)
+      → normalise asked ms ≡ normalised count n → EndsAlike count n (normalise asked (map (re-module τ) ms))
+  unfolding normalise reached pick
+  normalise-alike asked ms g count n e =
+      rw (module-names-kept ms, reached-kept asked 0 [] ms)
+      (go (member asked (module-names ms)) e)
+    where
+      go : (b : Bool) → pick b (in-turn (module-names ms) [] empty (reached asked ms)) (refused-at asked-absent 0 asked (short-or-blank asked)) ≡ normalised count n
+          → EndsAlike count n
+          (pick b (in-turn (module-names ms) [] empty (map re-placed (reached-among asked 0 [] ms))) (refused-at asked-absent 0 asked (short-or-blank asked)))
+      go true q = in-turn-alike (module-names ms) [] [] tt tt empty empty empty-both (reached-among asked 0 [] ms) g count n q
+      go false q = let z : _≡_ {A = ℕ} 0 1 = cc in absurd (omega arith)

@@ -1,0 +1,1 @@
+// Theorems alone: an operator may be replaced by a fresh plain function. This crate has no function.
