@@ -6,13 +6,13 @@ use borrow.Author.Needs.{needs}
 use Rattle.entries.specs.declared.Reading.{Reading}
 use Rattle.entries.specs.declared.Reading.the-variants.{Done, Refused}
 use Rattle.entries.specs.Model.{Out, Writer, onward, with-word}
-use Rattle.entries.specs.Steps.{next-word}
+use Rattle.entries.specs.Steps.{next-in}
 use Rattle.entries.proofs.Laws.{laws}
 use Rattle.entries.proofs.Cases.{this-quiet}
 
 -- a rule that remembers the word of the name that is next
-pub remembers : (r : Reading) (t : List ℕ) (o : Out) (w : ℕ) (f : ℕ → Writer) → w ≡ next-word r → o ≡ onward r t (f w) → o ≡ onward r t (with-word f)
-unfolding onward next-word with-word
+pub remembers : (r : Reading) (t : List ℕ) (o : Out) (w : ℕ) (f : ℕ → Writer) → w ≡ next-in 0 r → o ≡ onward r t (f w) → o ≡ onward r t (with-word f)
+unfolding onward next-in with-word
 remembers (Refused k p) t o w f e h = h
 remembers (Done p) t o w f e h = rw e at h
 

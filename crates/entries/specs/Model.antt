@@ -4,18 +4,18 @@ use Prim.Native.Nat.{ℕ, zero, suc, _+_, _-_, _*_, _/_, _%_}
 use mathlib.Core.Bool.{Bool, false}
 use mathlib.Core.List.{List}
 use lib.Dec.{eqb, leb, ltb}
-use lib.ListN.{length, set, take, replicate}
+use lib.ListN.{length, getD, set, take, replicate}
 use Rattle.types.specs.declared.Token.{Token}
 use Rattle.meaning.specs.Lists.{pick, any}
 use Rattle.meaning.specs.Names.{byte, Name, same, member}
 use Rattle.meaning.specs.Numbers.{text-size, name-size, import-limit, binding-limit, pair-limit, argument-limit, condition-limit, bracket-limit, node-limit, no-token-there, not-allowed, other-end, over-size, module-twice}
-use Rattle.meaning.specs.Tokens.{end-of-text, arrow, implies, no-token, begin-key, bound-key, by-key, end-key, equations-key, exports-key, functions-key, imports-key, module-key, parameters-key, renamed-key, sorts-key, to-key, variables-key, when-key, token-at}
-use Rattle.meaning.specs.Grammar.{is, is-name, begins-term}
-use Rattle.names.specs.Word.{name-of}
+use Rattle.meaning.specs.Tokens.{end-of-text, arrow, implies, no-token, operator, begin-key, bound-key, by-key, end-key, equations-key, exports-key, functions-key, imports-key, module-key, parameters-key, renamed-key, sorts-key, to-key, variables-key, when-key, token-at}
+use Rattle.meaning.specs.Grammar.{is, is-name, begins-function, begins-term}
+use Rattle.names.specs.Word.{plain-form, prefix-form, infix-form, name-of}
 use Rattle.entries.specs.declared.Place.{Place}
 use Rattle.entries.specs.declared.Reading.{Reading}
 use Rattle.entries.specs.declared.Reading.the-variants.{Done, Refused}
-use Rattle.tape.specs.Tape.{module-role, parameter-role, parameter-sort, parameter-function, export-sort, export-function, hidden-sort, hidden-function, input-role, output-role, import-role, renamed-role, bound-role, old-role, new-role, actual-role, variable-role, variable-sort, tag-role, alone-role, head-role, close-role, condition-role, conclusion-role}
+use Rattle.tape.specs.Tape.{module-role, parameter-role, parameter-sort, parameter-function, export-sort, export-function, hidden-sort, hidden-function, input-role, output-role, import-role, renamed-role, bound-role, old-role, new-role, actual-role, variable-role, variable-sort, tag-role, alone-role, head-role, close-role, condition-role, conclusion-role, prefix-role, infix-role}
 
 -- the answer, and the tape as it is then
 pub record Out : Type 0 where
@@ -62,17 +62,41 @@ too-many begins = if-next begins (refuse over-size) unexpected
 
 -- ---- entries
 
--- a name's word: its place and its size
-unfoldable pub word : Token → ℕ
-word t = t .start % 65536 * 64 + (t .end - t .start) % 64
+-- the word of a name in a form: its token's place and size
+unfoldable pub word-in : ℕ → Token → ℕ
+word-in form t = t .start % 65536 * 256 + form * 64 + (t .end - t .start) % 64
+
+-- of a plain name
+abbrev pub word : Token → ℕ
+word t = word-in plain-form t
 
 -- the tape with a word more, where there is room
 unfoldable pub written : ℕ → Writer
 written w = λ p t. pick (ltb (p .entries) (length t)) (out (Done (place (p .token) (p .nodes) (p .entries + 1))) (set t (p .entries) w)) (out (Done p) t)
 
+-- a name's word with a role, behind what is written
+abbrev pub as-entry : ℕ → ℕ → Writer
+as-entry role = λ w. written (w * 32 + role)
+
+-- the tape with the word w at i, and the n - 1 words from there on moved up by one
+unfoldable pub pushed : ℕ → ℕ → ℕ → List ℕ → List ℕ
+pushed zero i w t = t
+pushed (suc n) i w t = pushed n (suc i) (getD t i 0) (set t i w)
+
+-- the tape with a word more before those from `start` on, where there is room
+unfoldable pub inserted : ℕ → ℕ → Writer
+inserted start w =
+    λ p t. pick (ltb (p .entries) (length t))
+    (out (Done (place (p .token) (p .nodes) (p .entries + 1))) (pushed (p .entries + 1 - start) start w t))
+    (out (Done p) t)
+
 -- an entry without a name
 unfoldable pub mark : ℕ → Writer
 mark role = written role
+
+-- a rule that needs to know how many entries there are
+unfoldable pub with-entries : (ℕ → Writer) → Writer
+with-entries f = λ p t. f (p .entries) p t
 
 -- a rule that needs the word of the name that is next
 unfoldable pub with-word : (ℕ → Writer) → Writer
@@ -94,6 +118,10 @@ by-next = if-next (is (byte ",")) (mark condition-role) (if-next (is implies) (m
 unfoldable pub no-nodes : Writer
 no-nodes = λ p t. out (Done (place (p .token) 0 (p .entries))) t
 
+-- a name or an operator in a term, which is one node of the equation
+unfoldable pub counted : Writer → Writer
+counted f = λ p t. let yes = f (place (p .token) (suc (p .nodes)) (p .entries)) t in pick (leb node-limit (p .nodes)) (refuse over-size p t) yes
+
 -- a refusal leaves zeros
 unfoldable pub wiped : Reading → List ℕ → Out
 wiped (Done p) t = out (Done p) t
@@ -109,16 +137,18 @@ module _ (text : List ℕ) where
   unfoldable pub expect : ℕ → Writer
   expect k = if-next (is k) step unexpected
 
-  -- the name that is next, written with a role and passed over
-  unfoldable pub named : ℕ → Writer
-  named role = with-word (λ w. written (w * 32 + role)) >> step
-
-  -- a name, of bounded size
-  unfoldable pub short-name : ℕ → Writer
-  short-name role = λ p t. let yes = named role p t in pick (leb (p .token .end - p .token .start) name-size) yes (refuse over-size p t)
+  -- the token that is next, of bounded size, written and passed over; f writes it, given its word in a form
+  unfoldable pub short-name : ℕ → (ℕ → Writer) → Writer
+  short-name form f =
+      λ p t. let yes = (f (word-in form (p .token)) >> step) p t in
+      pick (leb (p .token .end - p .token .start) name-size) yes (refuse over-size p t)
 
   unfoldable pub name : ℕ → Writer
-  name role = if-next is-name (short-name role) unexpected
+  name role = if-next is-name (short-name plain-form (as-entry role)) unexpected
+
+  -- an operator without its underlines
+  unfoldable pub bare-operator : ℕ → (ℕ → Writer) → Writer
+  bare-operator form f = if-next (is operator) (short-name form f) unexpected
 
   -- is the token the name of that word?
   unfoldable pub is-word-of : ℕ → Token → Bool
@@ -166,18 +196,42 @@ module _ (text : List ℕ) where
   unfoldable pub input-type : Writer
   input-type = if-next (is arrow) stay (names argument-limit (byte "#") input-role)
 
-  unfoldable pub function : ℕ → Writer
-  function role = do
-    name role
+  unfoldable pub prefix-operator : ℕ → Writer
+  prefix-operator role = do
+    bare-operator prefix-form (as-entry role)
+    expect (byte "_")
+
+  unfoldable pub infix-operator : ℕ → Writer
+  infix-operator role = do
+    expect (byte "_")
+    bare-operator infix-form (as-entry role)
+    expect (byte "_")
+
+  unfoldable pub one-input : Writer
+  one-input = name input-role
+
+  unfoldable pub two-inputs : Writer
+  two-inputs = do
+    name input-role
+    expect (byte "#")
+    name input-role
+
+  unfoldable pub function-by : Writer → Writer
+  function-by inputs = do
     expect (byte ":")
-    input-type
+    inputs
     expect arrow
     name output-role
+
+  unfoldable pub function : ℕ → Writer
+  function role =
+      if-next (is operator) (prefix-operator role >> function-by one-input)
+      (if-next (is (byte "_")) (infix-operator role >> function-by two-inputs) (name role >> function-by input-type))
 
   unfoldable pub signature : ℕ → ℕ → Writer
   signature sort-role function-role = do
     optional sorts-key (names text-size (byte ",") sort-role)
-    optional functions-key (some-of text-size is-name (function function-role))
+    optional functions-key (some-of text-size begins-function (function function-role))
 
   -- a signature between `begin` and `end`
   unfoldable pub enclosed : ℕ → ℕ → Writer
@@ -202,16 +256,19 @@ module _ (text : List ℕ) where
 
   -- ---- imports
 
+  unfoldable pub function-name : ℕ → Writer
+  function-name role = if-next (is operator) (prefix-operator role) (if-next (is (byte "_")) (infix-operator role) (name role))
+
   unfoldable pub pair : Writer
   pair = do
-    name old-role
+    function-name old-role
     expect arrow
-    name new-role
+    function-name new-role
 
   unfoldable pub pairs : Writer
   pairs = do
     expect (byte "[")
-    separated pair-limit (byte ",") is-name pair
+    separated pair-limit (byte ",") begins-function pair
     expect (byte "]")
 
   unfoldable pub renamed : Writer
@@ -275,22 +332,43 @@ module _ (text : List ℕ) where
   unfoldable pub node-role : Token → ℕ
   node-role t = pick (eqb (token-at text (t .end) .kind) (byte "(")) head-role alone-role
 
-  -- a name in a term, which is one node of the equation
-  unfoldable pub counted-name : Writer
-  counted-name =
-      λ p t. let yes = name (node-role (p .token)) (place (p .token) (suc (p .nodes)) (p .entries)) t in
-      pick (leb node-limit (p .nodes)) (refuse over-size p t) yes
-
   unfoldable pub term-name : Writer
-  term-name = if-next is-name counted-name unexpected
+  term-name = if-next is-name (λ p t. counted (name (node-role (p .token))) p t) unexpected
 
-  -- a term, given how to read what begins at an open bracket: the arguments of a name, or a bracketed term
-  unfoldable pub term-by : Writer → Writer → Writer
-  term-by arguments inner =
+  unfoldable pub term-operator : ℕ → (ℕ → Writer) → Writer
+  term-operator form f = if-next (is operator) (counted (bare-operator form f)) unexpected
+
+  -- a primary, given how to read what begins at an open bracket: the arguments of a name, or a bracketed term
+  unfoldable pub primary-by : Writer → Writer → Writer
+  primary-by arguments inner =
       if-next (is (byte "(")) inner
       (do
         term-name
         if-next (is (byte "(")) arguments stay)
+
+  -- a prefix operator's own entry, if one stands there
+  unfoldable pub prefixed : Writer
+  prefixed = if-next (is operator) (term-operator prefix-form (as-entry prefix-role)) stay
+
+  -- an infix operator's, before what it joins to what follows: the entries from `start` on
+  unfoldable pub joins : ℕ → Writer
+  joins start = term-operator infix-form (λ w. inserted start (w * 32 + infix-role))
+
+  unfoldable pub operand : ℕ → Writer → Writer
+  operand start primary = do
+    joins start
+    primary
+
+  unfoldable pub operands : ℕ → Writer → Writer
+  operands start primary = many node-limit (is operator) (operand start primary)
+
+  unfoldable pub term-by : Writer → Writer
+  term-by primary =
+      with-entries
+      (λ start. do
+        prefixed
+        primary
+        operands start primary)
 
   unfoldable pub in-brackets : Writer → Writer
   in-brackets f = do
@@ -298,10 +376,15 @@ module _ (text : List ℕ) where
     f
     expect (byte ")")
 
-  -- terms hold term lists and term lists hold terms: a term in which d more brackets may be open
+  -- terms hold term lists and term lists hold terms: a primary in which d more brackets may be open, and such a term
+  unfoldable pub primary : ℕ → Writer
+  primary zero = primary-by (refuse over-size) (refuse over-size)
+  primary (suc d) =
+      primary-by (in-brackets (separated argument-limit (byte ",") begins-term (term-by (primary d))) >> mark close-role)
+      (in-brackets (term-by (primary d)))
+
   unfoldable pub term : ℕ → Writer
-  term zero = term-by (refuse over-size) (refuse over-size)
-  term (suc d) = term-by (in-brackets (separated argument-limit (byte ",") begins-term (term d)) >> mark close-role) (in-brackets (term d))
+  term d = term-by (primary d)
 
   -- two terms, and what they are
   unfoldable pub sides : Writer → Writer
@@ -397,5 +480,5 @@ module _ (text : List ℕ) where
 
 -- opens every definition of this file
 unfoldable pub model-opened : Unit {0}
-unfolding onward _>>_ stay refuse unexpected if-next too-many word written mark with-word declares taken step expect named short-name name is-word-of that-name this-name separated many some-of optional names input-type function signature enclosed parameter parameters exports pair pairs renamed bound perhaps-renamed modifier modified import-expression imports variable-group variables node-role counted-name term-name term-by in-brackets term sides by-next implied conditional equation-after no-nodes equation equations fresh-name front back module-named a-module modules wiped read
+unfolding onward _>>_ stay refuse unexpected if-next too-many word-in written pushed inserted mark with-entries with-word declares taken by-next no-nodes counted wiped step expect short-name name bare-operator is-word-of that-name this-name separated many some-of optional names input-type prefix-operator infix-operator one-input two-inputs function-by function signature enclosed parameter parameters exports function-name pair pairs renamed bound perhaps-renamed modifier modified import-expression imports variable-group variables node-role term-name term-operator primary-by prefixed joins operand operands term-by in-brackets primary term sides implied conditional equation-after equation equations fresh-name front back module-named a-module modules read
 model-opened = tt

@@ -8,7 +8,8 @@ use Rattle.meaning.specs.Numbers.{name-size, module-twice}
 use Rattle.entries.specs.declared.Place.{Place}
 use Rattle.entries.specs.declared.Reading.{Reading}
 use Rattle.entries.specs.declared.Reading.the-variants.{Done, Refused}
-use Rattle.entries.specs.Model.{Writer, out, onward, refuse, word, is-word-of}
+use Rattle.entries.specs.Model.{Writer, out, onward, refuse, word-in, is-word-of, node-role}
+use Rattle.tape.specs.Tape.{alone-role}
 
 -- the answer of a writer that writes nothing
 unfoldable pub still : Writer → Reading → Reading
@@ -28,10 +29,20 @@ unfoldable pub next-short : Reading → Bool
 next-short (Refused k q) = false
 next-short (Done p) = leb (p .token .end - p .token .start) name-size
 
--- the word of the next token
-unfoldable pub next-word : Reading → ℕ
-next-word (Refused k q) = 0
-next-word (Done p) = word (p .token)
+-- the word of the next token as a name in a form
+unfoldable pub next-in : ℕ → Reading → ℕ
+next-in form (Refused k q) = 0
+next-in form (Done p) = word-in form (p .token)
+
+-- what the name that is next is, in a term
+unfoldable pub next-role : List ℕ → Reading → ℕ
+next-role text (Refused k q) = alone-role
+next-role text (Done p) = node-role text (p .token)
+
+-- how many entries there are
+unfoldable pub entries-of : Reading → ℕ
+entries-of (Refused k q) = 0
+entries-of (Done p) = p .entries
 
 -- is the next token the name of that word?
 unfoldable pub next-named : List ℕ → ℕ → Reading → Bool

@@ -1,7 +1,9 @@
-// Names in a list, functions, signatures and parameters.
+// Names in a list, signatures and parameters.
 use super::Reading;
+use super::functions::read_function;
 use super::numbers;
 use super::roles;
+use super::steps::begins_function;
 use super::steps::expect;
 use super::steps::next_is;
 use super::steps::next_word;
@@ -14,8 +16,8 @@ ghost use mathlib.Core.Path.{_≡_};
 ghost use Rattle.meaning.specs.Numbers.{text-size};
 ghost use Rattle.meaning.specs.Names.{byte};
 ghost use Rattle.meaning.specs.Tokens.{exports-key, functions-key, parameters-key, sorts-key};
-ghost use Rattle.meaning.specs.Grammar.{is-name};
-ghost use Rattle.entries.specs.Model.{out, onward, many, optional, names, input-type, function, some-of, signature, enclosed, parameter, parameters, exports};
+ghost use Rattle.meaning.specs.Grammar.{begins-function};
+ghost use Rattle.entries.specs.Model.{out, onward, many, optional, names, function, some-of, signature, enclosed, parameter, parameters, exports};
 
 // Names with a mark between them, `limit` at most.
 pub fn read_names(
@@ -45,41 +47,21 @@ pub fn read_names(
     unexpected(here)
 }
 
-// The inputs of a function: none where the arrow is next.
-fn read_inputs(text: &[u8], tape: &mut [u32], at: Reading) -> Reading
-    ensures { λ r. ⌜ out r (now (tape .exit)) ≡ onward at (now (tape .entry)) (input-type (now (text .entry))) ⌝ }
-{
-    if next_is(at, tokens::ARROW) {
-        return at;
-    }
-    read_names(text, tape, at, numbers::ARGUMENT_LIMIT, b'#', roles::INPUT)
-}
-
-fn read_function(text: &[u8], tape: &mut [u32], at: Reading, role: u8) -> Reading
-    ensures { λ r. ⌜ out r (now (tape .exit)) ≡ onward at (now (tape .entry)) (function (now (text .entry)) role) ⌝ }
-{
-    let a = read_name(text, tape, at, role);
-    let b = expect(text, a, b':');
-    let c = read_inputs(text, tape, b);
-    let d = expect(text, c, tokens::ARROW);
-    read_name(text, tape, d, roles::OUTPUT)
-}
-
 // Functions for as long as one begins.
 fn read_functions(text: &[u8], tape: &mut [u32], at: Reading, role: u8) -> Reading
-    ensures { λ r. ⌜ out r (now (tape .exit)) ≡ onward at (now (tape .entry)) (many (now (text .entry)) text-size is-name (function (now (text .entry)) role)) ⌝ }
+    ensures { λ r. ⌜ out r (now (tape .exit)) ≡ onward at (now (tape .entry)) (many (now (text .entry)) text-size begins-function (function (now (text .entry)) role)) ⌝ }
 {
     let mut here = at;
     let mut left: usize = numbers::TEXT_SIZE;
     while 0 < left {
-        if next_is(here, tokens::IDENT) {
+        if begins_function(here) {
             here = read_function(text, tape, here, role);
             left -= 1;
         } else {
             return here;
         }
     }
-    if next_is(here, tokens::IDENT) {
+    if begins_function(here) {
         return refuse(here, numbers::OVER_SIZE);
     }
     here
@@ -98,11 +80,11 @@ fn section_sorts(text: &[u8], tape: &mut [u32], at: Reading, role: u8) -> Readin
 
 // The functions of a section, if it has any.
 fn section_functions(text: &[u8], tape: &mut [u32], at: Reading, role: u8) -> Reading
-    ensures { λ r. ⌜ out r (now (tape .exit)) ≡ onward at (now (tape .entry)) (optional (now (text .entry)) functions-key (some-of (now (text .entry)) text-size is-name (function (now (text .entry)) role))) ⌝ }
+    ensures { λ r. ⌜ out r (now (tape .exit)) ≡ onward at (now (tape .entry)) (optional (now (text .entry)) functions-key (some-of (now (text .entry)) text-size begins-function (function (now (text .entry)) role))) ⌝ }
 {
     if next_is(at, tokens::FUNCTIONS_KEY) {
         let a = step(text, at);
-        if next_is(a, tokens::IDENT) {
+        if begins_function(a) {
             return read_functions(text, tape, a, role);
         }
         return unexpected(a);

@@ -1,7 +1,9 @@
 // Import expressions: renamings and bindings with their pairs.
 use super::Reading;
+use super::functions::read_function_name;
 use super::numbers;
 use super::roles;
+use super::steps::begins_function;
 use super::steps::expect;
 use super::steps::mark;
 use super::steps::next_is;
@@ -13,19 +15,19 @@ ghost use mathlib.Core.Path.{_≡_};
 ghost use Rattle.meaning.specs.Names.{byte};
 ghost use Rattle.meaning.specs.Numbers.{binding-limit, pair-limit};
 ghost use Rattle.meaning.specs.Tokens.{imports-key};
-ghost use Rattle.meaning.specs.Grammar.{is-name};
+ghost use Rattle.meaning.specs.Grammar.{begins-function, is-name};
 ghost use Rattle.entries.specs.Model.{out, onward, separated, many, some-of, optional, pair, pairs, renamed, bound, perhaps-renamed, modifier, modified, import-expression, imports};
 
 fn read_pair(text: &[u8], tape: &mut [u32], at: Reading) -> Reading
     ensures { λ r. ⌜ out r (now (tape .exit)) ≡ onward at (now (tape .entry)) (pair (now (text .entry))) ⌝ }
 {
-    let a = read_name(text, tape, at, roles::OLD);
+    let a = read_function_name(text, tape, at, roles::OLD);
     let b = expect(text, a, tokens::ARROW);
-    read_name(text, tape, b, roles::NEW)
+    read_function_name(text, tape, b, roles::NEW)
 }
 
 fn pair_list(text: &[u8], tape: &mut [u32], at: Reading) -> Reading
-    ensures { λ r. ⌜ out r (now (tape .exit)) ≡ onward at (now (tape .entry)) (separated (now (text .entry)) pair-limit (byte ",") is-name (pair (now (text .entry)))) ⌝ }
+    ensures { λ r. ⌜ out r (now (tape .exit)) ≡ onward at (now (tape .entry)) (separated (now (text .entry)) pair-limit (byte ",") begins-function (pair (now (text .entry)))) ⌝ }
 {
     let mut here = at;
     let mut left: usize = numbers::PAIR_LIMIT;
@@ -38,7 +40,7 @@ fn pair_list(text: &[u8], tape: &mut [u32], at: Reading) -> Reading
             return read;
         }
     }
-    if next_is(here, tokens::IDENT) {
+    if begins_function(here) {
         return refuse(here, numbers::OVER_SIZE);
     }
     unexpected(here)

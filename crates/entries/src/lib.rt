@@ -3,6 +3,8 @@
 use types::Token;
 
 pub mod declarations;
+pub mod forms;
+pub mod functions;
 pub mod imports;
 pub mod numbers;
 pub mod roles;

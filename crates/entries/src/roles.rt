@@ -46,3 +46,7 @@ pub const CLOSE: u8 = 22;
 pub const CONDITION: u8 = 23;
 
 pub const CONCLUSION: u8 = 24;
+
+pub const PREFIX: u8 = 25;
+
+pub const INFIX: u8 = 26;

@@ -1,13 +1,15 @@
 // Single tokens and single entries. Each step goes on from an answer, and does nothing where that is a refusal.
 use super::Place;
 use super::Reading;
+use super::forms;
 use super::numbers;
 use types::Token;
 ghost use mathlib.Core.Path.{_≡_};
-ghost use Prim.Native.Nat.{_-_};
-ghost use Rattle.meaning.specs.Grammar.{is, begins-term};
-ghost use Rattle.entries.specs.Model.{out, onward, refuse, unexpected, word, written, mark, step, expect, short-name, name, this-name};
-ghost use Rattle.entries.specs.Steps.{still, next-passes, next-short, next-word, next-named};
+ghost use Prim.Native.Nat.{_-_, _<_};
+ghost use Rattle.meaning.specs.Grammar.{is, begins-function, begins-term};
+ghost use Rattle.names.specs.Word.{plain-form};
+ghost use Rattle.entries.specs.Model.{out, onward, refuse, unexpected, word-in, written, mark, step, expect, short-name, as-entry, name, bare-operator, this-name};
+ghost use Rattle.entries.specs.Steps.{still, next-passes, next-short, next-in, next-named};
 
 // Is the next token of this kind?
 pub fn next_is(at: Reading, kind: u8) -> bool
@@ -30,7 +32,23 @@ pub fn begins_term(at: Reading) -> bool
     if next_is(at, tokens::IDENT) {
         return true;
     }
+    if next_is(at, tokens::OPERATOR) {
+        return true;
+    }
     next_is(at, b'(')
+}
+
+// May it begin a function's name?
+pub fn begins_function(at: Reading) -> bool
+    ensures { λ r. ⌜ r ≡ next-passes begins-function at ⌝ }
+{
+    if next_is(at, tokens::IDENT) {
+        return true;
+    }
+    if next_is(at, tokens::OPERATOR) {
+        return true;
+    }
+    next_is(at, b'_')
 }
 
 // Refused, at the next token.
@@ -100,30 +118,39 @@ fn size_of(t: Token) -> usize
     0
 }
 
-// The word of a name: its place and its size.
-fn word_of(t: Token) -> u32
-    ensures { λ r. ⌜ r ≡ word t ⌝ }
+// The word of a name in a form: its token's place and size.
+fn word_in(form: u32, t: Token) -> u32
+    requires { ⌜ form < 4 ⌝ }
+    ensures { λ r. ⌜ r ≡ word-in form t ⌝ }
 {
     let start = t.start;
     let size = size_of(t);
-    (start % 65536 * 64 + size % 64) as u32
+    (start % 65536 * 256 + size % 64) as u32 + form * 64
 }
 
-// The word of the next token.
-pub fn next_word(at: Reading) -> u32
-    ensures { λ r. ⌜ r ≡ next-word at ⌝ }
+// The word of the next token as a name in a form.
+pub fn next_in(at: Reading, form: u32) -> u32
+    requires { ⌜ form < 4 ⌝ }
+    ensures { λ r. ⌜ r ≡ next-in form at ⌝ }
 {
     match at {
         Reading::Refused { number, place } => 0,
         Reading::Done(p) => {
             let t = p.token;
-            word_of(t)
+            word_in(form, t)
         }
     }
 }
 
+// The word of the next token as a plain name.
+pub fn next_word(at: Reading) -> u32
+    ensures { λ r. ⌜ r ≡ next-in plain-form at ⌝ }
+{
+    next_in(at, forms::PLAIN)
+}
+
 // Is the next token no longer than a name may be?
-fn next_short(at: Reading) -> bool
+pub fn next_short(at: Reading) -> bool
     ensures { λ r. ⌜ r ≡ next-short at ⌝ }
 {
     match at {
@@ -166,12 +193,13 @@ pub fn mark(tape: &mut [u32], at: Reading, role: u8) -> Reading
     write(tape, at, role as u32)
 }
 
-// A name of bounded size, written with its role.
-fn short_name(text: &[u8], tape: &mut [u32], at: Reading, role: u8) -> Reading
-    ensures { λ r. ⌜ out r (now (tape .exit)) ≡ onward at (now (tape .entry)) (short-name (now (text .entry)) role) ⌝ }
+// A name of bounded size in a form, written with its role.
+fn short_name(text: &[u8], tape: &mut [u32], at: Reading, form: u32, role: u8) -> Reading
+    requires { ⌜ form < 4 ⌝ }
+    ensures { λ r. ⌜ out r (now (tape .exit)) ≡ onward at (now (tape .entry)) (short-name (now (text .entry)) form (as-entry role)) ⌝ }
 {
     if next_short(at) {
-        let w = next_word(at);
+        let w = next_in(at, form);
         let a = write(tape, at, w * 32 + role as u32);
         return step(text, a);
     }
@@ -183,7 +211,18 @@ pub fn read_name(text: &[u8], tape: &mut [u32], at: Reading, role: u8) -> Readin
     ensures { λ r. ⌜ out r (now (tape .exit)) ≡ onward at (now (tape .entry)) (name (now (text .entry)) role) ⌝ }
 {
     if next_is(at, tokens::IDENT) {
-        return short_name(text, tape, at, role);
+        return short_name(text, tape, at, forms::PLAIN, role);
+    }
+    unexpected(at)
+}
+
+// An operator without its underlines, written in its form with its role.
+pub fn read_operator(text: &[u8], tape: &mut [u32], at: Reading, form: u32, role: u8) -> Reading
+    requires { ⌜ form < 4 ⌝ }
+    ensures { λ r. ⌜ out r (now (tape .exit)) ≡ onward at (now (tape .entry)) (bare-operator (now (text .entry)) form (as-entry role)) ⌝ }
+{
+    if next_is(at, tokens::OPERATOR) {
+        return short_name(text, tape, at, form, role);
     }
     unexpected(at)
 }

@@ -1,16 +1,17 @@
 -- Which modules a tape declares: of the entries of a module only the first, its name's, has a module's role.
 use mathlib.Core.Path.{_≡_, refl, ap, _∙_}
-use Prim.Native.Nat.{ℕ}
+use Prim.Native.Nat.{ℕ, zero, suc}
 use mathlib.Core.Bool.{Bool, true, false}
 use mathlib.Core.List.{List, [], _∷_, _++_, map}
 use lib.Dec.{eqb}
 use lib.ListN.{take}
 use Rattle.meaning.specs.Lists.{pick, any, each}
-use Rattle.meaning.specs.Names.{Name, same, member}
+use Rattle.meaning.specs.Laws.{by-cases}
+use Rattle.meaning.specs.Names.{Name, same, is-operator, member}
 use Rattle.meaning.specs.Syntax.{Function, Signature, Parameter, Pair, Clause, renamed-by, bound-by, Import, VariableGroup, Term, node, Terms, no-terms, _then_, Sides, Equation, Module}
 use Rattle.names.specs.Word.{name-of}
 use Rattle.tape.specs.Tape.{Entry, entry, entries, spelled, module-role, parameter-role, parameter-sort, parameter-function, export-sort, export-function, hidden-sort, hidden-function, input-role, output-role, import-role, renamed-role, bound-role, old-role, new-role, actual-role, variable-role, variable-sort, tag-role, alone-role, head-role, close-role, condition-role, conclusion-role}
-use Rattle.tape.specs.Tape.{flat-function, flat-signature, flat-parameter, flat-pair, flat-clause, flat-import, flat-group, flat-node, flat-term, flat-terms, flat-sides, flat-equation, flat-module}
+use Rattle.tape.specs.Tape.{flat-function, flat-signature, flat-parameter, flat-pair, flat-clause, flat-import, flat-group, role-with, closing, flat-node, how-many, flat-term, flat-terms, flat-sides, flat-equation, flat-module}
 use Rattle.entries.specs.Model.{declares, taken}
 
 -- is this the entry of a module of that name?
@@ -103,16 +104,28 @@ plain-group : (g : VariableGroup) → Plain (flat-group g)
 unfolding flat-group
 plain-group g = also (plain-names variable-role refl (g .names)) (alone variable-sort (g .sort) refl)
 
-plain-node : (f : Name) (es : List Entry) → Plain es → Plain (flat-node f es)
+plain-role : (f : Name) (n : ℕ) → eqb (role-with f n) module-role ≡ false
+unfolding role-with
+plain-role f n =
+    by-cases (λ r. eqb r module-role ≡ false) (is-operator f) _ _
+    (λ h. by-cases (λ r. eqb r module-role ≡ false) (eqb n 1) _ _ (λ g. refl)
+    (λ g. by-cases (λ r. eqb r module-role ≡ false) (eqb n 2) _ _ (λ k. refl) (λ k. refl)))
+    (λ h. refl)
+
+plain-closing : (role : ℕ) → Plain (closing role)
+unfolding closing
+plain-closing role = by-cases Plain (eqb role head-role) _ _ (λ h. alone close-role [] refl) (λ h. nothing)
+
+plain-node : (f : Name) (n : ℕ) (es : List Entry) → Plain es → Plain (flat-node f n es)
 unfolding flat-node
-plain-node f [] p = alone alone-role f refl
-plain-node f (e ∷ es) p = front head-role f refl (also p (alone close-role [] refl))
+plain-node f zero es p = alone alone-role f refl
+plain-node f (suc n) es p = front (role-with f (suc n)) f (plain-role f (suc n)) (also p (plain-closing (role-with f (suc n))))
 
 mutual
   unfolding flat-term flat-terms
 
   plain-term : (t : Term) → Plain (flat-term t)
-  plain-term (node f ts) = plain-node f (flat-terms ts) (plain-terms ts)
+  plain-term (node f ts) = plain-node f (how-many ts) (flat-terms ts) (plain-terms ts)
 
   plain-terms : (ts : Terms) → Plain (flat-terms ts)
   plain-terms no-terms = nothing

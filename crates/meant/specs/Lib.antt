@@ -1,6 +1,7 @@
 pub mod Matches
 pub mod Lines
 pub mod Steps
+pub mod Inserted
 pub mod Lists
 pub mod Rules
 pub mod Terms

@@ -22,7 +22,7 @@ whether false f g = g refl
 
 -- ---- groups of lines, and the end of a rule
 
-regroup : (a : Reading) (u : List ℕ) (X Y : Writer)
+pub regroup : (a : Reading) (u : List ℕ) (X Y : Writer)
     → onward (onward a u X .answer) (onward a u X .tape) Y ≡ onward a u (X >> Y)
 unfolding onward _>>_
 regroup (Done q) u X Y = refl

@@ -32,7 +32,7 @@ pub record Ready (text : List ℕ) (i : ℕ) (p : Place) (t : List ℕ) : Type 0
 
 -- an entry whose name lies within the text
 abbrev pub Lies : List ℕ → ℕ → Type 0
-Lies text e = e / 32 / 64 + min (e / 32 % 64) name-size ≤ length text
+Lies text e = e / 32 / 256 + min (e / 32 % 64) name-size ≤ length text
 
 -- the first n entries of a tape do
 abbrev pub Inside : List ℕ → ℕ → List ℕ → Type 0
@@ -110,3 +110,14 @@ module _ {text : List ℕ} where
   unfolding onward after
   and-then Ψ W P o r (both-done a q u es φ s) f = go-on {Ψ = Ψ} s (W q u) (P a (state q)) (f a q u es φ s)
   and-then Ψ W P o r (both-refused m n u l) f = both-refused m n u l
+
+  -- the same, where what comes after has been seen from the place before the step
+  pub and-thus : {A B : Type 0} {i j k : ℕ} {Φ : Meaning A} (Ψ : Meaning B) {p : Place} {t : List ℕ} (W : Writer) (P : A → Parser B)
+      (o : Out) (r : Result A)
+      → Matches text i j Φ p t o r
+      → ((a : A) (q : Place) (u : List ℕ) (es : List Entry) → Φ a (state q) es → Step text i j p t q u es
+      → Matches text i k Ψ p t (W q u) (P a (state q)))
+      → Matches text i k Ψ p t (onward (o .answer) (o .tape) W) (after r P)
+  unfolding onward after
+  and-thus Ψ W P o r (both-done a q u es φ s) f = f a q u es φ s
+  and-thus Ψ W P o r (both-refused m n u l) f = both-refused m n u l

@@ -9,14 +9,14 @@ use Rattle.meaning.specs.Tokens.{end-of-text, begin-key, end-key, equations-key
 use Rattle.meaning.specs.Numbers.{over-size, module-twice}
 use Rattle.meaning.specs.Grammar.{Parser, _>>=_, return, is}
 use Rattle.meaning.specs.Grammar
-use Rattle.names.specs.Word.{name-of}
+use Rattle.names.specs.Word.{plain-form, in-form}
 use Rattle.entries.specs.declared.Place.{Place}
 use Rattle.tape.specs.Tape.{Entry, entry, entries, module-role, hidden-sort, hidden-function, flat-signature, flat-module, flat-modules}
 use Rattle.entries.specs.Model.{Writer, _>>_, word}
 use Rattle.entries.specs.Model
 use Rattle.meant.specs.Matches.{Ready, Step, state, Meaning, Matches, both-refused, Reads, means, next-ready, and-then}
 use Rattle.meant.specs.Lines.{weaker, choice, by-next, either, grouped, refuse-meant, unexpected-meant, stay-at, handed, closing, line, pass}
-use Rattle.meant.specs.Steps.{Named, expect-meant, name-at, this-name-meant}
+use Rattle.meant.specs.Steps.{Named, Called, called-by, expect-meant, name-at, this-name-meant}
 use Rattle.meant.specs.Lists.{optional-meant}
 use Rattle.meant.specs.Rules.{signature-meant, parameters-meant, exports-meant, imports-meant, variables-meant}
 use Rattle.meant.specs.Equations.{equations-meant}
@@ -39,11 +39,11 @@ module _ {text : List ℕ} where
 
   -- `before` are the names of modules that stand before the text
   module _ (before names : List Name) (p : Place) (t : List ℕ) (r : Ready text 0 p t) (d : Declared names (entries text (p .entries) t)) where
-    fresh-at : Matches text 0 0 (λ n s es. Named text (p .token) module-role n s es) p t (Model.fresh-name text before p t)
+    fresh-at : Matches text 0 0 (λ n s es. Named text (p .token) plain-form module-role n s es) p t (Model.fresh-name text before p t)
         (Grammar.fresh-name text (names ++ before) (state p))
-    unfolding Model.fresh-name Grammar.fresh-name Model.refuse Grammar.refuse Model.stay return
+    unfolding Model.fresh-name Grammar.fresh-name Model.refuse Grammar.refuse Model.stay return in-form pick
     fresh-at =
-        and-then (λ n s es. Named text (p .token) module-role n s es) _ _ _ _ (name-at module-role refl p t r) (λ n q u es k s.
+        and-then (λ n s es. Named text (p .token) plain-form module-role n s es) _ _ _ _ (name-at module-role refl p t r) (λ n q u es k s.
         rw (taken-told text names (word (p .token)) (p .entries) n t d (k .called), k .called, in-either n names before)
         (choice (member n names) _ _ _ _ (λ h. both-refused module-twice (p .token .start) u refl)
         (λ h. choice (member n before) _ _ _ _ (λ g. both-refused module-twice (p .token .start) u refl)
@@ -51,12 +51,12 @@ module _ {text : List ℕ} where
 
     -- what follows the name asks for it again, by its word
     with-fresh : {B : Type 0} {Ψ : Meaning B} {X : ℕ → Writer} {Q : Name → Parser B}
-        → ((w : ℕ) (n : Name) → name-of text w ≡ n → Reads text 0 0 (X w) (Q n) (λ b s es. Ψ b s (entry module-role n ∷ es)))
+        → ((w : ℕ) (n : Name) → Called text w n → Reads text 0 0 (X w) (Q n) (λ b s es. Ψ b s (entry module-role n ∷ es)))
         → Matches text 0 0 Ψ p t (Model.with-word (λ w. Model.fresh-name text before >> X w) p t) ((Grammar.fresh-name text (names ++ before) >>= Q) (state p))
-    unfolding Model.with-word _>>_ _>>=_
+    unfolding Model.with-word _>>_ _>>=_ in-form pick
     with-fresh {Ψ = Ψ} {X} {Q} e =
         and-then Ψ (X (word (p .token))) Q _ _ fresh-at
-        (λ n q u es k s. rw (k .written) (e (word (p .token)) n (k .called) .from q u (next-ready r s)))
+        (λ n q u es k s. rw (k .written) (e (word (p .token)) n (called-by k) .from q u (next-ready r s)))
 
   -- ---- a module
 

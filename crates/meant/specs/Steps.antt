@@ -14,26 +14,26 @@ use Rattle.meaning.specs.Lists.{pick}
 use Rattle.meaning.specs.Laws.{by-cases}
 use Rattle.meaning.specs.Names.{Name, slice, same}
 use Rattle.meaning.specs.Numbers.{text-size, name-size, over-size, other-end}
-use Rattle.meaning.specs.Tokens.{token-at, ident}
+use Rattle.meaning.specs.Tokens.{token-at, ident, operator}
 use Rattle.meaning.specs.Grammar.{State, done, Parser, after, _>>=_, return, is, is-name}
 use Rattle.meaning.specs.Grammar
 use Rattle.meaning.specs.GrammarLaws.{at}
-use Rattle.names.specs.Word.{name-of, name-slice}
+use Rattle.names.specs.Word.{plain-form, in-form, token-of, name-of, name-slice, plain-name, no-name}
 use Rattle.names.proofs.Compared.{same-lengths}
 use Rattle.tokens.proofs.Bounds.{token-after, token-forward, token-within, token-filled}
 use Rattle.entries.specs.declared.Place.{Place}
 use Rattle.tape.specs.Tape.{Entry, entry, entries, spelled}
-use Rattle.entries.specs.Model.{Writer, onward, _>>_, word, place}
+use Rattle.entries.specs.Model.{Writer, onward, _>>_, word, word-in, place}
 use Rattle.entries.specs.Model
 use Rattle.meaning.specs.OrderLaws.{Every}
 use Rattle.meant.specs.Matches.{Lies, Inside, Stands, Ready, Step, state, Meaning, Matches, both-done, both-refused, Reads, means, next-ready, and-then}
 use Rattle.meant.specs.Lines.{whether, weaker, choice, by-next, either, unexpected-meant, refuse-meant, line}
 
 -- a name of n bytes that starts at s ends at s + n
-lies-within : (l s n : ℕ) → n ≤ 40 → s + n ≤ l → (s * 64 + n) / 64 + min ((s * 64 + n) % 64) 40 ≤ l
-lies-within l s n h k =
-    let a : (s * 64 + n) / 64 ≡ s = omega arith in
-    let b : (s * 64 + n) % 64 ≡ n = omega arith in
+lies-within : (l s f n : ℕ) → f < 4 → n ≤ 40 → s + n ≤ l → (s * 256 + f * 64 + n) / 256 + min ((s * 256 + f * 64 + n) % 64) 40 ≤ l
+lies-within l s f n g h k =
+    let a : (s * 256 + f * 64 + n) / 256 ≡ s = omega arith in
+    let b : (s * 256 + f * 64 + n) % 64 ≡ n = omega arith in
     rw (a, b) (omega arith)
 
 module _ {text : List ℕ} {i : ℕ} {p : Place} {t : List ℕ} (r : Ready text i p t) where
@@ -48,11 +48,11 @@ module _ {text : List ℕ} {i : ℕ} {p : Place} {t : List ℕ} (r : Ready text 
   pub after-it : Stands text (token-at text (p .token .end))
   after-it = record { from = p .token .end; within = ends-within; found = refl }
 
-  follows : p .token .end ≤ token-at text (p .token .end) .start
+  pub follows : p .token .end ≤ token-at text (p .token .end) .start
   follows = token-after text (p .token .end) (token-at text (p .token .end)) refl
 
   -- a token that may be expected has bytes
-  filled : (k : ℕ) → eqb k 0 ≡ false → eqb k 4 ≡ false → eqb (p .token .kind) k ≡ true → p .token .start < p .token .end
+  pub filled : (k : ℕ) → eqb k 0 ≡ false → eqb k 4 ≡ false → eqb (p .token .kind) k ≡ true → p .token .start < p .token .end
   filled k a b e =
       let h = eqb-true (p .token .kind) k e in
       token-filled text (r .stands .from) (p .token) (r .stands .found) (λ z. eqb-false k 0 a (sym h ∙ z)) (λ z. eqb-false k 4 b (sym h ∙ z))
@@ -106,36 +106,45 @@ module _ {text : List ℕ} {i : ℕ} {p : Place} {t : List ℕ} (r : Ready text 
 
   -- ---- words
 
-  pub word-slice : leb (p .token .end - p .token .start) name-size ≡ true
-      → name-of text (word (p .token)) ≡ slice text (p .token .start) (p .token .end)
-  unfolding word text-size
-  word-slice h =
-      let start = p .token .start in
-      let end = p .token .end in
-      let size = leb-true (end - start) name-size h in
-      let w : word (p .token) ≡ start * 64 + (end - start) = omega (arith, forward, ends-within, r .short) in
-      rw w (name-slice text start end size)
+  module _ (form : ℕ) (f : ltb form 4 ≡ true) (h : leb (p .token .end - p .token .start) name-size ≡ true) where
+    word-made : word-in form (p .token) ≡ p .token .start * 256 + form * 64 + (p .token .end - p .token .start)
+    unfolding word-in text-size
+    word-made = omega (arith, forward, ends-within, r .short, leb-true (p .token .end - p .token .start) name-size h)
 
-  word-lies : (role : ℕ) → ltb role 32 ≡ true → leb (p .token .end - p .token .start) name-size ≡ true
-      → Lies text (word (p .token) * 32 + role)
-  unfolding word text-size
-  word-lies role k h =
-      let start = p .token .start in
-      let end = p .token .end in
-      let size = leb-true (end - start) name-size h in
-      let l = ltb-true role 32 k in
-      let w : word (p .token) ≡ start * 64 + (end - start) = omega (arith, forward, ends-within, r .short) in
-      let a : (word (p .token) * 32 + role) / 32 ≡ word (p .token) = omega arith in
-      rw (a, w) (lies-within (length text) start (end - start) size (omega (arith, forward, ends-within)))
+    pub word-slice : name-of text (word-in form (p .token)) ≡ in-form form (slice text (p .token .start) (p .token .end))
+    word-slice =
+        let size = leb-true (p .token .end - p .token .start) name-size h in
+        rw word-made (name-slice text (p .token .start) form (p .token .end) (ltb-true form 4 f) size)
 
--- what is known of a name that was the token t: its entry, its word, and the token after it
-pub record Named (text : List ℕ) (t : Token) (role : ℕ) (n : Name) (s : State) (es : List Entry) : Type 0 where
-  pub written : es ≡ entry role n ∷ []
-  pub called : name-of text (word t) ≡ n
+    pub word-lies : (role : ℕ) → ltb role 32 ≡ true → Lies text (word-in form (p .token) * 32 + role)
+    word-lies role k =
+        let size = leb-true (p .token .end - p .token .start) name-size h in
+        let l = ltb-true role 32 k in
+        let g = ltb-true form 4 f in
+        let w = word-in form (p .token) in
+        let a : (w * 32 + role) / 32 ≡ w = omega arith in
+        rw (a, word-made)
+        (lies-within (length text) (p .token .start) form (p .token .end - p .token .start) g size (omega (arith, forward, ends-within)))
+
+-- what is known of a name in a form whose token was t: its entry, its word, and the token after it
+pub record Named (text : List ℕ) (t : Token) (form role : ℕ) (n : Name) (s : State) (es : List Entry) : Type 0 where
+  pub written : es ≡ entry role (in-form form n) ∷ []
+  pub called : name-of text (word-in form t) ≡ in-form form n
+  pub spelt : n ≡ slice text (t .start) (t .end)
   pub next : s .token ≡ token-at text (t .end)
 
+-- the plain name that a word stands for
+pub record Called (text : List ℕ) (w : ℕ) (n : Name) : Type 0 where
+  pub plain : w % 256 < 64
+  pub named : name-of text w ≡ n
+
+pub called-by : {text : List ℕ} {t : Token} {role : ℕ} {n : Name} {s : State} {es : List Entry} → Named text t plain-form role n s es
+    → Called text (word t) n
+unfolding word-in in-form pick
+called-by k = record { plain = omega arith; named = k .called }
+
 module _ (text : List ℕ) where
-  spelled-name : (w role : ℕ) → ltb role 32 ≡ true → spelled text (w * 32 + role) ≡ entry role (name-of text w)
+  pub spelled-name : (w role : ℕ) → ltb role 32 ≡ true → spelled text (w * 32 + role) ≡ entry role (name-of text w)
   unfolding spelled
   spelled-name w role h =
       let l = ltb-true role 32 h in
@@ -150,12 +159,12 @@ module _ (text : List ℕ) where
       rw b (omega arith)
 
   spelled-mark : (role : ℕ) → ltb role 32 ≡ true → spelled text role ≡ entry role []
-  unfolding spelled name-of
+  unfolding spelled
   spelled-mark role h =
       let l = ltb-true role 32 h in
       let a : role % 32 ≡ role = omega arith in
       let b : role / 32 ≡ 0 = omega arith in
-      rw (a, b)
+      rw (a, b, no-name text)
 
 module _ {text : List ℕ} where
   -- ---- a token
@@ -203,55 +212,71 @@ module _ {text : List ℕ} where
 
   -- ---- names
 
-  module _ (role : ℕ) (h : ltb role 32 ≡ true) (p : Place) (t : List ℕ) (r : Ready text 0 p t) where
+  module _ (form role : ℕ) (f : ltb form 4 ≡ true) (h : ltb role 32 ≡ true) (p : Place) (t : List ℕ) (r : Ready text 0 p t) where
     short-named : leb (p .token .end - p .token .start) name-size ≡ true → p .token .start < p .token .end
-        → Matches text 0 0 (λ n s es. Named text (p .token) role n s es) p t (Model.named text role p t)
+        → Matches text 0 0 (λ n s es. Named text (p .token) form role n s es) p t
+        ((Model.as-entry role (word-in form (p .token)) >> Model.step text) p t)
         (done (slice text (p .token .start) (p .token .end)) (at (token-at text (p .token .end)) (p .nodes)))
-    unfolding Model.named Model.with-word Model.written Model.step _>>_ onward pick
-    short-named l f =
+    unfolding Model.written Model.step _>>_ onward pick
+    short-named l g =
         let m : p .entries < length t = omega (arith, r .room, r .long, ends-within r) in
+        let w = word-in form (p .token) in
         rw (lt-ltb (p .entries) (length t) m)
         (both-done (slice text (p .token .start) (p .token .end)) (place (token-at text (p .token .end)) (p .nodes) (p .entries + 1)) _
-        (spelled text (word (p .token) * 32 + role) ∷ [])
-        (record { written = rw (spelled-name text (word (p .token)) role h, word-slice r l); called = word-slice r l; next = refl })
-        (noted r (word (p .token) * 32 + role) 0 (token-at text (p .token .end)) (after-it r) (word-lies r role h l) m (omega (arith, follows r))))
+        (spelled text (w * 32 + role) ∷ [])
+        (record { written = rw (spelled-name text w role h, word-slice r form f l); called = word-slice r form f l; spelt = refl; next = refl })
+        (noted r (w * 32 + role) 0 (token-at text (p .token .end)) (after-it r) (word-lies r form f l role h) m (omega (arith, follows r))))
 
-    short-name-at : eqb (p .token .kind) ident ≡ true
-        → Matches text 0 0 (λ n s es. Named text (p .token) role n s es) p t (Model.short-name text role p t) (Grammar.short-name text (state p))
+    -- a token of a kind that has bytes
+    short-at : (k : ℕ) → eqb k 0 ≡ false → eqb k 4 ≡ false → eqb (p .token .kind) k ≡ true
+        → Matches text 0 0 (λ n s es. Named text (p .token) form role n s es) p t (Model.short-name text form (Model.as-entry role) p t)
+        (Grammar.short-name text (state p))
     unfolding Model.short-name Grammar.short-name Grammar.step _>>=_ after return
-    short-name-at e =
-        choice (leb (p .token .end - p .token .start) name-size) _ _ _ _ (λ l. short-named l (filled r ident refl refl e))
+    short-at k a b e =
+        choice (leb (p .token .end - p .token .start) name-size) _ _ _ _ (λ l. short-named l (filled r k a b e))
         (λ l. refuse-meant over-size .from p t r)
 
-    pub name-at : Matches text 0 0 (λ n s es. Named text (p .token) role n s es) p t (Model.name text role p t) (Grammar.name text (state p))
+    pub operator-at : Matches text 0 0 (λ n s es. Named text (p .token) form role n s es) p t
+        (Model.bare-operator text form (Model.as-entry role) p t) (Grammar.bare-operator text (state p))
+    unfolding Model.bare-operator Grammar.bare-operator
+    operator-at = by-next (is operator) _ _ _ _ (short-at operator refl refl) (λ h. unexpected-meant .from p t r)
+
+  module _ (role : ℕ) (h : ltb role 32 ≡ true) (p : Place) (t : List ℕ) (r : Ready text 0 p t) where
+    pub name-at : Matches text 0 0 (λ n s es. Named text (p .token) plain-form role n s es) p t (Model.name text role p t) (Grammar.name text (state p))
     unfolding Model.name Grammar.name
-    name-at = by-next is-name _ _ _ _ short-name-at (λ h. unexpected-meant .from p t r)
+    name-at = by-next is-name _ _ _ _ (short-at plain-form role refl h p t r ident refl refl) (λ h. unexpected-meant .from p t r)
 
   pub name-meant : (role : ℕ) → ltb role 32 ≡ true
       → Reads text 0 0 (Model.name text role) (Grammar.name text) (means λ n. entry role n ∷ [])
+  unfolding in-form pick
   name-meant role h = record { from = λ p t r. weaker _ _ (λ n s es k. k .written) (name-at role h p t r) }
+
+  pub operator-meant : (form role : ℕ) → ltb form 4 ≡ true → ltb role 32 ≡ true
+      → Reads text 0 0 (Model.bare-operator text form (Model.as-entry role)) (Grammar.bare-operator text) (means λ o. entry role (in-form form o) ∷ [])
+  operator-meant form role f h = record { from = λ p t r. weaker _ _ (λ n s es k. k .written) (operator-at form role f h p t r) }
 
   -- ---- the name after `end`
 
-  module _ (w : ℕ) (n : Name) (e : name-of text w ≡ n) (p : Place) (t : List ℕ) (r : Ready text 0 p t) where
+  module _ (w : ℕ) (n : Name) (e : Called text w n) (p : Place) (t : List ℕ) (r : Ready text 0 p t) where
     long-name : leb (p .token .end - p .token .start) name-size ≡ false
         → false ≡ same (name-of text w) (slice text (p .token .start) (p .token .end))
-    unfolding name-of
+    unfolding token-of
     long-name l =
-        same-lengths (name-of text w) (slice text (p .token .start) (p .token .end)) (λ e.
+        rw (plain-name text w (lt-ltb (w % 256) 64 (e .plain)))
+        (same-lengths (token-of text w) (slice text (p .token .start) (p .token .end)) (λ e.
         omega (
           arith,
           leb-false (p .token .end - p .token .start) name-size l,
-          length-take (min (w % 64) name-size) (drop (w / 64) text),
+          length-take (min (w % 64) name-size) (drop (w / 256) text),
           length-take (p .token .end - p .token .start) (drop (p .token .start) text),
           length-drop (p .token .start) text,
           ends-within r,
-        ))
+        )))
 
     told : Model.is-word-of text w (p .token) ≡ same n (slice text (p .token .start) (p .token .end))
-    unfolding Model.is-word-of
-    told = rw (← e) (by-cases (λ b. b ≡ same (name-of text w) (slice text (p .token .start) (p .token .end)))
-        (leb (p .token .end - p .token .start) name-size) _ _ (λ l. rw (word-slice r l)) long-name)
+    unfolding Model.is-word-of in-form pick
+    told = rw (← e .named) (by-cases (λ b. b ≡ same (name-of text w) (slice text (p .token .start) (p .token .end)))
+        (leb (p .token .end - p .token .start) name-size) _ _ (λ l. rw (word-slice r plain-form refl l)) long-name)
 
     that-name-at : Matches text 0 0 (means λ a. []) p t (Model.that-name text w p t) (Grammar.that-name text n (state p))
     unfolding Model.that-name Grammar.that-name
@@ -259,7 +284,7 @@ module _ {text : List ℕ} where
         rw told
         (choice (same n (slice text (p .token .start) (p .token .end))) _ _ _ _ (λ h. step-meant .from p t r) (λ h. refuse-meant other-end .from p t r))
 
-  pub this-name-meant : (w : ℕ) (n : Name) → name-of text w ≡ n
+  pub this-name-meant : (w : ℕ) (n : Name) → Called text w n
       → Reads text 0 0 (Model.this-name text w) (Grammar.this-name text n) (means λ a. [])
   unfolding Model.this-name Grammar.this-name
   this-name-meant w n e = either is-name (record { from = that-name-at w n e }) unexpected-meant
@@ -274,11 +299,11 @@ module _ {text : List ℕ} where
 
   -- a name that is asked for again, by its word
   pub with-name : {B : Type 0} {Ψ : Meaning B} {X : ℕ → Writer} {Q : Name → Parser B} (role : ℕ) → ltb role 32 ≡ true
-      → ((w : ℕ) (n : Name) → name-of text w ≡ n → Reads text 0 0 (X w) (Q n) (λ b s es. Ψ b s (entry role n ∷ es)))
+      → ((w : ℕ) (n : Name) → Called text w n → Reads text 0 0 (X w) (Q n) (λ b s es. Ψ b s (entry role n ∷ es)))
       → Reads text 0 0 (Model.with-word (λ w. Model.name text role >> X w)) (Grammar.name text >>= Q) Ψ
-  unfolding Model.with-word _>>_ _>>=_
+  unfolding Model.with-word _>>_ _>>=_ in-form pick
   with-name {Ψ = Ψ} {X} {Q} role h d = record {
     from = λ p t r.
         and-then Ψ (X (word (p .token))) Q _ _ (name-at role h p t r)
-        (λ n q u es k s. rw (k .written) (d (word (p .token)) n (k .called) .from q u (next-ready r s)));
+        (λ n q u es k s. rw (k .written) (d (word (p .token)) n (called-by k) .from q u (next-ready r s)));
   }

@@ -15,11 +15,10 @@ use Rattle.meaning.specs.Lists.{pick}
 use Rattle.meaning.specs.Names.{is-digit}
 use mir.Syntax.{w64}
 use mir.Val.{Fits}
-use Rattle.names.specs.Word.{name-of}
+use Rattle.names.specs.Word.{name-of, name-short}
 use Rattle.runs.specs.Orders.{compared, bytes-compared}
 use Rattle.runs.specs.Runs.{leading, digits-of, zeros-of, size-of-run, rest-of-run, by-size, runs-compared, elements-compared, element-size, plain-size}
 use Rattle.runs.specs.RunLaws.{in-cases, size-less, size-more, size-level, level-size, size-alike, digit-begins, other-on, other-less, other-more, run-first, run-second, name-shorter, name-longer, names-end, runs-decide, runs-pass, runs-level, zeros-digits, digits-length}
-use Rattle.names.proofs.Places.{size-of}
 use Rattle.names.proofs.Compared.{compared-less, compared-more, compared-on, compared-end}
 
 -- ---- digits
@@ -135,7 +134,7 @@ module _ (a b : List ℕ) (i j left : ℕ) (la : i + left ≤ length a) (lb : j 
 
 -- a place in a name is small
 pub digit-place : (text : List ℕ) (w i left k : ℕ) → i + left ≤ length (name-of text w) → k < left → Fits w64 (i + k)
-digit-place text w i left k h g = omega (arith, size-of text w)
+digit-place text w i left k h g = omega (arith, name-short text w)
 
 -- ---- by size
 

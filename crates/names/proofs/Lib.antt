@@ -4,4 +4,5 @@ pub mod Compared
 pub mod Elements
 pub mod AtOnce
 pub mod Places
+pub mod Forms
 pub mod Joined

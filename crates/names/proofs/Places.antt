@@ -1,18 +1,42 @@
--- Where a name lies in the text: start is its place, n its length.
+-- Where the token of a plain name lies in the text: from its start up to e.
 use mathlib.Core.Path.{_≡_, refl, sym, ap, _∙_}
-use mathlib.Core.Bool.{Bool, true, false}
+use mathlib.Core.Bool.{Bool, true, false, false≢true}
 use mathlib.Core.List.{List}
-use Prim.Native.Nat.{ℕ, _+_, _-_, _*_, _/_, _%_, _^_, _<_, _≤_, min}
+use Prim.Native.Nat.{ℕ, _+_, _-_, _/_, _%_, _<_, _≤_, min}
 use native.Mathlib.Omega.{arith}
-use lib.Dec.{leb}
-use lib.ListN.{length, take, drop, drop-of-length-le, length-drop, length-take}
+use lib.Dec.{leb, ltb}
+use lib.ListN.{length, take, drop, drop-of-length-le, length-take}
 use lib.Seq.{take-all, take-length}
-use borrow.Author.Tests.{leb-true, leb-false}
-use mir.Syntax.{w64}
-use mir.Val.{Fits}
+use borrow.Author.Needs.{needs}
+use borrow.Author.Tests.{leb-true, leb-false, lt-ltb, le-ltb}
+use Rattle.meaning.specs.Lists.{pick}
 use Rattle.meaning.specs.Names.{same}
-use Rattle.names.specs.Word.{name-of}
+use Rattle.names.specs.Word.{are-plain, token-of, name-of, plain-name, token-length}
 use Rattle.runs.specs.Runs.{Seen}
+use Rattle.names.proofs.Compared.{same-words}
+
+-- ---- two tests that hold
+
+pub first-true : (p q : Bool) → pick p q false ≡ true → p ≡ true
+unfolding pick
+first-true true q h = refl
+first-true false q h = h
+
+pub second-true : (p q : Bool) → pick p q false ≡ true → q ≡ true
+unfolding pick
+second-true true q h = h
+second-true false q h = absurd (false≢true h)
+
+module _ (a b : ℕ) where
+  pub plain-both : (r : Bool) → a % 256 < 64 → r ≡ ltb (b % 256) 64 → r ≡ are-plain a b
+  unfolding are-plain pick
+  plain-both r h e = rw (lt-ltb (a % 256) 64 h) e
+
+  pub plain-not : 64 ≤ a % 256 → false ≡ are-plain a b
+  unfolding are-plain pick
+  plain-not h = rw (le-ltb (a % 256) 64 h)
+
+-- ---- the token
 
 -- as many as there are
 take-most : (k : ℕ) (xs : List ℕ) → take (length (take k xs)) xs ≡ take k xs
@@ -40,41 +64,40 @@ drop-most k xs = go (leb k (length xs)) refl
         let h = leb-false k (length xs) e in
         rw (drop-of-length-le xs {i = min k (length xs)} (omega arith), drop-of-length-le xs {i = k} (omega arith))
 
-pub size-of : (text : List ℕ) (w : ℕ) → length (name-of text w) ≡ min (min (w % 64) 40) (length text - w / 64)
-unfolding name-of
-size-of text w = rw (length-take, length-drop)
+module _ (text : List ℕ) (w : ℕ) where
+  pub token-ends : (start k n : ℕ) → start ≡ min (w / 256) (length text) → k ≡ min (w % 64) 40 → n ≡ min k (length text - start)
+      → start + n ≡ min (w / 256) (length text) + length (token-of text w)
+  token-ends start k n s e f = omega (arith, token-length text w)
 
-name-short : (text : List ℕ) (w n : ℕ) → n ≡ length (name-of text w) → n ≤ 40
-name-short text w n e = omega (arith, size-of text w)
+  module _ (e : ℕ) (f : e ≡ min (w / 256) (length text) + length (token-of text w)) where
+    pub token-within : e ≤ length text
+    token-within = omega (arith, token-length text w)
 
-module _ (text : List ℕ) (w start : ℕ) (s : start ≡ min (w / 64) (length text)) where
-  pub name-size : (k n : ℕ) → k ≡ min (w % 64) 40 → n ≡ min k (length text - start) → n ≡ length (name-of text w)
-  name-size k n e f = omega (arith, size-of text w)
+    token-part : (start : ℕ) → start ≡ min (w / 256) (length text) → take (e - start) (drop start text) ≡ token-of text w
+    unfolding token-of
+    token-part start s =
+        let size : e - start ≡ length (token-of text w) = omega arith in
+        rw (size, s, drop-most) (take-most (min (w % 64) 40) (drop (w / 256) text))
 
-  module _ (n : ℕ) (e : n ≡ length (name-of text w)) where
-    pub name-within : start + n ≤ length text
-    name-within = omega (arith, size-of text w)
+    plain-part : (start : ℕ) → start ≡ min (w / 256) (length text) → ltb (w % 256) 64 ≡ true → take (e - start) (drop start text) ≡ name-of text w
+    plain-part start s h = token-part start s ∙ sym (plain-name text w h)
 
-    pub name-fits : length text * 1 < 2 ^ 63 → Fits w64 (start + n)
-    name-fits l = omega (arith, name-within)
+-- two plain names where they stand in the text: a from x up to n, and b from y up to m
+module _ (text : List ℕ) (a b x y n m : ℕ) (q : Bool) (p : q ≡ are-plain a b) (h : q ≡ true)
+    (s : x ≡ min (a / 256) (length text)) (t : y ≡ min (b / 256) (length text))
+    (e : n ≡ min (a / 256) (length text) + length (token-of text a)) (f : m ≡ min (b / 256) (length text) + length (token-of text b)) where
+  first : take (n - x) (drop x text) ≡ name-of text a
+  unfolding are-plain
+  first = plain-part text a n e x s (first-true _ _ (sym p ∙ h))
 
-    name-part : take n (drop start text) ≡ name-of text w
-    unfolding name-of
-    name-part = rw (e, s, drop-most) (take-most (min (w % 64) 40) (drop (w / 64) text))
+  second : take (m - y) (drop y text) ≡ name-of text b
+  unfolding are-plain
+  second = plain-part text b m f y t (second-true _ _ (sym p ∙ h))
 
-    pub name-between : take (start + n - start) (drop start text) ≡ name-of text w
-    name-between =
-        let m : start + n - start ≡ n = omega arith in
-        rw (m, name-part)
+  pub seen-parts : (k : ℕ) → Seen (take (n - x) (drop x text)) (take (m - y) (drop y text)) k → Seen (name-of text a) (name-of text b) k
+  seen-parts k g = rw (first, second) at g
 
-    pub called-part : (asked : List ℕ) (r : Bool) → r ≡ same (take (start + n - start) (drop start text)) asked → r ≡ same (name-of text w) asked
-    called-part asked r h = rw name-between at h
+  pub same-parts : (r : Bool) → r ≡ same (take (n - x) (drop x text)) (take (m - y) (drop y text)) → r ≡ same (name-of text a) (name-of text b)
+  same-parts r g = rw (first, second) at g
 
--- two names where they stand in the text: a from x on, of n bytes, and b from y on, of m bytes
-module _ (text : List ℕ) (a b x y n m : ℕ) (s : x ≡ min (a / 64) (length text)) (t : y ≡ min (b / 64) (length text))
-    (e : n ≡ length (name-of text a)) (f : m ≡ length (name-of text b)) where
-  pub seen-parts : (k : ℕ) → Seen (take (x + n - x) (drop x text)) (take (y + m - y) (drop y text)) k → Seen (name-of text a) (name-of text b) k
-  seen-parts k h = rw (name-between text a x s n e, name-between text b y t m f) at h
-
-  pub same-parts : (r : Bool) → r ≡ same (take (x + n - x) (drop x text)) (take (y + m - y) (drop y text)) → r ≡ same (name-of text a) (name-of text b)
-  same-parts r h = rw (name-between text a x s n e, name-between text b y t m f) at h
+pub ruleset cases = (plain-both, plain-not, token-ends, token-within, seen-parts, same-parts, same-words, needs)

@@ -2,18 +2,17 @@
 // Most names lie in the text, which therefore comes first: their words are as they were read, and are compared there.
 use super::byte_at;
 use super::compare_names;
-use super::is_called as is_called_in;
 use super::is_digit;
 use super::lesser;
 use super::same_bytes;
 ghost use mathlib.Core.Path.{_≡_};
 ghost use Prim.Native.Nat.{_+_, _%_, _<_, _≤_, min};
 ghost use lib.ListN.{length, getD, take, drop};
-ghost use Rattle.meaning.specs.Names.{same, not-after};
-ghost use Rattle.names.specs.Word.{name-of};
+ghost use Rattle.meaning.specs.Names.{same, not-after, is-operator, is-infix};
+ghost use Rattle.names.specs.Word.{leading, trailing, token-of, name-of};
 ghost use Rattle.runs.specs.Orders.{compared, bytes-compared};
 ghost use Rattle.runs.specs.Runs.{digits-of, zeros-of, by-size, runs-compared, elements-compared, element-size};
-ghost use Rattle.names.specs.Joint.{joint, have-room, both-behind};
+ghost use Rattle.names.specs.Joint.{joint, has-room, have-room, both-behind};
 
 // The byte at i of both, and 0 past the end.
 fn byte_in(library: &[u8], text: &[u8], i: usize) -> u8
@@ -26,31 +25,60 @@ fn byte_in(library: &[u8], text: &[u8], i: usize) -> u8
     byte_at(library, i - n)
 }
 
-// How many bytes the name w may have.
-pub fn name_room(w: u32) -> usize
+// How many bytes the token of the name w may have.
+pub fn token_room(w: u32) -> usize
     ensures { λ r. ⌜ r ≡ min (w % 64) 40 ⌝ }
 {
     lesser((w % 64) as usize, 40)
 }
 
+// How many underlines stand before the token of the name w.
+pub fn leading(w: u32) -> usize
+    ensures { λ r. ⌜ r ≡ leading w ⌝ }
+{
+    if w / 64 % 4 == 2 { 1 } else { 0 }
+}
+
+// How many stand behind it.
+pub fn trailing(w: u32) -> usize
+    ensures { λ r. ⌜ r ≡ trailing w ⌝ }
+{
+    if w / 64 % 4 == 1 { 1 } else { leading(w) }
+}
+
 // ---- wherever they lie, byte by byte
+
+// How many bytes the token of the name w has.
+fn token_size(library: &[u8], text: &[u8], w: u32) -> usize
+    ensures { λ r. ⌜ r ≡ length (token-of (joint (now (library .entry)) (now (text .entry))) w) ⌝ }
+{
+    let n = text.len();
+    let m = library.len();
+    let s = lesser((w / 256) as usize, n + m);
+    lesser(token_room(w), n + m - s)
+}
 
 // How many bytes the name w has.
 fn name_size(library: &[u8], text: &[u8], w: u32) -> usize
     ensures { λ r. ⌜ r ≡ length (name-of (joint (now (library .entry)) (now (text .entry))) w) ⌝ }
 {
-    let n = text.len();
-    let m = library.len();
-    let s = lesser((w / 64) as usize, n + m);
-    lesser(name_room(w), n + m - s)
+    leading(w) + token_size(library, text, w) + trailing(w)
 }
 
-// The byte at i of the name w, and 0 past its end.
+// The byte at i of the name w, and 0 past its end: the one function that tells the bytes of a name.
 fn name_byte(library: &[u8], text: &[u8], w: u32, i: usize) -> u8
     ensures { λ r. ⌜ r ≡ getD (name-of (joint (now (library .entry)) (now (text .entry))) w) i 0 ⌝ }
 {
-    if i < name_room(w) {
-        return byte_in(library, text, (w / 64) as usize + i);
+    let lead = leading(w);
+    if i < lead {
+        return b'_';
+    }
+    let size = token_size(library, text, w);
+    if i < lead + size {
+        return byte_in(library, text, (w / 256) as usize + (i - lead));
+    }
+    if i < lead + size + trailing(w) {
+        return b'_';
     }
     0
 }
@@ -212,23 +240,30 @@ fn compare_across(library: &[u8], text: &[u8], a: u32, b: u32) -> u8
     1
 }
 
-fn same_across(library: &[u8], text: &[u8], a: u32, b: u32) -> bool
-    ensures { λ r. ⌜ r ≡ same (name-of (joint (now (library .entry)) (now (text .entry))) a) (name-of (joint (now (library .entry)) (now (text .entry))) b) ⌝ }
+// Is a, of one text and the one behind it, the name that b is of two others?
+fn same_wherever(library: &[u8], text: &[u8], a: u32, behind: &[u8], other: &[u8], b: u32) -> bool
+    ensures { λ r. ⌜ r ≡ same (name-of (joint (now (library .entry)) (now (text .entry))) a) (name-of (joint (now (behind .entry)) (now (other .entry))) b) ⌝ }
 {
     let n = name_size(library, text, a);
-    if n != name_size(library, text, b) {
+    if n != name_size(behind, other, b) {
         return false;
     }
     let mut i = 0;
     while i < n {
         let p = name_byte(library, text, a, i);
-        let q = name_byte(library, text, b, i);
+        let q = name_byte(behind, other, b, i);
         if p != q {
             return false;
         }
         i += 1;
     }
     true
+}
+
+pub fn same_across(library: &[u8], text: &[u8], a: u32, b: u32) -> bool
+    ensures { λ r. ⌜ r ≡ same (name-of (joint (now (library .entry)) (now (text .entry))) a) (name-of (joint (now (library .entry)) (now (text .entry))) b) ⌝ }
+{
+    same_wherever(library, text, a, library, text, b)
 }
 
 fn called_across(library: &[u8], text: &[u8], a: u32, asked: &[u8]) -> bool
@@ -251,13 +286,22 @@ fn called_across(library: &[u8], text: &[u8], a: u32, asked: &[u8]) -> bool
 
 // ---- where they stand
 
-// Have both names room for a whole name before the text ends?
+// Is w a plain name that starts where the text has room for a whole one?
+fn has_room(text: &[u8], w: u32) -> bool
+    ensures { λ r. ⌜ r ≡ has-room (length (now (text .entry))) w ⌝ }
+{
+    if w % 256 <= 40 {
+        return (w / 256) as usize + 40 <= text.len();
+    }
+    false
+}
+
+// Are both such names?
 fn have_room(text: &[u8], a: u32, b: u32) -> bool
     ensures { λ r. ⌜ r ≡ have-room (length (now (text .entry))) a b ⌝ }
 {
-    let n = text.len();
-    if (a / 64) as usize + 40 <= n {
-        return (b / 64) as usize + 40 <= n;
+    if has_room(text, a) {
+        return has_room(text, b);
     }
     false
 }
@@ -267,8 +311,8 @@ fn both_behind(text: &[u8], a: u32, b: u32) -> bool
     ensures { λ r. ⌜ r ≡ both-behind (length (now (text .entry))) a b ⌝ }
 {
     let n = text.len();
-    if n <= (a / 64) as usize {
-        return n <= (b / 64) as usize;
+    if n <= (a / 256) as usize {
+        return n <= (b / 256) as usize;
     }
     false
 }
@@ -278,7 +322,7 @@ fn same_elsewhere(library: &[u8], text: &[u8], a: u32, b: u32) -> bool
     ensures { λ r. ⌜ r ≡ same (name-of (joint (now (library .entry)) (now (text .entry))) a) (name-of (joint (now (library .entry)) (now (text .entry))) b) ⌝ }
 {
     if both_behind(text, a, b) {
-        let by = text.len() as u32 * 64;
+        let by = text.len() as u32 * 256;
         return super::same_name(library, a - by, b - by);
     }
     same_across(library, text, a, b)
@@ -293,7 +337,7 @@ fn compare_elsewhere(library: &[u8], text: &[u8], a: u32, b: u32) -> u8
         return 1;
     }
     if both_behind(text, a, b) {
-        let by = text.len() as u32 * 64;
+        let by = text.len() as u32 * 256;
         let c = super::compare_at_once(library, a - by, b - by);
         if c < 3 {
             return c;
@@ -307,10 +351,10 @@ pub fn compare(library: &[u8], text: &[u8], a: u32, b: u32) -> u8
     ensures { λ r. ⌜ r ≡ compared (name-of (joint (now (library .entry)) (now (text .entry))) a) (name-of (joint (now (library .entry)) (now (text .entry))) b) ⌝ }
 {
     if have_room(text, a, b) {
-        let x = (a / 64) as usize;
-        let y = (b / 64) as usize;
-        let n = x + name_room(a);
-        let m = y + name_room(b);
+        let x = (a / 256) as usize;
+        let y = (b / 256) as usize;
+        let n = x + (a % 256) as usize;
+        let m = y + (b % 256) as usize;
         let c = compare_names(&text[x..n], &text[y..m]);
         if c < 3 {
             return c;
@@ -328,10 +372,10 @@ pub fn same_name(library: &[u8], text: &[u8], a: u32, b: u32) -> bool
         return true;
     }
     if have_room(text, a, b) {
-        let x = (a / 64) as usize;
-        let y = (b / 64) as usize;
-        let n = x + name_room(a);
-        let m = y + name_room(b);
+        let x = (a / 256) as usize;
+        let y = (b / 256) as usize;
+        let n = x + (a % 256) as usize;
+        let m = y + (b % 256) as usize;
         return same_bytes(&text[x..n], &text[y..m]);
     }
     same_elsewhere(&library[0..], &text[0..], a, b)
@@ -355,9 +399,29 @@ pub fn is_called(library: &[u8], text: &[u8], a: u32, asked: &[u8]) -> bool
 pub fn same_between(library: &[u8], v: u32, text: &[u8], w: u32) -> bool
     ensures { λ r. ⌜ r ≡ same (name-of (now (text .entry)) w) (name-of (now (library .entry)) v) ⌝ }
 {
-    let n = library.len();
-    let s = lesser((v / 64) as usize, n);
-    let k = lesser(name_room(v), n - s);
-    let e = s + k;
-    is_called_in(text, w, &library[s..e])
+    same_wherever(&text[0..0], text, w, &library[0..0], library, v)
+}
+
+// ---- operators
+
+// Is w an operator's name: does it hold an underline?
+pub fn is_operator(library: &[u8], text: &[u8], w: u32) -> bool
+    ensures { λ r. ⌜ r ≡ is-operator (name-of (joint (now (library .entry)) (now (text .entry))) w) ⌝ }
+{
+    let n = name_size(library, text, w);
+    let mut i = 0;
+    while i < n {
+        if name_byte(library, text, w, i) == b'_' {
+            return true;
+        }
+        i += 1;
+    }
+    false
+}
+
+// Does it begin with one, as an infix operator's does?
+pub fn is_infix(library: &[u8], text: &[u8], w: u32) -> bool
+    ensures { λ r. ⌜ r ≡ is-infix (name-of (joint (now (library .entry)) (now (text .entry))) w) ⌝ }
+{
+    name_byte(library, text, w, 0) == b'_'
 }

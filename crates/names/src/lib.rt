@@ -1,6 +1,6 @@
 // Names of a text: its bytes by place, where an identifier ends, whether two are the same, which of two comes first, and which of two texts does by
-// its bytes.
-// A name is one word: the place where it starts times 64, and its length.
+// its bytes. A name is one word: the place where its token starts times 256, its form (plain, or a prefix or infix operator) times 64, and its
+// token's length.
 pub mod joint;
 
 ghost use mathlib.Core.Path.{_≡_};
@@ -10,7 +10,7 @@ ghost use lib.Dec.{ltb};
 ghost use lib.ListN.{length, getD, drop};
 ghost use Rattle.meaning.specs.Names.{same, is-digit, not-after};
 ghost use Rattle.meaning.specs.Tokens.{is-word, run-end, at-hyphen, at-word};
-ghost use Rattle.names.specs.Word.{name-of};
+ghost use Rattle.names.specs.Word.{are-plain, token-of, name-of};
 ghost use Rattle.runs.specs.Orders.{compared, bytes-compared};
 ghost use Rattle.runs.specs.Runs.{digits-of, by-size, plainly-compared, has-zeros, plain-size, Seen, Decides};
 
@@ -298,30 +298,43 @@ fn lesser(a: usize, b: usize) -> usize
     if a < b { a } else { b }
 }
 
-// Where the name w starts, within the text.
-fn name_start(text: &[u8], w: u32) -> usize
-    ensures { λ r. ⌜ r ≡ min (w / 64) (length (now (text .entry))) ⌝ }
+// Where the token of the name w starts, within the text.
+fn token_start(text: &[u8], w: u32) -> usize
+    ensures { λ r. ⌜ r ≡ min (w / 256) (length (now (text .entry))) ⌝ }
 {
-    lesser((w / 64) as usize, text.len())
+    lesser((w / 256) as usize, text.len())
 }
 
-// How many bytes the name w has.
-fn name_length(text: &[u8], w: u32) -> usize
-    ensures { λ r. ⌜ r ≡ length (name-of (now (text .entry)) w) ⌝ }
+// Past the token of the name w.
+fn token_end(text: &[u8], w: u32) -> usize
+    ensures { λ r. ⌜ r ≡ min (w / 256) (length (now (text .entry))) + length (token-of (now (text .entry)) w) ⌝ }
 {
-    let left = text.len() - name_start(text, w);
-    lesser(lesser((w % 64) as usize, 40), left)
+    let start = token_start(text, w);
+    start + lesser(lesser((w % 64) as usize, 40), text.len() - start)
+}
+
+// Are both names plain? Then each stands in the text as it is.
+fn are_plain(a: u32, b: u32) -> bool
+    ensures { λ r. ⌜ r ≡ are-plain a b ⌝ }
+{
+    if a % 256 < 64 {
+        return b % 256 < 64;
+    }
+    false
 }
 
 // Which of two names comes first, where that is seen at once.
 fn compare_at_once(text: &[u8], a: u32, b: u32) -> u8
     ensures { λ r. ⌜ Seen (name-of (now (text .entry)) a) (name-of (now (text .entry)) b) r ⌝ }
 {
-    let x = name_start(text, a);
-    let y = name_start(text, b);
-    let n = x + name_length(text, a);
-    let m = y + name_length(text, b);
-    compare_names(&text[x..n], &text[y..m])
+    if are_plain(a, b) {
+        let x = token_start(text, a);
+        let y = token_start(text, b);
+        let n = token_end(text, a);
+        let m = token_end(text, b);
+        return compare_names(&text[x..n], &text[y..m]);
+    }
+    3
 }
 
 // 1 if a and b are the same name, 0 if a comes first, 2 if b does: as of two texts, the library being empty.
@@ -345,18 +358,19 @@ pub fn same_name(text: &[u8], a: u32, b: u32) -> bool
     if a == b {
         return true;
     }
-    let x = name_start(text, a);
-    let y = name_start(text, b);
-    let n = x + name_length(text, a);
-    let m = y + name_length(text, b);
-    same_bytes(&text[x..n], &text[y..m])
+    if are_plain(a, b) {
+        let x = token_start(text, a);
+        let y = token_start(text, b);
+        let n = token_end(text, a);
+        let m = token_end(text, b);
+        return same_bytes(&text[x..n], &text[y..m]);
+    }
+    joint::same_across(&text[0..0], text, a, b)
 }
 
 // Has the name a the bytes of `asked`?
 pub fn is_called(text: &[u8], a: u32, asked: &[u8]) -> bool
     ensures { λ r. ⌜ r ≡ same (name-of (now (text .entry)) a) (now (asked .entry)) ⌝ }
 {
-    let start = name_start(text, a);
-    let end = start + name_length(text, a);
-    same_bytes(&text[start..end], asked)
+    joint::is_called(&text[0..0], text, a, asked)
 }

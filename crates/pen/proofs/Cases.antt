@@ -8,14 +8,15 @@ use native.Mathlib.Omega.{arith}
 use borrow.Author.Needs.{needs}
 use borrow.Author.Tests.{lt-ltb, le-ltb}
 use lib.ListN.{length, set, getD, take, drop, drop-of-length-le, length-drop}
-use lib.Seq.{set-out, drop-cons, take-nil, take-length, take-all, drop-append-le, drop-append-add, take-append-add}
+use lib.Seq.{set-out, drop-cons, take-nil, take-length, take-all, drop-append-le, drop-append-add, take-append-le, take-append-add}
 use Rattle.meaning.specs.Lists.{pick}
 use Rattle.meaning.specs.Written.{digits, decimal}
+use Rattle.meaning.specs.Names.{bytes}
 use Rattle.meaning.specs.Numbers.{name-size}
-use Rattle.names.specs.Word.{name-of}
-use Rattle.names.specs.Joint.{joint, name-in-text}
+use Rattle.names.specs.Word.{token-of, name-of, leading, trailing, name-parts}
+use Rattle.names.specs.Joint.{joint}
 use Rattle.pen.specs.Pen.{Pen, pen, places-before, shown, written, part}
-use Rattle.pen.proofs.Laws.{shown-in, shown-before, mark-on, mark-off, written-append}
+use Rattle.pen.proofs.Laws.{shown-in, shown-before, mark-on, mark-off, written-append, then}
 
 module _ (l n : ℕ) where
   pub places-left : n < l → l - n - 1 ≡ l - (n + 1)
@@ -92,36 +93,48 @@ module _ (l : ℕ) (p : Pen) where
 pub text-done : (l : ℕ) (s : List ℕ) (p q : Pen) → q ≡ written l (part s 0 (length s)) p → q ≡ written l s p
 text-done l s p q e = e ∙ ap (λ (x : List ℕ). written l x p) (take-length s)
 
--- a name of the text a and the library b behind it: it starts at w / 64 and may have k bytes
+-- the token of a name of the text a and the library b behind it: it starts at w / 256 and may have k bytes
 module _ (l : ℕ) (a b : List ℕ) (w k : ℕ) (p : Pen) (e : k ≡ min (w % 64) name-size) where
-  module _ (h : w / 64 < length a) (q : Pen) (f : q ≡ written l (part a (w / 64) k) p) where
-    pub name-left : k ≤ length a - w / 64 → q ≡ written l (name-of (joint b a) w) p
-    unfolding name-of
-    name-left z = f ∙ ap (λ (xs : List ℕ). written l xs p) (rw e (sym (name-in-text b a w (omega arith))))
+  module _ (h : w / 256 < length a) (q : Pen) (f : q ≡ written l (part a (w / 256) k) p) where
+    pub token-left : k ≤ length a - w / 256 → q ≡ written l (token-of (joint b a) w) p
+    unfolding token-of joint
+    token-left z =
+        let long : length (drop (w / 256) a) ≡ length a - w / 256 = length-drop (w / 256) a in
+        f ∙ ap (λ (xs : List ℕ). written l xs p)
+        (sym (ap (λ (n : ℕ). take n (drop (w / 256) (a ++ b))) (sym e) ∙ ap (take k) (drop-append-le (w / 256) a b (omega arith))
+        ∙ take-append-le k (drop (w / 256) a) b (omega (arith, long))))
 
-    pub name-over : (r : Pen) → length a - w / 64 < k → r ≡ written l (part b 0 (k - (length a - w / 64))) q → r ≡ written l (name-of (joint b a) w) p
-    unfolding name-of joint
-    name-over r z g =
-        let m = length a - w / 64 in
+    pub token-over : (r : Pen) → length a - w / 256 < k → r ≡ written l (part b 0 (k - (length a - w / 256))) q → r ≡ written l (token-of (joint b a) w) p
+    unfolding token-of joint
+    token-over r z g =
+        let m = length a - w / 256 in
         let size : min (w % 64) name-size ≡ m + (k - m) = omega arith in
-        let long : length (drop (w / 64) a) ≡ m = length-drop (w / 64) a in
-        let front : part a (w / 64) k ≡ drop (w / 64) a = take-all k (drop (w / 64) a) (omega arith) in
+        let long : length (drop (w / 256) a) ≡ m = length-drop (w / 256) a in
+        let front : part a (w / 256) k ≡ drop (w / 256) a = take-all k (drop (w / 256) a) (omega arith) in
         g ∙ ap (written l (take (k - m) b)) (f ∙ ap (λ (xs : List ℕ). written l xs p) front)
-        ∙ sym (written-append l (drop (w / 64) a) (take (k - m) b) p)
+        ∙ sym (written-append l (drop (w / 256) a) (take (k - m) b) p)
         ∙ ap (λ (xs : List ℕ). written l xs p)
-        (sym (ap (λ (n : ℕ). take n (drop (w / 64) (a ++ b))) size ∙ ap (take (m + (k - m))) (drop-append-le (w / 64) a b (omega arith))
-        ∙ ap (λ (n : ℕ). take (n + (k - m)) (drop (w / 64) a ++ b)) (sym long) ∙ take-append-add (drop (w / 64) a) b (k - m)))
+        (sym (ap (λ (n : ℕ). take n (drop (w / 256) (a ++ b))) size ∙ ap (take (m + (k - m))) (drop-append-le (w / 256) a b (omega arith))
+        ∙ ap (λ (n : ℕ). take (n + (k - m)) (drop (w / 256) a ++ b)) (sym long) ∙ take-append-add (drop (w / 256) a) b (k - m)))
 
-  pub name-right : (q : Pen) → length a ≤ w / 64 → q ≡ written l (part b (w / 64 - length a) k) p → q ≡ written l (name-of (joint b a) w) p
-  unfolding name-of joint
-  name-right q h f =
-      let place : w / 64 ≡ length a + (w / 64 - length a) = omega arith in
+  pub token-right : (q : Pen) → length a ≤ w / 256 → q ≡ written l (part b (w / 256 - length a) k) p → q ≡ written l (token-of (joint b a) w) p
+  unfolding token-of joint
+  token-right q h f =
+      let place : w / 256 ≡ length a + (w / 256 - length a) = omega arith in
       f ∙ ap (λ (xs : List ℕ). written l xs p)
-      (ap (λ (n : ℕ). part b (w / 64 - length a) n) e ∙ sym (ap (λ (i : ℕ). take (min (w % 64) name-size) (drop i (a ++ b))) place ∙ ap (take (min (w % 64) name-size)) (drop-append-add a b (w / 64 - length a))))
+      (ap (λ (n : ℕ). part b (w / 256 - length a) n) e ∙ sym (ap (λ (i : ℕ). take (min (w % 64) name-size) (drop i (a ++ b))) place ∙ ap (take (min (w % 64) name-size)) (drop-append-add a b (w / 256 - length a))))
+
+-- the name w of a text: i underlines, its token, j underlines
+pub name-done : (l : ℕ) (text : List ℕ) (w i j : ℕ) (p q r s : Pen) → i ≡ leading w → q ≡ written l (part (bytes "_") 0 i) p → r ≡ written l (token-of text w) q
+    → j ≡ trailing w → s ≡ written l (part (bytes "_") 0 j) r → s ≡ written l (name-of text w) p
+name-done l text w i j p q r s e f g h k =
+    let behind = then l (token-of text w) (take j (bytes "_")) q r s g k in
+    then l (take i (bytes "_")) (token-of text w ++ take j (bytes "_")) p q s f behind
+    ∙ ap (λ (xs : List ℕ). written l xs p) (rw (e, h) (sym (name-parts text w)))
 
 pub number-done : (l n : ℕ) (p q : Pen) → q ≡ written l (digits 10 n) p → q ≡ written l (decimal n) p
 unfolding decimal
 number-done l n p q e = e
 
 -- what the answers of this crate hand to `search`
-pub ruleset cases = (places-left, no-places, show-in, show-past, show-before, put-in, put-full, copy-start, copy-again, copy-end, copy-past, digits-none, digits-one, digits-more, text-done, name-left, name-over, name-right, number-done, needs)
+pub ruleset cases = (places-left, no-places, show-in, show-past, show-before, put-in, put-full, copy-start, copy-again, copy-end, copy-past, digits-none, digits-one, digits-more, text-done, token-left, token-over, token-right, name-done, number-done, needs)

@@ -1,11 +1,13 @@
 // Bytes written to lent output. The same calls count and write: lent no output, they only move the place; lent less than the limit asks,
 // they write the part that ends one before it.
-use names::joint::name_room;
+use names::joint::leading;
+use names::joint::token_room;
+use names::joint::trailing;
 ghost use mathlib.Core.Path.{_≡_};
 ghost use mathlib.Core.List.{[], _∷_};
 ghost use Prim.Native.Nat.{_+_, _-_};
 ghost use Rattle.meaning.specs.Written.{digits, decimal, numbered};
-ghost use Rattle.names.specs.Word.{name-of};
+ghost use Rattle.names.specs.Word.{token-of, name-of};
 ghost use Rattle.names.specs.Joint.{joint};
 ghost use Rattle.pen.specs.Pen.{shown, pen, written, part};
 
@@ -75,7 +77,25 @@ pub fn put_text(out: &mut [u8], at: usize, limit: usize, text: &[u8]) -> usize
     put_bytes(out, at, limit, text, 0, text.len())
 }
 
-// The name w of the text and the library behind it; a word that reaches over the seam is written from both.
+// The token of the name w of the text and the library behind it; a word that reaches over the seam is written from both.
+fn put_token(out: &mut [u8], at: usize, limit: usize, library: &[u8], text: &[u8], w: u32) -> usize
+    ensures { λ r. ⌜ pen r (now (out .exit)) ≡ written limit (token-of (joint (now (library .entry)) (now (text .entry))) w) (pen at (now (out .entry))) ⌝ }
+{
+    let n = text.len();
+    let start = (w / 256) as usize;
+    let size = token_room(w);
+    if start < n {
+        let there = put_bytes(out, at, limit, text, start, size);
+        let left = n - start;
+        if left < size {
+            return put_bytes(out, there, limit, library, 0, size - left);
+        }
+        return there;
+    }
+    put_bytes(out, at, limit, library, start - n, size)
+}
+
+// The name w, with the underlines of an operator.
 pub fn put_name(
     out: &mut [u8],
     at: usize,
@@ -86,18 +106,9 @@ pub fn put_name(
 ) -> usize
     ensures { λ r. ⌜ pen r (now (out .exit)) ≡ written limit (name-of (joint (now (library .entry)) (now (text .entry))) w) (pen at (now (out .entry))) ⌝ }
 {
-    let n = text.len();
-    let start = (w / 64) as usize;
-    let size = name_room(w);
-    if start < n {
-        let there = put_bytes(out, at, limit, text, start, size);
-        let left = n - start;
-        if left < size {
-            return put_bytes(out, there, limit, library, 0, size - left);
-        }
-        return there;
-    }
-    put_bytes(out, at, limit, library, start - n, size)
+    let a = put_bytes(out, at, limit, b"_", 0, leading(w));
+    let b = put_token(out, a, limit, library, text, w);
+    put_bytes(out, b, limit, b"_", 0, trailing(w))
 }
 
 // The digits of n, `size` of them at most.

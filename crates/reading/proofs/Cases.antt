@@ -22,7 +22,7 @@ use Rattle.entries.specs.declared.Place.{Place}
 use Rattle.entries.specs.declared.Reading.{Reading}
 use Rattle.entries.specs.declared.Reading.the-variants.{Done, Refused}
 use Rattle.entries.specs.Model.{Out, out, place, Writer, onward, stay, refuse, unexpected, if-next, too-many, declares, taken, name, fresh-name, a-module, modules, wiped, read}
-use Rattle.entries.specs.Steps.{still, next-passes, next-word, twice}
+use Rattle.entries.specs.Steps.{still, next-passes, next-in, twice}
 use Rattle.entries.proofs.Laws.{then, quietly, stays, next-yes, next-no, refuse-quiet, unexpected-quiet}
 use Rattle.entries.proofs.Cases.{refused-onward}
 use Rattle.entries.proofs.Lists.{Comes, begins-loop}
@@ -76,9 +76,9 @@ twice-done r a p z e h = rw e h
 decides : Bool → Bool → Place → Writer
 decides b d p q x = pick b (refuse 5 p x) (pick d (refuse 5 p x) (out (Done q) x))
 
-module _ (s : List ℕ) (ns : List Name) (r : Reading) (p : Place) (e : r ≡ Done p) (t : List ℕ) (w : ℕ) (g : w ≡ next-word (Done p)) (b : Bool) (f : b ≡ taken s w (p .entries) t) (d : Bool) (l : d ≡ member (name-of s w) ns) (a : Reading) (u : List ℕ) (h : out a u ≡ onward (Done p) t (name s 1)) where
+module _ (s : List ℕ) (ns : List Name) (r : Reading) (p : Place) (e : r ≡ Done p) (t : List ℕ) (w : ℕ) (g : w ≡ next-in 0 (Done p)) (b : Bool) (f : b ≡ taken s w (p .entries) t) (d : Bool) (l : d ≡ member (name-of s w) ns) (a : Reading) (u : List ℕ) (h : out a u ≡ onward (Done p) t (name s 1)) where
   fresh-any : onward r t (fresh-name s ns) ≡ onward a u (decides b d p)
-  unfolding onward next-word fresh-name decides
+  unfolding onward next-in fresh-name decides
   fresh-any = rw (e, ← h, f, l, g)
 
   pub fresh-twice : (z : Reading) → b ≡ true → z ≡ twice (Done p) a → out z u ≡ onward r t (fresh-name s ns)

@@ -1,9 +1,10 @@
 -- The tape: what a text says as entries in text order, the syntax tree laid flat. An entry says what stands there and has a name, or none.
-use Prim.Native.Nat.{ℕ, _/_, _%_}
+use Prim.Native.Nat.{ℕ, zero, suc, _/_, _%_}
 use mathlib.Core.List.{List, [], _∷_, _++_, map}
+use lib.Dec.{eqb}
 use lib.ListN.{take}
-use Rattle.meaning.specs.Lists.{each}
-use Rattle.meaning.specs.Names.{Name}
+use Rattle.meaning.specs.Lists.{pick, each}
+use Rattle.meaning.specs.Names.{Name, is-operator}
 use Rattle.meaning.specs.Syntax.{Function, Signature, Parameter, Pair, Clause, renamed-by, bound-by, Import, VariableGroup, Term, node, Terms, no-terms, _then_, Sides, Equation, Module}
 use Rattle.names.specs.Word.{name-of}
 
@@ -96,6 +97,13 @@ condition-role = 23
 abbrev pub conclusion-role : ℕ
 conclusion-role = 24
 
+-- in a term: an operator with its one argument, or its two, which follow; nothing closes them, so that there are no more entries than tokens
+abbrev pub prefix-role : ℕ
+prefix-role = 25
+
+abbrev pub infix-role : ℕ
+infix-role = 26
+
 -- ---- the syntax laid flat
 
 unfoldable pub flat-function : ℕ → Function → List Entry
@@ -120,14 +128,26 @@ flat-import i = entry import-role (i .name) ∷ each flat-clause (i .clauses)
 unfoldable pub flat-group : VariableGroup → List Entry
 flat-group g = map (entry variable-role) (g .names) ++ (entry variable-sort (g .sort) ∷ [])
 
--- a name and the entries of its arguments
-unfoldable pub flat-node : Name → List Entry → List Entry
-flat-node f [] = entry alone-role f ∷ []
-flat-node f (e ∷ es) = entry head-role f ∷ ((e ∷ es) ++ (entry close-role [] ∷ []))
+-- the role of a name with n arguments
+unfoldable pub role-with : Name → ℕ → ℕ
+role-with f n = pick (is-operator f) (pick (eqb n 1) prefix-role (pick (eqb n 2) infix-role head-role)) head-role
+
+-- what closes them
+unfoldable pub closing : ℕ → List Entry
+closing role = pick (eqb role head-role) (entry close-role [] ∷ []) []
+
+-- a name and the entries of its n arguments
+unfoldable pub flat-node : Name → ℕ → List Entry → List Entry
+flat-node f zero es = entry alone-role f ∷ []
+flat-node f (suc n) es = entry (role-with f (suc n)) f ∷ (es ++ closing (role-with f (suc n)))
+
+unfoldable pub how-many : Terms → ℕ
+how-many no-terms = 0
+how-many (t then ts) = suc (how-many ts)
 
 unfoldable mutual
   pub flat-term : Term → List Entry
-  flat-term (node f ts) = flat-node f (flat-terms ts)
+  flat-term (node f ts) = flat-node f (how-many ts) (flat-terms ts)
 
   pub flat-terms : Terms → List Entry
   flat-terms no-terms = []
@@ -165,5 +185,5 @@ entries text n tape = map (spelled text) (take n tape)
 
 -- opens every definition of this file
 unfoldable pub tape-opened : Unit {0}
-unfolding flat-function flat-signature flat-parameter flat-pair flat-clause flat-import flat-group flat-node flat-term flat-terms flat-sides flat-equation flat-module flat-modules spelled entries
+unfolding flat-function flat-signature flat-parameter flat-pair flat-clause flat-import flat-group role-with closing flat-node how-many flat-term flat-terms flat-sides flat-equation flat-module flat-modules spelled entries
 tape-opened = tt

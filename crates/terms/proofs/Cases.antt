@@ -1,23 +1,27 @@
 -- The cases of terms, one for each way through the code: f, q and u come of callees.
-use mathlib.Core.Path.{_≡_, refl}
+use mathlib.Core.Path.{_≡_, refl, ap, _∙_}
 use mathlib.Core.Bool.{Bool, true, false}
-use mathlib.Core.List.{List}
+use mathlib.Core.List.{List, []}
 use Prim.Native.Nat.{ℕ, zero, suc, _+_, _-_, _<_, _≤_}
 use native.Mathlib.Numerals.{sub-one, add-one}
+use native.Mathlib.Omega.{arith}
+use lib.Dec.{leb}
+use lib.ListN.{length, getD, set, length-set}
 use borrow.Author.Needs.{needs}
-use borrow.Author.Tests.{eq-eqb, ne-eqb, le-leb, lt-leb}
+use borrow.Author.Tests.{eq-eqb, ne-eqb, le-leb, lt-leb, le-ltb, lt-ltb}
 use Rattle.types.specs.declared.Token.{Token}
 use Rattle.meaning.specs.Lists.{pick}
 use Rattle.meaning.specs.Tokens.{token-at}
 use Rattle.meaning.specs.Grammar.{is, begins-term}
 use Rattle.entries.specs.declared.Place.{Place}
 use Rattle.entries.specs.declared.Reading.{Reading}
-use Rattle.entries.specs.declared.Reading.the-variants.{Done}
+use Rattle.entries.specs.declared.Reading.the-variants.{Done, Refused}
 use Rattle.tape.specs.Tape.{close-role}
-use Rattle.entries.specs.Model.{Out, out, place, Writer, onward, _>>_, stay, refuse, if-next, mark, expect, name, node-role, counted-name, term-name, term-by, in-brackets, separated, term, no-nodes}
-use Rattle.entries.specs.Steps.{still, Quiet, next-passes}
-use Rattle.entries.proofs.Laws.{then, then-still, quietly, stays, next-yes, next-no, refuse-quiet, expect-quiet}
-use Rattle.entries.proofs.Cases.{refused-onward, refused-still}
+use Rattle.entries.specs.Model.{Out, out, place, Writer, onward, _>>_, stay, refuse, unexpected, if-next, mark, pushed, inserted, with-entries, no-nodes, counted, expect, name, separated, many, node-role, term-name, primary-by, prefixed, joins, operand, operands, term-by, in-brackets, primary, term}
+use Rattle.entries.specs.Steps.{still, Quiet, next-passes, next-role, entries-of}
+use Rattle.entries.proofs.Laws.{laws, then, then-still, quietly, stays, next-yes, next-no, refuse-quiet, expect-quiet}
+use Rattle.entries.proofs.Cases.{refused-onward, refused-still, short-yes, short-no, word-times, word-plus}
+use Rattle.entries.proofs.Lists.{Comes, many-again}
 
 -- what a name is, by the token after it
 module _ (s : List ℕ) (t u : Token) (g : u ≡ token-at s (t .end)) where
@@ -29,15 +33,123 @@ module _ (s : List ℕ) (t u : Token) (g : u ≡ token-at s (t .end)) where
   unfolding node-role pick
   role-alone k = rw (← g, ne-eqb (u .kind) 40 k)
 
--- a name that is counted
-module _ (s : List ℕ) (r : Reading) (p : Place) (e : r ≡ Done p) (t : List ℕ) where
-  pub counted-full : (q : Reading) → 64 ≤ p .nodes → q ≡ still (refuse 4) (Done p) → out q t ≡ onward r t (counted-name s)
-  unfolding onward counted-name pick
-  counted-full q h g = rw (e, le-leb 64 (p .nodes) h) (quietly (Done p) q t (refuse 4) (refuse-quiet 4) g)
+-- what the name that is next is
+pub role-none : (s : List ℕ) (r : Reading) (k q : ℕ) → r ≡ Refused k q → 20 ≡ next-role s r
+unfolding next-role
+role-none s r k q e = rw e
 
-  pub counted-more : (role : ℕ) (q : Reading) (u : List ℕ) → p .nodes < 64 → role ≡ node-role s (p .token) → out q u ≡ onward (Done (place (p .token) (p .nodes + 1) (p .entries))) t (name s role) → out q u ≡ onward r t (counted-name s)
-  unfolding onward counted-name pick
-  counted-more role q u h g w = rw (e, lt-leb 64 (p .nodes) h, ← g, ← add-one (p .nodes)) w
+pub role-next : (s : List ℕ) (r : Reading) (p : Place) (n : ℕ) → r ≡ Done p → n ≡ node-role s (p .token) → n ≡ next-role s r
+unfolding next-role
+role-next s r p n e h = rw (e, h)
+
+-- how many entries there are
+pub entries-none : (r : Reading) (k q : ℕ) → r ≡ Refused k q → 0 ≡ entries-of r
+unfolding entries-of
+entries-none r k q e = rw e
+
+pub entries-some : (r : Reading) (p : Place) → r ≡ Done p → p .entries ≡ entries-of r
+unfolding entries-of
+entries-some r p e = rw e
+
+-- one node more
+module _ (r : Reading) (p : Place) (e : r ≡ Done p) where
+  pub counted-full : (q : Reading) → 64 ≤ p .nodes → q ≡ still (refuse 4) (Done p) → q ≡ still (counted stay) r
+  unfolding still onward counted pick
+  counted-full q h g = rw e (g ∙ ap (λ (o : Out). o .answer) go)
+    where
+      go : refuse 4 p [] ≡ counted stay p []
+      go = rw (le-leb 64 (p .nodes) h)
+
+  pub counted-more : p .nodes < 64 → Done (place (p .token) (p .nodes + 1) (p .entries)) ≡ still (counted stay) r
+  unfolding still onward counted stay pick
+  counted-more h = rw e (ap (λ (o : Out). o .answer) go)
+    where
+      go : out (Done (place (p .token) (p .nodes + 1) (p .entries))) [] ≡ counted stay p []
+      go = rw (lt-leb 64 (p .nodes) h, ← add-one (p .nodes))
+
+-- what is read after a node is counted: c comes of counting
+pub counted-then : (r c : Reading) (t : List ℕ) (o : Out) (f : Writer) → c ≡ still (counted stay) r → o ≡ onward c t f → o ≡ onward r t (counted f)
+unfolding still onward counted stay refuse pick
+counted-then (Refused k q) c t o f e h = rw e at h
+counted-then (Done p) c t o f e h = (rw e at h) ∙ go (leb 64 (p .nodes))
+  where
+    more : Place
+    more = place (p .token) (suc (p .nodes)) (p .entries)
+
+    go : (b : Bool) → onward (pick b (refuse 4 p []) (stay more []) .answer) t f ≡ pick b (refuse 4 p t) (f more t)
+    go true = refl
+    go false = refl
+
+-- counting leaves the token
+pub counted-same : (test : ℕ → Bool) (f g : Writer) (r c : Reading) (b : Bool) (t : List ℕ) (o : Out)
+    → b ≡ next-passes test r → b ≡ true → c ≡ still (counted stay) r → o ≡ onward c t f → o ≡ onward c t (if-next test f g)
+unfolding still onward next-passes if-next counted stay refuse pick
+counted-same test f g (Refused k q) c b t o e y n h = rw n (rw n at h)
+counted-same test f g (Done p) c b t o e y n h = rw n (go (leb 64 (p .nodes)) (rw n at h))
+  where
+    more : Place
+    more = place (p .token) (suc (p .nodes)) (p .entries)
+
+    go : (d : Bool) → o ≡ onward (pick d (refuse 4 p []) (stay more []) .answer) t f
+        → o ≡ onward (pick d (refuse 4 p []) (stay more []) .answer) t (if-next test f g)
+    go true h = h
+    go false h = rw (← e, y) h
+
+-- a name in a term
+module _ (s : List ℕ) (r : Reading) (b : Bool) (e : b ≡ next-passes (is 1) r) (t : List ℕ) (o : Out) where
+  pub name-counted : (role : ℕ) (c : Reading) → b ≡ true → role ≡ next-role s r → c ≡ still (counted stay) r
+      → o ≡ onward c t (name s role) → o ≡ onward r t (term-name s)
+  unfolding term-name onward next-role still
+  name-counted role c y g n h = next-yes (is 1) (λ p t. counted (name s (node-role s (p .token))) p t) unexpected r b e t o y (go r g n)
+    where
+      go : (r : Reading) → role ≡ next-role s r → c ≡ still (counted stay) r → o ≡ onward r t (λ p t. counted (name s (node-role s (p .token))) p t)
+      go (Refused k q) g n = rw n at h
+      go (Done p) g n = counted-then (Done p) c t o (name s (node-role s (p .token))) n (rw g at h)
+
+  pub name-bad : b ≡ false → o ≡ onward r t unexpected → o ≡ onward r t (term-name s)
+  unfolding term-name
+  name-bad y h = next-no (is 1) (λ p t. counted (name s (node-role s (p .token))) p t) unexpected r b e t o y h
+
+-- ---- a word more, before others
+
+-- the words to be pushed at first come to those to be pushed now
+pub record Pushes (end i w : ℕ) (t₀ : List ℕ) (at carried : ℕ) (t : List ℕ) : Type 0 where
+  pub sized : length t ≡ length t₀
+  pub comes : pushed (end - at) at carried t ≡ pushed (end - i) i w t₀
+
+pub push-begins : (end i w : ℕ) (t : List ℕ) → Pushes end i w t i w t
+push-begins end i w t = record { sized = refl; comes = refl }
+
+module _ (end i w : ℕ) (t₀ : List ℕ) (at carried : ℕ) (t : List ℕ) (v : Pushes end i w t₀ at carried t) where
+  pub push-again : (u : List ℕ) → at < end → u ≡ set t at carried → Pushes end i w t₀ (at + 1) (getD t at 0) u
+  unfolding pushed
+  push-again u h e = record { sized = rw (e, length-set) (v .sized); comes = rw (e, add-one) go ∙ v .comes }
+    where
+      left : end - at ≡ suc (end - suc at)
+      left = omega arith
+
+      go : pushed (end - suc at) (suc at) (getD t at 0) (set t at carried) ≡ pushed (end - at) at carried t
+      go = rw left
+
+  pub push-ends : end ≤ at → t ≡ pushed (end - i) i w t₀
+  unfolding pushed
+  push-ends h = go ∙ v .comes
+    where
+      none : end - at ≡ 0
+      none = omega arith
+
+      go : t ≡ pushed (end - at) at carried t
+      go = rw none
+
+module _ (r : Reading) (p : Place) (e : r ≡ Done p) (start w : ℕ) (t : List ℕ) where
+  pub inserted-in : (u : List ℕ) → p .entries < length t → u ≡ pushed (p .entries + 1 - start) start w t
+      → out (Done (place (p .token) (p .nodes) (p .entries + 1))) u ≡ onward r t (inserted start w)
+  unfolding onward inserted pick
+  inserted-in u h g = rw (e, lt-ltb (p .entries) (length t) h, g)
+
+  pub inserted-out : length t ≤ p .entries → out (Done p) t ≡ onward r t (inserted start w)
+  unfolding onward inserted pick
+  inserted-out h = rw (e, le-ltb (p .entries) (length t) h)
 
 -- an equation begins with no node
 pub nodes-none : (r : Reading) (p : Place) → r ≡ Done p → Done (place (p .token) 0 (p .entries)) ≡ still no-nodes r
@@ -55,6 +167,34 @@ bracketed s r a q c t u w g h k =
     then-still r a t (out c u) (expect s 40) (w >> expect s 41) (expect-quiet s 40) g
     (then a q t u (out c u) w (expect s 41) h (quietly q c u (expect s 41) (expect-quiet s 41) k))
 
+-- ---- terms
+
+-- a rule that remembers how many entries there are
+remembers-entries : (r : Reading) (t : List ℕ) (o : Out) (n : ℕ) (f : ℕ → Writer) → n ≡ entries-of r → o ≡ onward r t (f n) → o ≡ onward r t (with-entries f)
+unfolding onward entries-of with-entries
+remembers-entries (Refused k p) t o n f e h = h
+remembers-entries (Done p) t o n f e h = rw e at h
+
+module _ (s : List ℕ) (d n : ℕ) (r q : Reading) (t u : List ℕ) where
+  -- q and u come of the prefix operator, a and v of the first primary
+  pub term-read : (o : Out) (a : Reading) (v : List ℕ) → n ≡ entries-of r → out q u ≡ onward r t (prefixed s) → out a v ≡ onward q u (primary s d)
+      → o ≡ onward a v (operands s n (primary s d)) → o ≡ onward r t (term s d)
+  unfolding term term-by
+  term-read o a v e g h k =
+      let rest : ℕ → Writer = λ m. operands s m (primary s d) in
+      remembers-entries r t o n (λ m. prefixed s >> (primary s d >> rest m)) e
+      (then r q t u o (prefixed s) (primary s d >> rest n) g (then q a u v o (primary s d) (rest n) h k))
+
+  -- one turn: q and u come of joining, a and v of the primary behind the operator
+  pub term-again : (w : Writer) (r₀ : Reading) (t₀ : List ℕ) (l : ℕ) (b : Bool) (a : Reading) (v : List ℕ)
+      → Comes w (many s l (is 5) (operand s n (primary s d))) r₀ t₀ r t → b ≡ next-passes (is 5) r → 0 < l → b ≡ true
+      → out q u ≡ onward r t (joins s n) → out a v ≡ onward q u (primary s d) → length u ≡ length t → length v ≡ length u
+      → Comes w (many s (l - 1) (is 5) (operand s n (primary s d))) r₀ t₀ a v
+  unfolding operand
+  term-again w r₀ t₀ l b a v c e z y g h i j =
+      many-again w r₀ t₀ s l (is 5) (operand s n (primary s d)) r t c b e a v z y
+      (then r q t u (out a v) (joins s n) (primary s d) g h) (j ∙ i)
+
 -- what begins at an open bracket, where d more may be open: arguments, or a bracketed term
 arguments-in : List ℕ → ℕ → Writer
 arguments-in s zero = refuse 4
@@ -64,24 +204,24 @@ bracketed-in : List ℕ → ℕ → Writer
 bracketed-in s zero = refuse 4
 bracketed-in s (suc d) = in-brackets s (term s d)
 
-term-any : (s : List ℕ) (d : ℕ) → term s d ≡ term-by s (arguments-in s d) (bracketed-in s d)
-unfolding term arguments-in bracketed-in
-term-any s zero = refl
-term-any s (suc d) = refl
+primary-any : (s : List ℕ) (d : ℕ) → primary s d ≡ primary-by s (arguments-in s d) (bracketed-in s d)
+unfolding primary term arguments-in bracketed-in
+primary-any s zero = refl
+primary-any s (suc d) = refl
 
 module _ (s : List ℕ) (d : ℕ) (r : Reading) (t : List ℕ) (b : Bool) (e : b ≡ next-passes (is 40) r) where
   -- an open bracket
-  term-bracket : (o : Out) → b ≡ true → o ≡ onward r t (bracketed-in s d) → o ≡ onward r t (term s d)
-  unfolding term-by
-  term-bracket o y h = rw (term-any s d) (next-yes (is 40) (bracketed-in s d) (term-name s >> if-next (is 40) (arguments-in s d) stay) r b e t o y h)
+  primary-bracket : (o : Out) → b ≡ true → o ≡ onward r t (bracketed-in s d) → o ≡ onward r t (primary s d)
+  unfolding primary-by
+  primary-bracket o y h = rw (primary-any s d) (next-yes (is 40) (bracketed-in s d) (term-name s >> if-next (is 40) (arguments-in s d) stay) r b e t o y h)
 
-  pub term-deep : (q : Reading) → b ≡ true → d ≡ 0 → q ≡ still (refuse 4) r → out q t ≡ onward r t (term s d)
+  pub primary-deep : (q : Reading) → b ≡ true → d ≡ 0 → q ≡ still (refuse 4) r → out q t ≡ onward r t (primary s d)
   unfolding bracketed-in
-  term-deep q y z h = term-bracket (out q t) y (rw z (quietly r q t (refuse 4) (refuse-quiet 4) h))
+  primary-deep q y z h = primary-bracket (out q t) y (rw z (quietly r q t (refuse 4) (refuse-quiet 4) h))
 
-  pub term-inner : (a q c : Reading) (u : List ℕ) → b ≡ true → (d ≡ 0 → ⊥) → a ≡ still (expect s 40) r → out q u ≡ onward a t (term s (d - 1)) → c ≡ still (expect s 41) q → out c u ≡ onward r t (term s d)
+  pub primary-inner : (a q c : Reading) (u : List ℕ) → b ≡ true → (d ≡ 0 → ⊥) → a ≡ still (expect s 40) r → out q u ≡ onward a t (term s (d - 1)) → c ≡ still (expect s 41) q → out c u ≡ onward r t (primary s d)
   unfolding bracketed-in
-  term-inner a q c u y z g h k = term-bracket (out c u) y (go d z h)
+  primary-inner a q c u y z g h k = primary-bracket (out c u) y (go d z h)
     where
       go : (d : ℕ) → (d ≡ 0 → ⊥) → out q u ≡ onward a t (term s (d - 1)) → out c u ≡ onward r t (bracketed-in s d)
       go zero z h = absurd (z refl)
@@ -89,27 +229,27 @@ module _ (s : List ℕ) (d : ℕ) (r : Reading) (t : List ℕ) (b : Bool) (e : b
 
   -- a name: f and v come of it
   module _ (n : b ≡ false) (f : Reading) (v : List ℕ) (h : out f v ≡ onward r t (term-name s)) (c : Bool) (k : c ≡ next-passes (is 40) f) where
-    term-named : (o : Out) → o ≡ onward f v (if-next (is 40) (arguments-in s d) stay) → o ≡ onward r t (term s d)
-    unfolding term-by
-    term-named o g =
+    primary-named : (o : Out) → o ≡ onward f v (if-next (is 40) (arguments-in s d) stay) → o ≡ onward r t (primary s d)
+    unfolding primary-by
+    primary-named o g =
         let rest = if-next (is 40) (arguments-in s d) stay in
-        rw (term-any s d)
+        rw (primary-any s d)
         (next-no (is 40) (bracketed-in s d) (term-name s >> rest) r b e t o n (then r f t v o (term-name s) rest h g))
 
-    pub term-alone : c ≡ false → out f v ≡ onward r t (term s d)
-    term-alone y = term-named (out f v) (next-no (is 40) (arguments-in s d) stay f c k v (out f v) y (stays f v))
+    pub primary-alone : c ≡ false → out f v ≡ onward r t (primary s d)
+    primary-alone y = primary-named (out f v) (next-no (is 40) (arguments-in s d) stay f c k v (out f v) y (stays f v))
 
-    pub term-deep-too : (q : Reading) → c ≡ true → d ≡ 0 → q ≡ still (refuse 4) f → out q v ≡ onward r t (term s d)
+    pub primary-deep-too : (q : Reading) → c ≡ true → d ≡ 0 → q ≡ still (refuse 4) f → out q v ≡ onward r t (primary s d)
     unfolding arguments-in
-    term-deep-too q y z g =
-        term-named (out q v)
+    primary-deep-too q y z g =
+        primary-named (out q v)
         (next-yes (is 40) (arguments-in s d) stay f c k v (out q v) y (rw z (quietly f q v (refuse 4) (refuse-quiet 4) g)))
 
-    pub term-applied : (a q i : Reading) (u : List ℕ) (o : Out) → c ≡ true → (d ≡ 0 → ⊥) → a ≡ still (expect s 40) f
+    pub primary-applied : (a q i : Reading) (u : List ℕ) (o : Out) → c ≡ true → (d ≡ 0 → ⊥) → a ≡ still (expect s 40) f
         → out q u ≡ onward a v (separated s 8 44 begins-term (term s (d - 1))) → i ≡ still (expect s 41) q → o ≡ onward i u (mark 22)
-        → o ≡ onward r t (term s d)
+        → o ≡ onward r t (primary s d)
     unfolding arguments-in
-    term-applied a q i u o y z g w j m = term-named o (next-yes (is 40) (arguments-in s d) stay f c k v o y (go d z w))
+    primary-applied a q i u o y z g w j m = primary-named o (next-yes (is 40) (arguments-in s d) stay f c k v o y (go d z w))
       where
         go : (d : ℕ) → (d ≡ 0 → ⊥) → out q u ≡ onward a v (separated s 8 44 begins-term (term s (d - 1))) → o ≡ onward f v (arguments-in s d)
         go zero z w = absurd (z refl)
@@ -117,4 +257,7 @@ module _ (s : List ℕ) (d : ℕ) (r : Reading) (t : List ℕ) (b : Bool) (e : b
             let items = separated s 8 44 begins-term (term s d) in
             then f i v u o (in-brackets s items) (mark close-role) (bracketed s f a q i v u items g (rw sub-one at w) j) m
 
-pub ruleset cases = (nodes-none, nodes-quiet, refused-still, role-head, role-alone, counted-full, counted-more, refused-onward, term-deep, term-inner, term-alone, term-deep-too, term-applied, needs)
+-- what a name or an operator in a term hands to `search`, and what the rest does
+pub ruleset nodes = (counted-then, counted-same, name-counted, name-bad, short-yes, short-no, word-times, word-plus, laws, needs)
+
+pub ruleset cases = (nodes-none, nodes-quiet, refused-still, role-head, role-alone, role-none, role-next, entries-none, entries-some, counted-full, counted-more, push-begins, push-again, push-ends, inserted-in, inserted-out, refused-onward, term-read, primary-deep, primary-inner, primary-alone, primary-deep-too, primary-applied, needs)

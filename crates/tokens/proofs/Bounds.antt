@@ -6,17 +6,23 @@ use Prim.Native.Nat.{ℕ, zero, suc, _+_, _-_, _<_, _≤_}
 use native.Mathlib.Omega.{arith}
 use lib.Dec.{eqb, ltb}
 use lib.ListN.{length, getD, drop, List·getD-eq-default}
-use borrow.Author.Tests.{ltb-true, ltb-false, eqb-true}
+use borrow.Author.Tests.{ltb-true, ltb-false}
 use Rattle.types.specs.declared.Token.{Token}
 use Rattle.meaning.specs.Lists.{pick}
-use Rattle.meaning.specs.Names.{bytes}
+use Rattle.meaning.specs.Names.{bytes, slice}
 use Rattle.meaning.specs.Laws.{by-cases}
-use Rattle.meaning.specs.Tokens.{is-in, is-newline, is-mark, is-word, run-end, at-layout, at-hyphen, at-equals, at-word, at-dashes, in-comment}
-use Rattle.meaning.specs.Tokens.{opens, comment-end, skip, equals-at, word-at, start-at, token-at}
-use Rattle.names.proofs.Runs.{run-stop, run-from, run-to, run-fails, front, second, word-on}
+use Rattle.meaning.specs.Tokens.{is-in, is-newline, is-mark, is-symbol, is-word, run-end, at-layout, at-hyphen, at-equals, at-symbol, at-word}
+use Rattle.meaning.specs.Tokens.{at-dashes, in-comment, opens, comment-end, skip, token, no-token}
+use Rattle.meaning.specs.Tokens.{equals-at, word-kind, word-at, symbols-at, dotted-at, start-at, token-at}
+use Rattle.tokens.proofs.Cases.{differs}
+use Rattle.names.proofs.Runs.{run-on, run-stop, run-from, run-to, run-fails, front, second, word-on}
 
 -- what is left of two tests
-and-second : (a b : Bool) → (a && b) ≡ true → b ≡ true
+and-first : (a b : Bool) → (a && b) ≡ true → a ≡ true
+and-first true b e = refl
+and-first false b e = e
+
+pub and-second : (a b : Bool) → (a && b) ≡ true → b ≡ true
 and-second true b e = e
 and-second false b e = absurd (false≢true e)
 
@@ -91,6 +97,9 @@ record Lies (s : List ℕ) (i : ℕ) (t : Token) : Type 0 where
   within : i ≤ length s → t .end ≤ length s
   filled : (t .kind ≡ 0 → ⊥) → (t .kind ≡ 4 → ⊥) → t .start < t .end
 
+none-lies : (s : List ℕ) (i : ℕ) → Lies s i (token no-token i i)
+none-lies s i = record { starts = refl; forward = omega arith; within = λ h. h; filled = λ a b. absurd (b refl) }
+
 equals-lies : (s : List ℕ) (i : ℕ) → i < length s → Lies s i (equals-at s i)
 unfolding equals-at is-in
 equals-lies s i l =
@@ -101,18 +110,10 @@ equals-lies s i l =
     record { starts = refl; forward = omega (arith, f); within = λ h. omega (arith, m); filled = λ a b. omega (arith, f) })
     (λ e. record { starts = refl; forward = omega arith; within = λ h. omega arith; filled = λ a b. omega arith })
 
--- no hyphen is a word's byte
-no-hyphen : (b : ℕ) → is-word b ≡ true → eqb b 45 ≡ false
-unfolding is-word pick
-no-hyphen b w = go (eqb b 45) refl
-  where
-    go : (t : Bool) → eqb b 45 ≡ t → t ≡ false
-    go false e = refl
-    go true e = absurd (false≢true (rw (eqb-true b 45 e) at w))
-
 word-filled : (s : List ℕ) (i : ℕ) → i < length s → is-word (getD s i 0) ≡ true → i < run-end at-word s i
+unfolding is-word pick
 word-filled s i l w =
-    let none : run-end at-hyphen s i ≡ i = run-stop at-hyphen s i l (rw front (no-hyphen (getD s i 0) w)) in
+    let none : run-end at-hyphen s i ≡ i = run-stop at-hyphen s i l (rw front (differs is-word (getD s i 0) 45 w refl)) in
     omega (arith, word-on s i i (getD s i 0) (sym none) refl w, run-from at-word s (i + 1) (run-end at-word s (i + 1)) refl)
 
 word-lies : (s : List ℕ) (i : ℕ) → i < length s → is-word (getD s i 0) ≡ true → Lies s i (word-at s i)
@@ -120,6 +121,26 @@ unfolding word-at
 word-lies s i l w =
     let e = run-end at-word s i in
     record { starts = refl; forward = run-from at-word s i e refl; within = run-to at-word s i e refl; filled = λ a b. word-filled s i l w }
+
+-- a run of symbols has its first
+symbols-lies : (s : List ℕ) (i : ℕ) → i < length s → is-symbol (getD s i 0) ≡ true → Lies s i (symbols-at s i)
+unfolding symbols-at
+symbols-lies s i l m =
+    let e = run-end at-symbol s i in
+    let f = run-from at-symbol s (i + 1) (run-end at-symbol s (i + 1)) refl in
+    let more : i < e = omega (arith, run-on at-symbol s i l (rw front m), f) in
+    record { starts = refl; forward = run-from at-symbol s i e refl; within = run-to at-symbol s i e refl; filled = λ a b. more }
+
+-- the second dot is within the text
+dotted-lies : (s : List ℕ) (i : ℕ) → Lies s i (dotted-at s i)
+unfolding dotted-at word-at
+dotted-lies s i =
+    let e = run-end at-word s (i + 1) in
+    let f = run-from at-word s (i + 1) e refl in
+    by-cases (Lies s i) _ _ _
+    (λ d. let m = here (λ b. eqb b 46) s e refl (and-second (is-word (getD s (i + 1) 0) && eqb (word-kind (slice s (i + 1) e)) 1) _ d) in
+    record { starts = refl; forward = omega (arith, f); within = λ h. omega (arith, m); filled = λ a b. omega (arith, f) })
+    (λ d. none-lies s i)
 
 start-lies : (s : List ℕ) (i : ℕ) → Lies s i (start-at s i)
 unfolding start-at
@@ -132,7 +153,8 @@ start-lies s i =
     (λ q. by-cases (Lies s i) _ _ _
     (λ a. let m = here (λ b. eqb b 62) s (i + 1) refl (and-second (eqb (getD s i 0) 45) _ a) in
     record { starts = refl; forward = omega arith; within = λ h. omega (arith, m); filled = λ a b. omega arith })
-    (λ a. record { starts = refl; forward = omega arith; within = λ h. h; filled = λ a b. absurd (b refl) })))))
+    (λ a. by-cases (Lies s i) _ _ _ (λ o. symbols-lies s i l (and-first (is-symbol (getD s i 0)) _ o))
+    (λ o. by-cases (Lies s i) (eqb (getD s i 0) 46) _ _ (λ d. dotted-lies s i) (λ d. none-lies s i)))))))
     (λ h. record { starts = refl; forward = omega arith; within = λ h. h; filled = λ a b. absurd (a refl) })
 
 -- ---- the token at or after a place

@@ -9,16 +9,18 @@ use lib.ListN.{length, getD, drop, drop-of-length-le, List·getD-eq-default}
 use native.Mathlib.Nat.{not-suc-le-zero}
 use native.Mathlib.Numerals.{add-one, sub-one}
 use lib.Seq.{drop-cons}
-use borrow.Author.Tests.{eq-eqb, ne-eqb, lt-ltb, le-ltb, ltb-true, ltb-false}
+use borrow.Author.Tests.{eq-eqb, ne-eqb, eqb-true, lt-ltb, le-ltb, ltb-true, ltb-false}
 use Rattle.types.specs.declared.Token.{Token}
 use Rattle.meaning.specs.Lists.{pick}
 use Rattle.meaning.specs.Names.{bytes, slice}
-use Rattle.meaning.specs.Tokens.{is-in, is-layout, is-newline, is-mark, is-word}
-use Rattle.meaning.specs.Tokens.{run-end, at-layout, at-equals, at-word, at-dashes, in-comment}
-use Rattle.meaning.specs.Tokens.{opens, comment-end, skip, token, end-of-text, arrow, implies, no-token, equals-at, word-kind, word-at, start-at, token-at}
+use Rattle.meaning.specs.Tokens.{is-in, is-layout, is-newline, is-mark, is-symbol, is-word}
+use Rattle.meaning.specs.Tokens.{run-end, at-layout, at-equals, at-symbol, at-word, at-dashes, in-comment}
+use Rattle.meaning.specs.Tokens.{opens, comment-end, skip, comment-sign, token, end-of-text, arrow, implies, no-token, operator}
+use Rattle.meaning.specs.Tokens.{equals-at, word-kind, word-at, symbols-at, dotted-at, start-at, token-at}
 use mir.Syntax.{w64}
 use mir.Val.{Fits}
-use Rattle.names.proofs.Runs.{front, second}
+use Rattle.names.proofs.Runs.{run-to, front, second}
+use Rattle.tokens.specs.Signs.{hyphen-before, sign-at}
 
 -- a byte among others
 pub in-hit : (s : List ℕ) (i b : ℕ) → i < length s → b ≡ getD s i 0 → is-in (drop i s) b ≡ true
@@ -33,20 +35,31 @@ pub in-end : (s : List ℕ) (i b : ℕ) → length s ≤ i → is-in (drop i s) 
 unfolding is-in
 in-end s i b h = rw drop-of-length-le
 
--- two hyphens
-dashes-at : (s : List ℕ) (i : ℕ) → at-dashes (drop i s) ≡ (eqb (getD s i 0) 45 && eqb (getD s (i + 1) 0) 45)
-unfolding at-dashes
-dashes-at s i = rw (front, second)
+-- a byte that passes a test is not one that fails it
+pub differs : (p : ℕ → Bool) (b n : ℕ) → p b ≡ true → p n ≡ false → eqb b n ≡ false
+differs p b n h z = go (eqb b n) refl
+  where
+    go : (t : Bool) → eqb b n ≡ t → t ≡ false
+    go false e = refl
+    go true e = absurd (false≢true (sym z ∙ ap p (sym (eqb-true b n e)) ∙ h))
 
-pub dashes-two : (s : List ℕ) (i b : ℕ) → getD s i 0 ≡ 45 → b ≡ getD s (i + 1) 0 → eqb b 45 ≡ at-dashes (drop i s)
-dashes-two s i b h e = rw (dashes-at, h, e)
+-- a hyphen before another byte b; n is the byte that follows
+module _ (s : List ℕ) (i b : ℕ) where
+  pub hyphen-there : (n : ℕ) → getD s i 0 ≡ 45 → n ≡ getD s (i + 1) 0 → eqb n b ≡ hyphen-before s i b
+  unfolding hyphen-before
+  hyphen-there n h e = rw (h, e)
 
-pub dashes-not : (s : List ℕ) (i : ℕ) → (getD s i 0 ≡ 45 → ⊥) → false ≡ at-dashes (drop i s)
-dashes-not s i h = rw (dashes-at, ne-eqb (getD s i 0) 45 h)
+  pub hyphen-not : (getD s i 0 ≡ 45 → ⊥) → false ≡ hyphen-before s i b
+  unfolding hyphen-before
+  hyphen-not h = rw (ne-eqb (getD s i 0) 45 h)
 
-pub dashes-end : (s : List ℕ) (i : ℕ) → length s ≤ i → false ≡ at-dashes (drop i s)
-unfolding at-dashes
-dashes-end s i h = rw drop-of-length-le
+  pub hyphen-end : length s ≤ i → false ≡ hyphen-before s i b
+  unfolding hyphen-before
+  hyphen-end h = rw (List·getD-eq-default s 0 h)
+
+pub dashes-law : (s : List ℕ) (i : ℕ) (r : Bool) → r ≡ hyphen-before s i 45 → r ≡ at-dashes (drop i s)
+unfolding hyphen-before at-dashes
+dashes-law s i r e = rw (front, second) e
 
 -- the inside of a comment
 pub inside-line : (s : List ℕ) (i b : ℕ) → b ≡ getD s i 0 → is-newline b ≡ true → false ≡ in-comment (drop i s)
@@ -105,7 +118,7 @@ and-false false = refl
 
 beyond : (s : List ℕ) (i : ℕ) → length s ≤ i → opens s i ≡ false
 unfolding opens
-beyond s i g = rw (← dashes-end s i g, and-false)
+beyond s i g = rw (← dashes-law s i false (hyphen-end s i 45 g), and-false)
 
 opens-within : (s : List ℕ) (i : ℕ) → opens s i ≡ true → i < length s
 opens-within s i o = go (ltb i (length s)) refl
@@ -150,37 +163,118 @@ pub equals-one : (s : List ℕ) (i j : ℕ) → j ≡ run-end at-equals s i → 
 unfolding equals-at pick
 equals-one s i j e h = rw (← e, le-ltb (i + 1) j h)
 
+-- a comment's sign: before is the byte before i
+module _ (s : List ℕ) (i : ℕ) where
+  pub sign-none : at-dashes (drop i s) ≡ false → false ≡ comment-sign s i
+  unfolding comment-sign
+  sign-none d = rw d
+
+  module _ (d : at-dashes (drop i s) ≡ true) where
+    pub sign-first : i ≡ 0 → true ≡ comment-sign s i
+    unfolding comment-sign
+    sign-first z = rw (d, eq-eqb i 0 z)
+
+    module _ (before : ℕ) (z : i ≡ 0 → ⊥) (e : before ≡ getD s (i - 1) 0) where
+      pub sign-layout : is-layout before ≡ true → true ≡ comment-sign s i
+      unfolding comment-sign
+      sign-layout l = rw (d, ne-eqb i 0 z, ← e, l)
+
+      pub sign-hyphen : is-layout before ≡ false → eqb before 45 ≡ comment-sign s i
+      unfolding comment-sign
+      sign-hyphen l = rw (d, ne-eqb i 0 z, ← e, l)
+
+-- identifiers and keywords
+pub word-law : (s : List ℕ) (i e k : ℕ) → e ≡ run-end at-word s i → k ≡ word-kind (slice s i e) → token k i e ≡ word-at s i
+unfolding word-at
+word-law s i e k h q = rw (← h, ← q)
+
+-- an identifier between dots: b is the byte behind the first dot, w the word there, d the byte behind it
+module _ (s : List ℕ) (i b : ℕ) (e : b ≡ getD s (i + 1) 0) where
+  pub dotted-none : is-word b ≡ false → token no-token i i ≡ dotted-at s i
+  unfolding dotted-at pick
+  dotted-none h = rw (← e, h)
+
+  module _ (w : Token) (h : is-word b ≡ true) (q : w ≡ word-at s (i + 1)) where
+    pub dotted-key : (w .kind ≡ 1 → ⊥) → token no-token i i ≡ dotted-at s i
+    unfolding dotted-at pick
+    dotted-key k = rw (← e, h, ← q, ne-eqb (w .kind) 1 k)
+
+    pub dotted-open : (d : ℕ) → w .kind ≡ 1 → d ≡ getD s (w .end) 0 → (d ≡ 46 → ⊥) → token no-token i i ≡ dotted-at s i
+    unfolding dotted-at pick
+    dotted-open d k f n = rw (← e, h, ← q, eq-eqb (w .kind) 1 k, ← f, ne-eqb d 46 n)
+
+    pub dotted-both : (d : ℕ) → w .kind ≡ 1 → d ≡ getD s (w .end) 0 → d ≡ 46 → token operator i (w .end + 1) ≡ dotted-at s i
+    unfolding dotted-at pick
+    dotted-both d k f n = rw (← e, h, ← q, eq-eqb (w .kind) 1 k, ← f, eq-eqb d 46 n)
+
+pub dotted-fits : (s : List ℕ) (i : ℕ) (w : Token) → i < length s → w ≡ word-at s (i + 1) → length s * 1 < 2 ^ 63 → Fits w64 (w .end + 1)
+unfolding word-at
+dotted-fits s i w h q l = rw q (omega (arith, run-to at-word s (i + 1) (run-end at-word s (i + 1)) refl (omega arith)))
+
+-- the token that begins with a symbol or a dot
+module _ (s : List ℕ) (i : ℕ) where
+  pub sign-arrow : hyphen-before s i 62 ≡ true → token arrow i (i + 2) ≡ sign-at s i
+  unfolding sign-at pick
+  sign-arrow a = rw a
+
+  module _ (a : hyphen-before s i 62 ≡ false) where
+    module _ (m : is-symbol (getD s i 0) ≡ true) where
+      pub sign-comment : comment-sign s i ≡ true → token no-token i i ≡ sign-at s i
+      unfolding sign-at is-in pick
+      sign-comment c = rw (a, m, c, differs is-symbol (getD s i 0) 46 m refl)
+
+      pub sign-operator : (e : ℕ) → comment-sign s i ≡ false → e ≡ run-end at-symbol s i → token operator i e ≡ sign-at s i
+      unfolding sign-at symbols-at pick
+      sign-operator e c q = rw (a, m, c, ← q)
+
+    module _ (m : is-symbol (getD s i 0) ≡ false) where
+      pub sign-dot : (t : Token) → getD s i 0 ≡ 46 → t ≡ dotted-at s i → t ≡ sign-at s i
+      unfolding sign-at pick
+      sign-dot t e q = rw (a, m, eq-eqb (getD s i 0) 46 e) q
+
+      pub sign-bad : (getD s i 0 ≡ 46 → ⊥) → token no-token i i ≡ sign-at s i
+      unfolding sign-at pick
+      sign-bad e = rw (a, m, ne-eqb (getD s i 0) 46 e)
+
 -- the token that starts at i
 pub start-end : (s : List ℕ) (i : ℕ) → length s ≤ i → token end-of-text i i ≡ start-at s i
 unfolding start-at pick
 start-end s i h = rw (le-ltb i (length s) h)
 
+no-mark : (b : ℕ) → is-word b ≡ true → is-mark b ≡ false
+unfolding is-in is-word pick
+no-mark b w =
+    rw (
+      differs is-word b 58 w refl,
+      differs is-word b 44 w refl,
+      differs is-word b 35 w refl,
+      differs is-word b 40 w refl,
+      differs is-word b 41 w refl,
+      differs is-word b 91 w refl,
+      differs is-word b 93 w refl,
+      differs is-word b 123 w refl,
+      differs is-word b 125 w refl,
+      differs is-word b 95 w refl,
+    )
+
 module _ (s : List ℕ) (i : ℕ) (h : i < length s) where
+  pub start-word : (t : Token) → is-word (getD s i 0) ≡ true → t ≡ word-at s i → t ≡ start-at s i
+  unfolding start-at pick
+  start-word t w q = rw (lt-ltb i (length s) h, no-mark (getD s i 0) w, w) q
+
   pub start-mark : is-mark (getD s i 0) ≡ true → token (getD s i 0) i (i + 1) ≡ start-at s i
   unfolding start-at pick
   start-mark m = rw (lt-ltb i (length s) h, m)
 
-  module _ (m : is-mark (getD s i 0) ≡ false) where
-    pub start-word : (e k : ℕ) → is-word (getD s i 0) ≡ true → e ≡ run-end at-word s i → k ≡ word-kind (slice s i e) → token k i e ≡ start-at s i
-    unfolding start-at word-at pick
-    start-word e k w q r = rw (lt-ltb i (length s) h, m, w, ← q, ← r)
-
+  module _ (t : Token) (m : is-mark (getD s i 0) ≡ false) where
     module _ (w : is-word (getD s i 0) ≡ false) where
-      pub start-equals : (t : Token) → getD s i 0 ≡ 61 → t ≡ equals-at s i → t ≡ start-at s i
+      pub start-equals : getD s i 0 ≡ 61 → t ≡ equals-at s i → t ≡ start-at s i
       unfolding start-at pick
-      start-equals t e q = rw (lt-ltb i (length s) h, m, w, eq-eqb (getD s i 0) 61 e) q
+      start-equals e q = rw (lt-ltb i (length s) h, m, w, eq-eqb (getD s i 0) 61 e) q
 
-      pub start-arrow : (b : ℕ) → getD s i 0 ≡ 45 → b ≡ getD s (i + 1) 0 → b ≡ 62 → token arrow i (i + 2) ≡ start-at s i
-      unfolding start-at pick
-      start-arrow b e n g = rw (lt-ltb i (length s) h, m, w, e, ← n, g)
-
-      pub start-hyphen : (b : ℕ) → getD s i 0 ≡ 45 → b ≡ getD s (i + 1) 0 → (b ≡ 62 → ⊥) → token no-token i i ≡ start-at s i
-      unfolding start-at pick
-      start-hyphen b e n g = rw (lt-ltb i (length s) h, m, w, e, ← n, ne-eqb b 62 g)
-
-      pub start-bad : (getD s i 0 ≡ 61 → ⊥) → (getD s i 0 ≡ 45 → ⊥) → token no-token i i ≡ start-at s i
-      unfolding start-at pick
-      start-bad e d = rw (lt-ltb i (length s) h, m, w, ne-eqb (getD s i 0) 61 e, ne-eqb (getD s i 0) 45 d)
+      pub start-sign : (getD s i 0 ≡ 61 → ⊥) → t ≡ sign-at s i → t ≡ start-at s i
+      unfolding start-at sign-at hyphen-before pick
+      start-sign e q = rw (lt-ltb i (length s) h, m, w, ne-eqb (getD s i 0) 61 e) q
 
 -- the token at or after a place
 pub token-law : (s : List ℕ) (a j : ℕ) (t : Token) → j ≡ skip s (length s) a → t ≡ start-at s j → t ≡ token-at s a

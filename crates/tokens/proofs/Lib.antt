@@ -1,3 +1,4 @@
 pub mod Cases
 pub mod Keywords
 pub mod Bounds
+pub mod Spelled

@@ -1,13 +1,14 @@
 // The tokens of a text, each found from a place on.
 ghost use mathlib.Core.Path.{_≡_};
-ghost use Prim.Native.Nat.{_-_, _<_};
+ghost use Prim.Native.Nat.{_-_, _<_, _≤_};
 ghost use lib.Dec.{ltb};
 ghost use lib.ListN.{length, getD, drop};
 ghost use Rattle.meaning.specs.Lists.{pick};
 ghost use Rattle.meaning.specs.Names.{words};
-ghost use Rattle.meaning.specs.Tokens.{is-in, is-layout, is-newline, is-mark};
-ghost use Rattle.meaning.specs.Tokens.{run-end, at-layout, at-equals, at-dashes, in-comment};
-ghost use Rattle.meaning.specs.Tokens.{opens, comment-end, skip, token, equals-at, start-at, token-at, number-in, word-kind};
+ghost use Rattle.meaning.specs.Tokens.{is-in, is-layout, is-newline, is-mark, is-symbol};
+ghost use Rattle.meaning.specs.Tokens.{run-end, at-layout, at-equals, at-symbol, at-dashes, in-comment, comment-sign};
+ghost use Rattle.meaning.specs.Tokens.{opens, comment-end, skip, token, equals-at, word-at, dotted-at, start-at, token-at, number-in, word-kind};
+ghost use Rattle.tokens.specs.Signs.{hyphen-before, sign-at};
 ghost use Rattle.tokens.specs.Table.{in-word};
 use names::byte_at;
 use names::is_word;
@@ -25,6 +26,8 @@ pub const ARROW: u8 = 2;
 pub const IMPLIES: u8 = 3;
 
 pub const NO_TOKEN: u8 = 4;
+
+pub const OPERATOR: u8 = 5;
 
 const BEFORE_KEYWORDS: u8 = 128;
 
@@ -87,7 +90,14 @@ fn is_newline(b: u8) -> bool
 fn is_mark(b: u8) -> bool
     ensures { λ r. ⌜ r ≡ is-mark b ⌝ }
 {
-    contains(b":,#()[]{}", b)
+    contains(b":,#()[]{}_", b)
+}
+
+// Is b one of the signs that operators are made of?
+fn is_symbol(b: u8) -> bool
+    ensures { λ r. ⌜ r ≡ is-symbol b ⌝ }
+{
+    contains(b"+-*/&|!@%?~", b)
 }
 
 // Past the layout at `at`.
@@ -120,16 +130,38 @@ fn equals_end(text: &[u8], at: usize) -> usize
     i
 }
 
+// Past the symbols at `at`.
+fn symbols_end(text: &[u8], at: usize) -> usize
+    ensures { λ r. ⌜ r ≡ run-end at-symbol (now (text .entry)) at ⌝ }
+{
+    let mut i = at;
+    while i < text.len() {
+        if is_symbol(text[i]) {
+            i += 1;
+        } else {
+            return i;
+        }
+    }
+    i
+}
+
+// Does a hyphen stand at i, before b?
+fn hyphen_before(text: &[u8], i: usize, b: u8) -> bool
+    ensures { λ r. ⌜ r ≡ hyphen-before (now (text .entry)) i b ⌝ }
+{
+    if i < text.len() {
+        if text[i] == b'-' {
+            return byte_at(text, i + 1) == b;
+        }
+    }
+    false
+}
+
 // Do two hyphens stand at i?
 fn at_dashes(text: &[u8], i: usize) -> bool
     ensures { λ r. ⌜ r ≡ at-dashes (drop i (now (text .entry))) ⌝ }
 {
-    if i < text.len() {
-        if text[i] == b'-' {
-            return byte_at(text, i + 1) == b'-';
-        }
-    }
-    false
+    hyphen_before(text, i, b'-')
 }
 
 // Does a comment go on at i?
@@ -211,6 +243,23 @@ fn skip(text: &[u8], at: usize) -> usize
     i
 }
 
+// Are two hyphens at i a comment's sign, so that no operator begins there?
+fn comment_sign(text: &[u8], i: usize) -> bool
+    ensures { λ r. ⌜ r ≡ comment-sign (now (text .entry)) i ⌝ }
+{
+    if at_dashes(text, i) {
+        if i == 0 {
+            return true;
+        }
+        let before = byte_at(text, i - 1);
+        if is_layout(before) {
+            return true;
+        }
+        return before == b'-';
+    }
+    false
+}
+
 // The end of the word that starts at `at`: the next space, or the end of the table.
 fn word_stop(table: &[u8], at: usize) -> usize
     ensures { λ r. ⌜ r ≡ run-end in-word (now (table .entry)) at ⌝ }
@@ -281,29 +330,72 @@ fn equals_at(text: &[u8], i: usize) -> Token
     alone
 }
 
+// The identifier or keyword that begins at i.
+fn word_at(text: &[u8], i: usize) -> Token
+    requires { ⌜ i ≤ length (now text) ⌝ }
+    ensures { λ r. ⌜ r ≡ word-at (now (text .entry)) i ⌝ }
+{
+    let e = word_end(text, i);
+    token(word_kind(&text[i..e]), i, e)
+}
+
+// The operator whose first dot is at i: an identifier that is no keyword, between dots.
+fn dotted_at(text: &[u8], i: usize) -> Token
+    requires { ⌜ i < length (now text) ⌝ }
+    ensures { λ r. ⌜ r ≡ dotted-at (now (text .entry)) i ⌝ }
+{
+    let none = token(NO_TOKEN, i, i);
+    if is_word(byte_at(text, i + 1)) {
+        let w = word_at(text, i + 1);
+        let kind = w.kind;
+        let end = w.end;
+        if kind == IDENT {
+            if byte_at(text, end) == b'.' {
+                return token(OPERATOR, i, end + 1);
+            }
+        }
+    }
+    none
+}
+
+// The token that begins with a symbol or a dot at i, if one does.
+fn sign_at(text: &[u8], i: usize) -> Token
+    requires { ⌜ i < length (now text) ⌝ }
+    ensures { λ r. ⌜ r ≡ sign-at (now (text .entry)) i ⌝ }
+{
+    let b = text[i];
+    if hyphen_before(text, i, b'>') {
+        return token(ARROW, i, i + 2);
+    }
+    if is_symbol(b) {
+        if comment_sign(text, i) {
+            return token(NO_TOKEN, i, i);
+        }
+        return token(OPERATOR, i, symbols_end(text, i));
+    }
+    if b == b'.' {
+        return dotted_at(text, i);
+    }
+    token(NO_TOKEN, i, i)
+}
+
 // The token that starts at i.
 fn start_at(text: &[u8], i: usize) -> Token
     ensures { λ r. ⌜ r ≡ start-at (now (text .entry)) i ⌝ }
 {
     if i < text.len() {
-        let none = token(NO_TOKEN, i, i);
         let b = text[i];
+        // asked first, since no word's byte is a mark and most tokens are words
+        if is_word(b) {
+            return word_at(text, i);
+        }
         if is_mark(b) {
             return token(b, i, i + 1);
-        }
-        if is_word(b) {
-            let e = word_end(text, i);
-            return token(word_kind(&text[i..e]), i, e);
         }
         if b == b'=' {
             return equals_at(text, i);
         }
-        if b == b'-' {
-            if byte_at(text, i + 1) == b'>' {
-                return token(ARROW, i, i + 2);
-            }
-        }
-        return none;
+        return sign_at(text, i);
     }
     token(END_OF_TEXT, i, i)
 }

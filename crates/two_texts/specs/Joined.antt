@@ -1,10 +1,9 @@
 -- Entries of two texts on one tape: those of the customer's text are what they were, and those of the library are so once they are moved.
-use mathlib.Core.Path.{_≡_, refl, sym, ap, _∙_}
-use Prim.Native.Nat.{ℕ, _+_, _-_, _*_, _/_, _%_, _^_, _<_, _≤_, min}
+use mathlib.Core.Path.{_≡_, refl, ap, _∙_}
+use Prim.Native.Nat.{ℕ, _+_, _-_, _*_, _/_, _%_, _^_, _<_, _≤_}
 use native.Mathlib.Omega.{arith}
 use mathlib.Core.List.{List, [], _∷_, _++_, map, append-assoc}
-use lib.ListN.{length, take, drop, length-append}
-use lib.Seq.{take-append-add, take-append-le, length-take-le}
+use lib.ListN.{length}
 use Rattle.meaning.specs.OrderLaws.{Every}
 use Rattle.meaning.specs.Lists.{each}
 use Rattle.meaning.specs.Syntax.{Module}
@@ -15,7 +14,7 @@ use Rattle.meant.specs.Matches.{Lies}
 use Rattle.two_texts.specs.Both.{shifted}
 
 -- a place of a text that is read, and how far it is moved
-low : (e l by : ℕ) → e / 32 / 64 ≤ l → l ≤ 32768 → by ≤ 67108864 → e + by < 2 ^ 32
+low : (e l by : ℕ) → e / 32 / 256 ≤ l → l ≤ 32768 → by ≤ 268435456 → e + by < 2 ^ 32
 low e l by h k b = omega arith
 
 small : (a : ℕ) → a < 2 ^ 32 → a % 2 ^ 32 ≡ a
@@ -31,28 +30,28 @@ module _ (library text : List ℕ) where
   all-in-text (e ∷ es) h = λ i. in-text e (h .0) i ∷ all-in-text es (h .1) i
 
   -- an entry moved by the text's length: its role, and its word
-  role-kept : (e l : ℕ) → (e + l * 2048) % 32 ≡ e % 32
+  role-kept : (e l : ℕ) → (e + l * 8192) % 32 ≡ e % 32
   role-kept e l = omega arith
 
-  word-moved : (e l : ℕ) → (e + l * 2048) / 32 ≡ e / 32 + l * 64
+  word-moved : (e l : ℕ) → (e + l * 8192) / 32 ≡ e / 32 + l * 256
   word-moved e l = omega arith
 
   in-library : (e : ℕ) → Lies library e → length text ≤ 32768 → length library ≤ 32768
-      → spelled (joint library text) (shifted (length text * 2048) e) ≡ spelled library e
+      → spelled (joint library text) (shifted (length text * 8192) e) ≡ spelled library e
   unfolding spelled shifted
   in-library e h l k =
       let w = e / 32 in
       let n = length text in
-      let bound : e / 32 / 64 ≤ length library = omega (arith, h) in
-      let fits : e + n * 2048 < 2 ^ 32 = low e (length library) (n * 2048) bound k (omega arith) in
-      let plain : (e + n * 2048) % 2 ^ 32 ≡ e + n * 2048 = small (e + n * 2048) fits in
-      let behind : n ≤ (w + n * 64) / 64 = omega arith in
-      let back : w + n * 64 - n * 64 ≡ w = omega arith in
+      let bound : e / 32 / 256 ≤ length library = omega (arith, h) in
+      let fits : e + n * 8192 < 2 ^ 32 = low e (length library) (n * 8192) bound k (omega arith) in
+      let plain : (e + n * 8192) % 2 ^ 32 ≡ e + n * 8192 = small (e + n * 8192) fits in
+      let behind : n ≤ (w + n * 256) / 256 = omega arith in
+      let back : w + n * 256 - n * 256 ≡ w = omega arith in
       rw (plain, role-kept e n, word-moved e n)
-      (ap (entry (e % 32)) (name-in-library library text (w + n * 64) behind ∙ ap (name-of library) back))
+      (ap (entry (e % 32)) (name-in-library library text (w + n * 256) behind ∙ ap (name-of library) back))
 
   pub all-in-library : (es : List ℕ) → Every (Lies library) es → length text ≤ 32768 → length library ≤ 32768
-      → map (spelled (joint library text)) (map (shifted (length text * 2048)) es) ≡ map (spelled library) es
+      → map (spelled (joint library text)) (map (shifted (length text * 8192)) es) ≡ map (spelled library) es
   all-in-library [] h l k = refl
   all-in-library (e ∷ es) h l k = λ i. in-library e (h .0) l k i ∷ all-in-library es (h .1) l k i
 

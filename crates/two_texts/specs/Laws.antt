@@ -143,13 +143,13 @@ module _ (library text : List ℕ) (n : ℕ) (t : List ℕ) (s : Stands library 
       pub text-fits : Fits w32 (length text)
       text-fits = omega (arith, short)
 
-      pub places-fit : Fits w32 (length text * 2048)
+      pub places-fit : Fits w32 (length text * 8192)
       places-fit = omega (arith, short)
 
-      pub customer-done : (v : List ℕ) → v ≡ moved (length text * 2048) n between → Said library text (n + m) v
+      pub customer-done : (v : List ℕ) → v ≡ moved (length text * 8192) n between → Said library text (n + m) v
       unfolding moved entries read-behind behind
       customer-done v g =
-          let by = length text * 2048 in
+          let by = length text * 8192 in
           let f = map (shifted by) (take n t) in
           let rest = drop (length t - n) (drop n t) in
           let v-so : v ≡ f ++ (u ++ rest) =

@@ -75,7 +75,7 @@ fn read_customer(library: &[u8], text: &[u8], tape: &mut [u32], n: usize) -> Bot
         },
         Reading::Done(p) => {
             let m = p.entries;
-            move_entries(tape, n, text.len() as u32 * 2048);
+            move_entries(tape, n, text.len() as u32 * 8192);
             Both::Done(n + m)
         }
     }

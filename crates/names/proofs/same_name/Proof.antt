@@ -1,7 +1,7 @@
 -- `names::same_name` meets its contract.
 -- Assumes nothing.
-use Rattle.names.proofs.Compared.{same-words}
-use Rattle.names.proofs.Places.{name-fits, name-within, same-parts}
+use Rattle.names.proofs.Places.{cases}
+use Rattle.names.proofs.Joined.{alone-same}
 use borrow.Author.Needs.{needs}
 use Rattle.names.proofs.same_name.Statement.{statement}
 use Rattle.names.proofs.same_name.Tie as tie
@@ -10,19 +10,23 @@ pub same-name-spec : {M : Type 1} → statement M
 same-name-spec =
     tie.close
     (tie.spec
-    (λ c. search (same-words, needs))  -- returns
-    (λ c κs. search needs)  -- name-start-requires
-    (λ c κs. search needs)  -- name-start-requires-2
-    (λ c κs. search needs)  -- name-length-requires
-    (λ c. search (name-fits, needs))  -- add-n
-    (λ c κs. search needs)  -- name-length-requires-2
-    (λ c. search (name-fits, needs))  -- add-m
+    (λ c. search cases)  -- returns
+    (λ c κs. search needs)  -- are-plain-requires
+    (λ c κs. search needs)  -- token-start-requires
+    (λ c κs. search needs)  -- token-start-requires-2
+    (λ c κs. search needs)  -- token-end-requires
+    (λ c κs. search needs)  -- token-end-requires-2
     (λ c. search needs)  -- sub-same-bytes
     (λ c. search needs)  -- part-same-bytes-start
-    (λ c. search (name-within, needs))  -- part-same-bytes-end
+    (λ c. search cases)  -- part-same-bytes-end
     (λ c. search needs)  -- sub-same-bytes-2
     (λ c. search needs)  -- part-same-bytes-start-2
-    (λ c. search (name-within, needs))  -- part-same-bytes-end-2
+    (λ c. search cases)  -- part-same-bytes-end-2
     (λ c κs. search needs)  -- same-bytes-requires
-    (λ c. search (same-parts, needs))  -- returns-2
+    (λ c. search cases)  -- returns-2
+    (λ c. search needs)  -- sub-same-across
+    (λ c. search needs)  -- part-same-across-start
+    (λ c. search needs)  -- part-same-across-end
+    (λ c κs. search needs)  -- same-across-requires
+    (λ c. search (alone-same, needs))  -- returns-3
     )

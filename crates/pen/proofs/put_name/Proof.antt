@@ -9,17 +9,13 @@ pub put-name-spec : {M : Type 1} → statement M
 put-name-spec =
     tie.close
     (tie.spec
-    (λ c. search needs)  -- cast-start
-    (λ c κs. search needs)  -- name-room-requires
+    (λ c. search needs)  -- slice-aggregate-put-bytes
+    (λ c κs. search needs)  -- leading-requires
     (λ c κs. search needs)  -- put-bytes-requires
-    (λ c. search needs)  -- sub-left
-    (λ c. search needs)  -- sub-put-bytes
+    (λ c κs. search needs)  -- put-token-requires
+    (λ c. search needs)  -- slice-aggregate-put-bytes-2
+    (λ c κs. search needs)  -- trailing-requires
     (λ c κs. search needs)  -- put-bytes-requires-2
     (λ c. search needs)  -- same-length
     (λ c. search cases)  -- returns
-    (λ c. search needs)  -- same-length-2
-    (λ c. search cases)  -- returns-2
-    (λ c κs. search needs)  -- put-bytes-requires-3
-    (λ c. search needs)  -- same-length-3
-    (λ c. search cases)  -- returns-3
     )

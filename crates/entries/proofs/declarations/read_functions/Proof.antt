@@ -2,14 +2,15 @@
 -- Assumes nothing.
 use Rattle.entries.specs.Model.{many, function}
 use Rattle.meaning.specs.Numbers.{text-size}
-use Rattle.meaning.specs.Grammar.{is-name}
+use Rattle.meaning.specs.Grammar.{begins-function}
 use borrow.Author.Needs.{needs}
 use Rattle.entries.proofs.Lists.{Comes, loops, sized}
 use Rattle.entries.proofs.declarations.read_functions.Statement.{statement}
 use Rattle.entries.proofs.declarations.read_functions.Tie as tie
 
 abbrev Inv-loop : tie.InvT-loop
-Inv-loop text tape₀ role here₀ left₀ tape here left = Comes (many text text-size is-name (function text role)) (many text left is-name (function text role)) here₀ tape₀ here tape
+Inv-loop text tape₀ role here₀ left₀ tape here left =
+    Comes (many text text-size begins-function (function text role)) (many text left begins-function (function text role)) here₀ tape₀ here tape
 
 abbrev μ-loop : tie.MeasureT-loop
 μ-loop text tape₀ role here₀ left₀ tape here left = left
@@ -22,14 +23,14 @@ read-functions-spec =
     Inv-loop
     μ-loop
     (λ c. search loops)  -- loop-holds
-    (λ c κs. search needs)  -- next-is-requires
+    (λ c κs. search needs)  -- begins-function-requires
     (λ c κs. search needs)  -- read-function-requires
     (λ c. search needs)  -- sub-left
     (λ c. search needs)  -- loop-less
     (λ c. search loops)  -- loop-again
     (λ c. search (sized, needs))  -- same-length
     (λ c. search loops)  -- returns
-    (λ c κs. search needs)  -- next-is-requires-2
+    (λ c κs. search needs)  -- begins-function-requires-2
     (λ c κs. search needs)  -- refuse-requires
     (λ c. search (sized, needs))  -- same-length-2
     (λ c. search loops)  -- returns-2

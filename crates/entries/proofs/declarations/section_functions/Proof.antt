@@ -13,7 +13,7 @@ section-functions-spec =
     (tie.spec
     (λ c κs. search needs)  -- next-is-requires
     (λ c κs. search needs)  -- step-requires
-    (λ c κs. search needs)  -- next-is-requires-2
+    (λ c κs. search needs)  -- begins-function-requires
     (λ c κs. search needs)  -- read-functions-requires
     (λ c. search needs)  -- same-length
     (λ c. search rules)  -- returns

@@ -3,14 +3,17 @@
 use Rattle.entries.specs.Model.{separated, pair}
 use Rattle.meaning.specs.Numbers.{pair-limit}
 use Rattle.meaning.specs.Names.{byte}
-use Rattle.meaning.specs.Grammar.{is-name}
+use Rattle.meaning.specs.Grammar.{begins-function}
 use borrow.Author.Needs.{needs}
 use Rattle.entries.proofs.Lists.{Comes, loops, sized}
 use Rattle.entries.proofs.imports.pair_list.Statement.{statement}
 use Rattle.entries.proofs.imports.pair_list.Tie as tie
 
 abbrev Inv-loop : tie.InvT-loop
-Inv-loop text tape₀ here₀ left₀ tape here left = Comes (separated text pair-limit (byte ",") is-name (pair text)) (separated text left (byte ",") is-name (pair text)) here₀ tape₀ here tape
+Inv-loop text tape₀ here₀ left₀ tape here left =
+    Comes (separated text pair-limit (byte ",") begins-function (pair text))
+    (separated text left (byte ",") begins-function (pair text))
+    here₀ tape₀ here tape
 
 abbrev μ-loop : tie.MeasureT-loop
 μ-loop text tape₀ here₀ left₀ tape here left = left
@@ -30,7 +33,7 @@ pair-list-spec =
     (λ c. search loops)  -- loop-again
     (λ c. search (sized, needs))  -- same-length
     (λ c. search loops)  -- returns
-    (λ c κs. search needs)  -- next-is-requires-2
+    (λ c κs. search needs)  -- begins-function-requires
     (λ c κs. search needs)  -- refuse-requires
     (λ c. search (sized, needs))  -- same-length-2
     (λ c. search loops)  -- returns-2

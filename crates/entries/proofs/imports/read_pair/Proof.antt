@@ -11,9 +11,9 @@ unfolding pair
 read-pair-spec =
     tie.close
     (tie.spec
-    (λ c κs. search needs)  -- read-name-requires
+    (λ c κs. search needs)  -- read-function-name-requires
     (λ c κs. search needs)  -- expect-requires
-    (λ c κs. search needs)  -- read-name-requires-2
+    (λ c κs. search needs)  -- read-function-name-requires-2
     (λ c. search needs)  -- same-length
     (λ c. search rules)  -- returns
     )

@@ -1,7 +1,7 @@
 -- `entries::steps::begins_term` meets its contract.
 -- Assumes nothing.
-use Rattle.entries.proofs.Cases.{cases}
 use borrow.Author.Needs.{needs}
+use Rattle.entries.proofs.Cases.{cases}
 use Rattle.entries.proofs.steps.begins_term.Statement.{statement}
 use Rattle.entries.proofs.steps.begins_term.Tie as tie
 
@@ -13,4 +13,6 @@ begins-term-spec =
     (λ c. search cases)  -- returns
     (λ c κs. search needs)  -- next-is-requires-2
     (λ c. search cases)  -- returns-2
+    (λ c κs. search needs)  -- next-is-requires-3
+    (λ c. search cases)  -- returns-3
     )

@@ -1,7 +1,7 @@
 -- `entries::steps::next_word` meets its contract.
 -- Assumes nothing.
-use Rattle.entries.proofs.Cases.{cases}
 use borrow.Author.Needs.{needs}
+use Rattle.entries.proofs.Cases.{cases}
 use Rattle.entries.proofs.steps.next_word.Statement.{statement}
 use Rattle.entries.proofs.steps.next_word.Tie as tie
 
@@ -9,9 +9,6 @@ pub next-word-spec : {M : Type 1} → statement M
 next-word-spec =
     tie.close
     (tie.spec
-    (λ c. search needs)  -- enum-known-at
-    (λ c. search needs)  -- enum-known-at-2
-    (λ c κs. search needs)  -- word-of-requires
+    (λ c κs. search needs)  -- next-in-requires
     (λ c. search cases)  -- returns
-    (λ c. search cases)  -- returns-2
     )

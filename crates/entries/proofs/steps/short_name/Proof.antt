@@ -1,7 +1,7 @@
 -- `entries::steps::short_name` meets its contract.
 -- Assumes nothing.
-use Rattle.entries.proofs.Cases.{cases}
 use borrow.Author.Needs.{needs}
+use Rattle.entries.proofs.Cases.{cases}
 use Rattle.entries.proofs.steps.short_name.Statement.{statement}
 use Rattle.entries.proofs.steps.short_name.Tie as tie
 
@@ -10,7 +10,7 @@ short-name-spec =
     tie.close
     (tie.spec
     (λ c κs. search needs)  -- next-short-requires
-    (λ c κs. search needs)  -- next-word-requires
+    (λ c κs. search needs)  -- next-in-requires
     (λ c. search cases)  -- mul-write
     (λ c. search cases)  -- add-write
     (λ c κs. search needs)  -- write-requires

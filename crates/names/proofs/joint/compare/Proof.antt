@@ -1,6 +1,6 @@
 -- `names::joint::compare` meets its contract.
 -- Assumes nothing.
-use Rattle.names.proofs.Joined.{cases}
+use Rattle.names.proofs.Joined.{cases, here-seen}
 use borrow.Author.Needs.{needs}
 use Rattle.names.proofs.joint.compare.Statement.{statement}
 use Rattle.names.proofs.joint.compare.Tie as tie
@@ -12,9 +12,9 @@ compare-spec =
     (λ c κs. search needs)  -- have-room-requires
     (λ c. search needs)  -- cast-x
     (λ c. search needs)  -- cast-y
-    (λ c κs. search needs)  -- name-room-requires
+    (λ c. search needs)  -- cast-n
     (λ c. search needs)  -- add-n
-    (λ c κs. search needs)  -- name-room-requires-2
+    (λ c. search needs)  -- cast-m
     (λ c. search needs)  -- add-m
     (λ c. search needs)  -- sub-compare-names
     (λ c. search needs)  -- part-compare-names-start
@@ -23,7 +23,7 @@ compare-spec =
     (λ c. search needs)  -- part-compare-names-start-2
     (λ c. search cases)  -- part-compare-names-end-2
     (λ c κs. search needs)  -- compare-names-requires
-    (λ c. search cases)  -- returns
+    (λ c. search (here-seen, needs))  -- returns
     (λ c. search needs)  -- sub-compare-elsewhere
     (λ c. search needs)  -- part-compare-elsewhere-start
     (λ c. search needs)  -- part-compare-elsewhere-end

@@ -1,6 +1,6 @@
 -- `names::joint::compare_elsewhere` meets its contract.
 -- Assumes nothing.
-use Rattle.names.proofs.Joined.{cases}
+use Rattle.names.proofs.Joined.{cases, there-seen}
 use borrow.Author.Needs.{needs}
 use Rattle.names.proofs.joint.compare_elsewhere.Statement.{statement}
 use Rattle.names.proofs.joint.compare_elsewhere.Tie as tie
@@ -17,7 +17,7 @@ compare-elsewhere-spec =
     (λ c. search cases)  -- sub-compare-at-once
     (λ c. search cases)  -- sub-compare-at-once-2
     (λ c κs. search needs)  -- compare-at-once-requires
-    (λ c. search cases)  -- returns-2
+    (λ c. search (there-seen, needs))  -- returns-2
     (λ c κs. search needs)  -- compare-across-requires
     (λ c. search needs)  -- returns-3
     )

@@ -9,10 +9,8 @@ pub have-room-spec : {M : Type 1} → statement M
 have-room-spec =
     tie.close
     (tie.spec
-    (λ c. search needs)  -- cast-if1
-    (λ c. search needs)  -- add-if1
-    (λ c. search needs)  -- cast-result
-    (λ c. search needs)  -- add-result
+    (λ c κs. search needs)  -- has-room-requires
+    (λ c κs. search needs)  -- has-room-requires-2
     (λ c. search cases)  -- returns
     (λ c. search cases)  -- returns-2
     )

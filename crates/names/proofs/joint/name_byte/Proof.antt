@@ -1,6 +1,6 @@
 -- `names::joint::name_byte` meets its contract.
 -- Assumes nothing.
-use Rattle.names.proofs.Joined.{cases}
+use Rattle.names.proofs.Forms.{cases}
 use borrow.Author.Needs.{needs}
 use Rattle.names.proofs.joint.name_byte.Statement.{statement}
 use Rattle.names.proofs.joint.name_byte.Tie as tie
@@ -9,10 +9,17 @@ pub name-byte-spec : {M : Type 1} → statement M
 name-byte-spec =
     tie.close
     (tie.spec
-    (λ c κs. search needs)  -- name-room-requires
-    (λ c. search needs)  -- cast-byte-in
-    (λ c. search needs)  -- add-byte-in
-    (λ c κs. search needs)  -- byte-in-requires
+    (λ c κs. search needs)  -- leading-requires
     (λ c. search cases)  -- returns
+    (λ c κs. search needs)  -- token-size-requires
+    (λ c. search cases)  -- add-if2
+    (λ c. search needs)  -- cast-byte-in
+    (λ c. search cases)  -- add-byte-in
+    (λ c κs. search needs)  -- byte-in-requires
     (λ c. search cases)  -- returns-2
+    (λ c. search needs)  -- add-if3
+    (λ c κs. search needs)  -- trailing-requires
+    (λ c. search cases)  -- add-if3-2
+    (λ c. search cases)  -- returns-3
+    (λ c. search cases)  -- returns-4
     )

@@ -1,6 +1,6 @@
 -- `names::joint::name_size` meets its contract.
 -- Assumes nothing.
-use Rattle.names.proofs.Joined.{cases}
+use Rattle.names.proofs.Forms.{cases}
 use borrow.Author.Needs.{needs}
 use Rattle.names.proofs.joint.name_size.Statement.{statement}
 use Rattle.names.proofs.joint.name_size.Tie as tie
@@ -9,12 +9,10 @@ pub name-size-spec : {M : Type 1} → statement M
 name-size-spec =
     tie.close
     (tie.spec
-    (λ c. search needs)  -- cast-lesser
-    (λ c. search needs)  -- add-lesser
-    (λ c κs. search needs)  -- lesser-requires
-    (λ c κs. search needs)  -- name-room-requires
-    (λ c. search needs)  -- add-lesser-2
-    (λ c. search needs)  -- sub-lesser
-    (λ c κs. search needs)  -- lesser-requires-2
+    (λ c κs. search needs)  -- leading-requires
+    (λ c κs. search needs)  -- token-size-requires
+    (λ c. search cases)  -- add-result
+    (λ c κs. search needs)  -- trailing-requires
+    (λ c. search cases)  -- add-result-2
     (λ c. search cases)  -- returns
     )

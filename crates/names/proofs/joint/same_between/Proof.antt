@@ -1,6 +1,6 @@
 -- `names::joint::same_between` meets its contract.
 -- Assumes nothing.
-use Rattle.names.proofs.Joined.{cases}
+use Rattle.names.proofs.Joined.{alone-same}
 use borrow.Author.Needs.{needs}
 use Rattle.names.proofs.joint.same_between.Statement.{statement}
 use Rattle.names.proofs.joint.same_between.Tie as tie
@@ -9,15 +9,12 @@ pub same-between-spec : {M : Type 1} → statement M
 same-between-spec =
     tie.close
     (tie.spec
-    (λ c. search needs)  -- cast-lesser
-    (λ c κs. search needs)  -- lesser-requires
-    (λ c κs. search needs)  -- name-room-requires
-    (λ c. search needs)  -- sub-lesser
-    (λ c κs. search needs)  -- lesser-requires-2
-    (λ c. search needs)  -- add-e
-    (λ c. search needs)  -- sub-is-called
-    (λ c. search needs)  -- part-is-called-start
-    (λ c. search needs)  -- part-is-called-end
-    (λ c κs. search needs)  -- is-called-requires
-    (λ c. search cases)  -- returns
+    (λ c. search needs)  -- sub-same-wherever
+    (λ c. search needs)  -- part-same-wherever-start
+    (λ c. search needs)  -- part-same-wherever-end
+    (λ c. search needs)  -- sub-same-wherever-2
+    (λ c. search needs)  -- part-same-wherever-start-2
+    (λ c. search needs)  -- part-same-wherever-end-2
+    (λ c κs. search needs)  -- same-wherever-requires
+    (λ c. search (alone-same, needs))  -- returns
     )

@@ -1,6 +1,6 @@
 -- `names::joint::same_elsewhere` meets its contract.
 -- Assumes nothing.
-use Rattle.names.proofs.Joined.{cases}
+use Rattle.names.proofs.Joined.{cases, there-same}
 use borrow.Author.Needs.{needs}
 use Rattle.names.proofs.joint.same_elsewhere.Statement.{statement}
 use Rattle.names.proofs.joint.same_elsewhere.Tie as tie
@@ -15,7 +15,7 @@ same-elsewhere-spec =
     (λ c. search cases)  -- sub-same-name
     (λ c. search cases)  -- sub-same-name-2
     (λ c κs. search needs)  -- same-name-requires
-    (λ c. search cases)  -- returns
+    (λ c. search (there-same, needs))  -- returns
     (λ c κs. search needs)  -- same-across-requires
     (λ c. search needs)  -- returns-2
     )

@@ -1,6 +1,6 @@
 -- `names::joint::same_name` meets its contract.
 -- Assumes nothing.
-use Rattle.names.proofs.Joined.{cases}
+use Rattle.names.proofs.Joined.{cases, here-same}
 use borrow.Author.Needs.{needs}
 use Rattle.names.proofs.joint.same_name.Statement.{statement}
 use Rattle.names.proofs.joint.same_name.Tie as tie
@@ -13,9 +13,9 @@ same-name-spec =
     (λ c κs. search needs)  -- have-room-requires
     (λ c. search needs)  -- cast-x
     (λ c. search needs)  -- cast-y
-    (λ c κs. search needs)  -- name-room-requires
+    (λ c. search needs)  -- cast-n
     (λ c. search needs)  -- add-n
-    (λ c κs. search needs)  -- name-room-requires-2
+    (λ c. search needs)  -- cast-m
     (λ c. search needs)  -- add-m
     (λ c. search needs)  -- sub-same-bytes
     (λ c. search needs)  -- part-same-bytes-start
@@ -24,7 +24,7 @@ same-name-spec =
     (λ c. search needs)  -- part-same-bytes-start-2
     (λ c. search cases)  -- part-same-bytes-end-2
     (λ c κs. search needs)  -- same-bytes-requires
-    (λ c. search cases)  -- returns-2
+    (λ c. search (here-same, needs))  -- returns-2
     (λ c. search needs)  -- sub-same-elsewhere
     (λ c. search needs)  -- part-same-elsewhere-start
     (λ c. search needs)  -- part-same-elsewhere-end

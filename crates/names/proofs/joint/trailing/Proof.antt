@@ -1,0 +1,15 @@
+-- `names::joint::trailing` meets its contract.
+-- Assumes nothing.
+use Rattle.names.proofs.Forms.{cases}
+use borrow.Author.Needs.{needs}
+use Rattle.names.proofs.joint.trailing.Statement.{statement}
+use Rattle.names.proofs.joint.trailing.Tie as tie
+
+pub trailing-spec : {M : Type 1} → statement M
+trailing-spec =
+    tie.close
+    (tie.spec
+    (λ c κs. search needs)  -- leading-requires
+    (λ c. search cases)  -- returns
+    (λ c. search cases)  -- returns-2
+    )

@@ -1,0 +1,17 @@
+-- `terms::term::next_role` meets its contract.
+-- Assumes nothing.
+use Rattle.terms.proofs.Cases.{cases}
+use borrow.Author.Needs.{needs}
+use Rattle.terms.proofs.term.next_role.Statement.{statement}
+use Rattle.terms.proofs.term.next_role.Tie as tie
+
+pub next-role-spec : {M : Type 1} → statement M
+next-role-spec =
+    tie.close
+    (tie.spec
+    (λ c. search needs)  -- enum-known-at
+    (λ c. search needs)  -- enum-known-at-2
+    (λ c κs. search needs)  -- node-role-requires
+    (λ c. search cases)  -- returns
+    (λ c. search cases)  -- returns-2
+    )
