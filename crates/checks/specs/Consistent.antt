@@ -9,8 +9,8 @@ use Rattle.meaning.specs.Names.{Name}
 use Rattle.meaning.specs.Numbers.{clashing, overloading, bad-parameter, no-room}
 use Rattle.meaning.specs.Origins.{Item}
 use Rattle.meaning.specs.Normal.{Visible}
-use Rattle.meaning.specs.Checks.{Check, _>>_, unless, fits, consistent}
-use Rattle.names.specs.Word.{name-of}
+use Rattle.meaning.specs.Checks.{Check, stop, _>>_, unless, fits, consistent}
+use Rattle.names.specs.Word.{no-name}
 use Rattle.forms.specs.declared.Verdict.{Verdict}
 use Rattle.forms.specs.declared.Verdict.the-variants.{Fine, Stop}
 use Rattle.forms.specs.Memory.{part, Kept}
@@ -29,12 +29,12 @@ within a a-limit b b-limit c c-limit = pick (leb a a-limit && leb b b-limit && l
 -- the verdict on them stands for the meaning's
 pub within-told : (text : List ℕ) (a a-limit b b-limit c c-limit : ℕ)
     → told text (within a a-limit b b-limit c c-limit) ≡ fits (leb a a-limit && leb b b-limit && leb c c-limit)
-unfolding told within fits pick name-of
+unfolding told within fits pick
 within-told text a a-limit b b-limit c c-limit = go (leb a a-limit && leb b b-limit && leb c c-limit)
   where
     go : (enough : Bool) → told text (pick enough Fine (Stop no-room 0)) ≡ fits enough
     go true = refl
-    go false = refl
+    go false = ap (λ (n : Name). stop no-room n) (no-name text)
 
 -- ---- clashes and overloading
 

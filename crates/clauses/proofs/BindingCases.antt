@@ -6,7 +6,7 @@ use mathlib.Core.Option.{Option}
 use mathlib.Core.List.{List, []}
 use lib.Dec.{ltb, leb}
 use borrow.Author.Needs.{needs}
-use borrow.Author.Tests.{eq-eqb, ne-eqb, ltb-true, ltb-false, lt-ltb, le-ltb, le-leb, lt-leb}
+use borrow.Author.Tests.{eq-eqb, ne-eqb, lt-ltb, le-ltb}
 use Rattle.meaning.specs.Lists.{pick, any, before}
 use Rattle.meaning.specs.Names.{Name, member}
 use Rattle.meaning.specs.Syntax.{Pair}
@@ -26,12 +26,12 @@ use Rattle.translation.specs.declared.Mode.{Mode}
 use Rattle.translation.specs.Translation.{pairs-at, formals-at, mode-formals, sort-name, function-name, moved, moved-in}
 use Rattle.translation.specs.Moved.{MovedRow}
 use Rattle.translation.specs.MovedLaws.{sort-name-bound, function-name-bound}
-use Rattle.clauses.specs.Pairs.{given, pair-at, rightly, first-wrong}
+use Rattle.clauses.specs.Pairs.{pair-at, rightly, first-wrong}
 use Rattle.clauses.specs.Joined.{any-keep}
 use Rattle.clauses.specs.Searches.{like}
 use Rattle.clauses.specs.Unpaired.{formal-called}
 use Rattle.clauses.specs.Fits.{mode-whole, sorts-fit, function-there, shape-fits, misfit, pair-fits, binding-wrong}
-use Rattle.clauses.proofs.RowSearches.{found-below}
+use Rattle.clauses.proofs.RowSearches.{found-below, none-below}
 use Rattle.clauses.proofs.PairWalks.{Checking, check-start, check-again, none-wrong, one-wrong}
 
 module _ (text tape w : List ℕ) (m : Mode) (actual : Form) where
@@ -146,14 +146,8 @@ module _ (text tape w : List ℕ) (m : Mode) (actual : Form) where
 
   none-left : (x y j : ℕ) → j ≡ before (misfits x y) rows
       → leb (m .count) j ≡ not (any (needing (name-of text x) (name-of text y)) (mode-formals text tape w m))
-  none-left x y j o = by (ltb j (m .count)) refl
-    where
-      all : any (needing (name-of text x) (name-of text y)) (mode-formals text tape w m) ≡ any (misfits x y) rows
-      all = misfits-among (name-of text x) (name-of text y)
-
-      by : (b : Bool) → ltb j (m .count) ≡ b → leb (m .count) j ≡ not (any (needing (name-of text x) (name-of text y)) (mode-formals text tape w m))
-      by true q = let l = ltb-true j (m .count) q in lt-leb (m .count) j l ∙ sym (ap not (all ∙ there-below (misfits x y) j o l))
-      by false q = let l = ltb-false j (m .count) q in le-leb (m .count) j l ∙ sym (ap not (all ∙ nowhere-below (misfits x y) j o l))
+  none-left x y j o =
+      none-below text tape w (m .visible) (m .count) j (misfits x y) o ∙ ap not (sym (misfits-among (name-of text x) (name-of text y)))
 
   module _ (pairs k x : ℕ) (e : x ≡ word-at tape (pairs + k * 2)) (i : ℕ) (f : i ≡ before (called x) rows) where
     pub pair-unknown : m .count ≤ i → false ≡ pair-fits text tape w m actual (pair-at text tape pairs k)
@@ -164,26 +158,6 @@ module _ (text tape w : List ℕ) (m : Mode) (actual : Form) where
         → leb (m .count) j ≡ pair-fits text tape w m actual (pair-at text tape pairs k)
     unfolding pair-fits pair-right pair-at shape-fits
     pair-known y j h g o = rw (← e, ← g, called-among (name-of text x), there-below (called x) i f h) (none-left x y j o)
-
-  -- ---- a pair, and those before it
-
-  module _ (k : ℕ) (b : Bool) (e : b ≡ pair-fits text tape w m actual (pair-at text tape (m .pairs) k)) where
-    abbrev wanted : Bool
-    wanted = rightly (pair-fits text tape w m actual) text tape (m .pairs) k
-
-    pub binds-wrong : b ≡ false → false ≡ wanted
-    unfolding rightly
-    binds-wrong h = rw (← e, h)
-
-    module _ (h : b ≡ true) (x : ℕ) (f : x ≡ word-at tape (m .pairs + k * 2)) (c : Bool)
-        (g : c ≡ member (name-of text x) (given text tape (m .pairs) k)) where
-      pub binds-twice : c ≡ true → false ≡ wanted
-      unfolding rightly
-      binds-twice q = rw (← e, h, ← f, ← g, q)
-
-      pub binds-once : c ≡ false → true ≡ wanted
-      unfolding rightly
-      binds-once q = rw (← e, h, ← f, ← g, q)
 
   -- ---- all pairs
 
@@ -212,6 +186,6 @@ module _ (text tape w : List ℕ) (m : Mode) (actual : Form) where
 
 pub ruleset needed = (moved-there, need-sort, need-variable, need-sorts, need-function, needs)
 
-pub ruleset fits = (misfit-other, misfit-not, misfit-here, pair-unknown, pair-known, binds-wrong, binds-twice, binds-once, needs)
+pub ruleset fits = (misfit-other, misfit-not, misfit-here, pair-unknown, pair-known, needs)
 
 pub ruleset bindings = (check-start, check-again, bindings-fine, binding-stops, needs)

@@ -12,17 +12,12 @@ use borrow.Author.Tests.{eq-eqb, ne-eqb, eqb-true}
 use Rattle.meaning.specs.Lists.{pick}
 use Rattle.meaning.specs.Names.{Name, same, member}
 use Rattle.meaning.specs.Syntax.{Pair}
-use Rattle.meaning.specs.Checks.{unless}
-use Rattle.meaning.specs.Clauses.{paired, wrong-renaming}
-use Rattle.meaning.specs.Normal.{names-in}
+use Rattle.meaning.specs.Clauses.{paired}
 use Rattle.names.specs.Word.{name-of}
 use Rattle.tables.specs.Entries.{role-at, word-at, name-at}
-use Rattle.forms.specs.declared.Verdict.the-variants.{Fine, Stop}
-use Rattle.forms.specs.Forms.{items-at}
-use Rattle.forms.specs.Verdicts.{told}
 use Rattle.translation.specs.Translation.{pairs-from, pairs-at}
 use Rattle.clauses.specs.declared.Found.the-variants.{At, Nothing}
-use Rattle.clauses.specs.Pairs.{found, pair-count, given, pair-at, rightly, first-wrong, is-known, renaming-wrong}
+use Rattle.clauses.specs.Pairs.{found, pair-count, given, pair-at, rightly, first-wrong}
 
 -- ---- words of a pair
 
@@ -231,46 +226,21 @@ module _ (right : Pair → Bool) (text tape : List ℕ) (pairs n : ℕ) where
     unfolding first-wrong given rightly pair-at pick
     one-wrong q = walk-here checked text tape pairs n k h inv ∙ rw (← f, q)
 
--- ---- the pairs of a renaming
+-- ---- a pair, and those before it
 
-module _ (text tape w : List ℕ) (pairs visible count n : ℕ) where
-  abbrev known : List Name
-  known = names-in (items-at text tape w visible count)
+module _ (right : Pair → Bool) (text tape : List ℕ) (pairs k : ℕ) (b : Bool) (e : b ≡ right (pair-at text tape pairs k)) where
+  pub rightly-wrong : b ≡ false → false ≡ rightly right text tape pairs k
+  unfolding rightly
+  rightly-wrong h = rw (← e, h)
 
-  abbrev wrong : Option Name
-  wrong = wrong-renaming known [] (pairs-at text tape pairs)
+  module _ (h : b ≡ true) (x : ℕ) (f : x ≡ word-at tape (pairs + k * 2)) (c : Bool) (g : c ≡ member (name-of text x) (given text tape pairs k)) where
+    pub rightly-twice : c ≡ true → false ≡ rightly right text tape pairs k
+    unfolding rightly
+    rightly-twice q = rw (← e, h, ← f, ← g, q)
 
-  wrong-walked : first-wrong (is-known known) [] (pairs-at text tape pairs) ≡ wrong
-  wrong-walked = renaming-wrong known [] (pairs-at text tape pairs)
-
-  module _ (k : ℕ) (inv : Checking (is-known known) text tape pairs n k) where
-    pub renamings-fine : n ≤ k → told text Fine ≡ unless 14 wrong
-    unfolding told unless
-    renamings-fine h = rw (← wrong-walked, none-wrong (is-known known) text tape pairs n k h inv)
-
-    pub renaming-stops : (x : ℕ) (r : Bool) → k < n → r ≡ rightly (is-known known) text tape pairs k → r ≡ false → x ≡ word-at tape (pairs + k * 2)
-        → told text (Stop 14 x) ≡ unless 14 wrong
-    unfolding told unless
-    renaming-stops x r h f q e = rw (← wrong-walked, one-wrong (is-known known) text tape pairs n k r h inv f q, e)
-
--- pair k, asked in two steps
-module _ (text tape : List ℕ) (known : List Name) (pairs k x : ℕ) (e : x ≡ word-at tape (pairs + k * 2)) (b : Bool)
-    (f : b ≡ member (name-of text x) known) where
-  abbrev wanted : Bool
-  wanted = rightly (is-known known) text tape pairs k
-
-  pub renames-unknown : b ≡ false → false ≡ wanted
-  unfolding rightly is-known pair-at
-  renames-unknown h = rw (← e, ← f, h)
-
-  module _ (h : b ≡ true) (c : Bool) (g : c ≡ member (name-of text x) (given text tape pairs k)) where
-    pub renames-twice : c ≡ true → false ≡ wanted
-    unfolding rightly is-known pair-at
-    renames-twice q = rw (← e, ← f, h, ← g, q)
-
-    pub renames-once : c ≡ false → true ≡ wanted
-    unfolding rightly is-known pair-at
-    renames-once q = rw (← e, ← f, h, ← g, q)
+    pub rightly-once : c ≡ false → true ≡ rightly right text tape pairs k
+    unfolding rightly
+    rightly-once q = rw (← e, h, ← f, ← g, q)
 
 pub ruleset words = (old-told, new-told, needs)
 
@@ -280,4 +250,4 @@ pub ruleset looks = (look-start, look-end, look-again, look-found, needs)
 
 pub ruleset pairings = (paired-start, paired-end, paired-again, paired-here, needs)
 
-pub ruleset renamings = (check-start, check-again, renamings-fine, renaming-stops, renames-unknown, renames-twice, renames-once, needs)
+pub ruleset singles = (rightly-wrong, rightly-twice, rightly-once, needs)

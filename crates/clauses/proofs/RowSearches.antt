@@ -1,13 +1,13 @@
 -- Laws of searches, in the code's terms: of the names or the rows those before i have been asked.
-use mathlib.Core.Path.{_≡_, refl, sym, ap₂, _∙_}
+use mathlib.Core.Path.{_≡_, refl, sym, ap, ap₂, _∙_}
 use Prim.Native.Nat.{ℕ, suc, _+_, _-_, _*_, _≤_, _<_}
-use mathlib.Core.Bool.{Bool, true, false}
+use mathlib.Core.Bool.{Bool, true, false, not}
 use mathlib.Core.List.{List, [], _∷_}
 use native.Mathlib.Omega.{arith}
-use lib.Dec.{eqb, ltb}
+use lib.Dec.{eqb, ltb, leb}
 use lib.ListN.{getD}
 use borrow.Author.Needs.{needs}
-use borrow.Author.Tests.{eq-eqb, ne-eqb}
+use borrow.Author.Tests.{eq-eqb, ne-eqb, ltb-true, ltb-false, le-leb, lt-leb}
 use Rattle.meaning.specs.Lists.{pick, any, before}
 use Rattle.meaning.specs.Names.{Name, same, member}
 use Rattle.meaning.specs.Origins.{Sort, FunctionType, same-shape, is-sort, sort-shape, function-shape, variable-shape, Item}
@@ -94,7 +94,7 @@ module _ (test : Item → Bool) (text tape w : List ℕ) (b n : ℕ) where
 
 -- ---- whether there is one
 
-named-any : (a : Name) (is : List Item) → member a (names-in is) ≡ any (is-called a) is
+pub named-any : (a : Name) (is : List Item) → member a (names-in is) ≡ any (is-called a) is
 unfolding member names-in any is-called
 named-any a [] = refl
 named-any a (i ∷ is) = rw (named-any a is)
@@ -105,6 +105,13 @@ module _ (text tape w : List ℕ) (b n i : ℕ) where
 
   pub found-below : (test : Item → Bool) → i ≡ before test items → ltb i n ≡ any test items
   found-below test e = ap₂ ltb e (sym (length-items text tape w b n)) ∙ sym (any-before test items)
+
+  pub none-below : (test : Item → Bool) → i ≡ before test items → leb n i ≡ not (any test items)
+  none-below test e = go (ltb i n) refl ∙ ap not (found-below test e)
+    where
+      go : (b : Bool) → ltb i n ≡ b → leb n i ≡ not (ltb i n)
+      go true q = lt-leb n i (ltb-true i n q) ∙ ap not (sym q)
+      go false q = le-leb n i (ltb-false i n q) ∙ ap not (sym q)
 
   module _ (a : ℕ) where
     pub name-there : i ≡ before (is-called (name-of text a)) items → ltb i n ≡ member (name-of text a) (names-in items)

@@ -1,4 +1,5 @@
 pub mod Pairs
+pub mod Renamed
 pub mod Searches
 pub mod Joined
 pub mod Unpaired

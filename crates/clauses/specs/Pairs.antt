@@ -8,7 +8,8 @@ use lib.Dec.{eqb}
 use Rattle.meaning.specs.Lists.{pick}
 use Rattle.meaning.specs.Names.{Name, member}
 use Rattle.meaning.specs.Syntax.{Pair}
-use Rattle.meaning.specs.Clauses.{wrong-renaming}
+use Rattle.meaning.specs.Origins.{Item}
+use Rattle.meaning.specs.Clauses.{renames, wrong-renaming}
 use Rattle.names.specs.Word.{name-of}
 use Rattle.tape.specs.Tape.{old-role}
 use Rattle.tables.specs.Entries.{role-at, name-at}
@@ -45,10 +46,7 @@ first-wrong right seen (r ∷ rs) =
 
 -- ---- renaming
 
-unfoldable pub is-known : List Name → Pair → Bool
-is-known known r = member (r .old) known
-
-pub renaming-wrong : (known seen : List Name) (rs : List Pair) → first-wrong (is-known known) seen rs ≡ wrong-renaming known seen rs
-unfolding first-wrong wrong-renaming is-known
-renaming-wrong known seen [] = refl
-renaming-wrong known seen (r ∷ rs) = rw (renaming-wrong known (r .old ∷ seen) rs)
+pub renaming-wrong : (visible : List Item) (seen : List Name) (rs : List Pair) → first-wrong (renames visible) seen rs ≡ wrong-renaming visible seen rs
+unfolding first-wrong wrong-renaming
+renaming-wrong visible seen [] = refl
+renaming-wrong visible seen (r ∷ rs) = rw (renaming-wrong visible (r .old ∷ seen) rs)

@@ -1,25 +1,115 @@
-// The check of a renaming's pairs, 14: every old name is visible, and none is given twice.
+// The check of a renaming's pairs, 14: every old name is visible, none is given twice, and an operator fits all that it is the new name of.
 use super::pairs::is_given;
+use super::pairs::new_word;
 use super::pairs::old_word;
 use super::pairs::pair_count;
 use super::searches::is_visible;
 use forms::Verdict;
+use names::joint::is_infix;
+use names::joint::is_operator;
+use tables::Row;
+use tables::entries::same_word;
+use tables::rows::read_row;
 ghost use mathlib.Core.Path.{_≡_};
 ghost use mathlib.Core.List.{[]};
 ghost use Prim.Native.Nat.{_≤_};
 ghost use lib.ListN.{length};
 ghost use Rattle.meaning.specs.Numbers.{bad-renaming};
-ghost use Rattle.meaning.specs.Normal.{names-in};
+ghost use Rattle.meaning.specs.Lists.{before};
 ghost use Rattle.meaning.specs.Checks.{unless};
-ghost use Rattle.meaning.specs.Clauses.{wrong-renaming};
+ghost use Rattle.meaning.specs.Clauses.{renames, wrong-renaming};
+ghost use Rattle.names.specs.Word.{name-of};
 ghost use Rattle.names.specs.Joint.{joint};
+ghost use Rattle.tables.specs.Rows.{item-of};
 ghost use Rattle.forms.specs.Memory.{part};
 ghost use Rattle.forms.specs.Forms.{items-at};
 ghost use Rattle.forms.specs.Verdicts.{told};
 ghost use Rattle.translation.specs.Translation.{pairs-at};
-ghost use Rattle.clauses.specs.Pairs.{is-known, rightly};
+ghost use Rattle.clauses.specs.Pairs.{pair-at, rightly};
+ghost use Rattle.clauses.specs.Renamed.{kind-named, unfit};
 
-// Is the old name of pair k visible among the rows, and given by no pair before?
+// May the name `new` stand for an item of the kind? An operator: for no sort, and for functions with as many arguments as it has.
+fn may_name(library: &[u8], text: &[u8], new: u32, kind: u32) -> bool
+    ensures { λ r. ⌜ r ≡ kind-named (name-of (joint (now (library .entry)) (now (text .entry))) new) kind ⌝ }
+{
+    if kind == 1 {
+        return true;
+    }
+    if is_operator(library, text, new) {
+        if is_infix(library, text, new) {
+            return kind == 4;
+        }
+        return kind == 3;
+    }
+    true
+}
+
+// Is the row called `old`, though `new` may not stand for it?
+fn is_unfit(library: &[u8], text: &[u8], tape: &[u32], old: u32, new: u32, row: Row) -> bool
+    ensures { λ r. ⌜ r ≡ unfit (name-of (joint (now (library .entry)) (now (text .entry))) old) (name-of (joint (now (library .entry)) (now (text .entry))) new) (item-of (joint (now (library .entry)) (now (text .entry))) (now (tape .entry)) row) ⌝ }
+{
+    let name = row.name;
+    if same_word(library, text, old, name) {
+        let kind = row.kind;
+        if may_name(library, text, new, kind) {
+            return false;
+        }
+        return true;
+    }
+    false
+}
+
+// The first such row; the number of rows if there is none.
+fn find_unfit(
+    library: &[u8],
+    text: &[u8],
+    work: &[u32],
+    t: usize,
+    b: u32,
+    n: u32,
+    old: u32,
+    new: u32,
+) -> u32
+    requires { ⌜ t ≤ length (now work) ⌝ }
+    ensures { λ r. ⌜ r ≡ before (unfit (name-of (joint (now (library .entry)) (now (text .entry))) old) (name-of (joint (now (library .entry)) (now (text .entry))) new)) (items-at (joint (now (library .entry)) (now (text .entry))) (part (now (work .entry)) 0 t) (now (work .entry)) b n) ⌝ }
+{
+    let mut i = 0;
+    while i < n {
+        let row = read_row(work, b, i);
+        if is_unfit(library, text, &work[0..t], old, new, row) {
+            return i;
+        }
+        i += 1;
+    }
+    n
+}
+
+// Is the old name of pair k visible among the rows, and may the new one stand for all that it renames?
+fn pair_renames(
+    library: &[u8],
+    text: &[u8],
+    work: &[u32],
+    t: usize,
+    pairs: u32,
+    k: u32,
+    visible: u32,
+    count: u32,
+) -> bool
+    requires { ⌜ t ≤ length (now work) ⌝ }
+    ensures { λ r. ⌜ r ≡ renames (items-at (joint (now (library .entry)) (now (text .entry))) (part (now (work .entry)) 0 t) (now (work .entry)) visible count) (pair-at (joint (now (library .entry)) (now (text .entry))) (part (now (work .entry)) 0 t) pairs k) ⌝ }
+{
+    let old = old_word(&work[0..t], pairs, k);
+    if is_visible(library, text, work, t, visible, count, old) {
+        let new = new_word(&work[0..t], pairs, k);
+        if is_operator(library, text, new) {
+            return count <= find_unfit(library, text, work, t, visible, count, old, new);
+        }
+        return true;
+    }
+    false
+}
+
+// Does pair k rename, and is its old name given by no pair before?
 fn renames(
     library: &[u8],
     text: &[u8],
@@ -31,10 +121,10 @@ fn renames(
     count: u32,
 ) -> bool
     requires { ⌜ t ≤ length (now work) ⌝ }
-    ensures { λ r. ⌜ r ≡ rightly (is-known (names-in (items-at (joint (now (library .entry)) (now (text .entry))) (part (now (work .entry)) 0 t) (now (work .entry)) visible count))) (joint (now (library .entry)) (now (text .entry))) (part (now (work .entry)) 0 t) pairs k ⌝ }
+    ensures { λ r. ⌜ r ≡ rightly (renames (items-at (joint (now (library .entry)) (now (text .entry))) (part (now (work .entry)) 0 t) (now (work .entry)) visible count)) (joint (now (library .entry)) (now (text .entry))) (part (now (work .entry)) 0 t) pairs k ⌝ }
 {
-    let old = old_word(&work[0..t], pairs, k);
-    if is_visible(library, text, work, t, visible, count, old) {
+    if pair_renames(library, text, work, t, pairs, k, visible, count) {
+        let old = old_word(&work[0..t], pairs, k);
         if is_given(library, text, &work[0..t], pairs, k, old) {
             return false;
         }
@@ -43,7 +133,7 @@ fn renames(
     false
 }
 
-// The first pair whose old name is not visible among the rows, or was given before.
+// The first pair that is wrong, or whose old name was given before.
 pub fn wrong_renaming(
     library: &[u8],
     text: &[u8],
@@ -54,7 +144,7 @@ pub fn wrong_renaming(
     count: u32,
 ) -> Verdict
     requires { ⌜ t ≤ length (now work) ⌝ }
-    ensures { λ r. ⌜ told (joint (now (library .entry)) (now (text .entry))) r ≡ unless bad-renaming (wrong-renaming (names-in (items-at (joint (now (library .entry)) (now (text .entry))) (part (now (work .entry)) 0 t) (now (work .entry)) visible count)) [] (pairs-at (joint (now (library .entry)) (now (text .entry))) (part (now (work .entry)) 0 t) pairs)) ⌝ }
+    ensures { λ r. ⌜ told (joint (now (library .entry)) (now (text .entry))) r ≡ unless bad-renaming (wrong-renaming (items-at (joint (now (library .entry)) (now (text .entry))) (part (now (work .entry)) 0 t) (now (work .entry)) visible count) [] (pairs-at (joint (now (library .entry)) (now (text .entry))) (part (now (work .entry)) 0 t) pairs)) ⌝ }
 {
     let n = pair_count(&work[0..t], pairs);
     let mut k: u32 = 0;

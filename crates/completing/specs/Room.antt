@@ -14,7 +14,7 @@ use Rattle.meaning.specs.Lists.{pick}
 use Rattle.meaning.specs.Numbers.{parameter-room, item-room, equation-room, item-total, equation-total, node-total, no-room}
 use Rattle.meaning.specs.Normal.{Visible, Hidden, Normal, unite-hidden}
 use Rattle.meaning.specs.Checks.{Outcome, fine, _>>_, Size, size, add-sizes, fits, room, total-room}
-use Rattle.names.specs.Word.{name-of}
+use Rattle.names.specs.Word.{no-name}
 use Rattle.forms.specs.declared.Form.{Form}
 use Rattle.forms.specs.declared.Block.{Block}
 use Rattle.forms.specs.declared.Made.{Made}
@@ -217,7 +217,7 @@ module _ (text : List ℕ) (t : ℕ) (w : List ℕ) (g f : Form) (b : Block) (r 
 
   -- the form, or 18, is what the meaning says
   pub fitted : (totals : Totals) (total : Size) → TotalsMeant totals total → Makes text tape w′ (fitting-all r totals) (in-room total all)
-  unfolding fitting-all fitting-together in-room fits pick _>>_ name-of
+  unfolding fitting-all fitting-together in-room fits pick _>>_
   fitted totals total e = rw room-meant (go (enough r) refl)
     where
       go : (a : Bool) → enough r ≡ a
@@ -228,5 +228,5 @@ module _ (text : List ℕ) (t : ℕ) (w : List ℕ) (g f : Form) (b : Block) (r 
         where
           inner : (c : Bool) → Stands text tape w′ r all → Makes text tape w′ (pick c (Done r) (Refused no-room 0)) (fits c >> fine all)
           inner true z = z
-          inner false z = (refl, refl)
-      go false q = (refl, refl)
+          inner false z = (refl, no-name text)
+      go false q = (refl, no-name text)

@@ -9,9 +9,9 @@ use borrow.Author.Tests.{lt-ltb, le-ltb, eq-eqb, ne-eqb}
 use lib.Dec.{eqb, ltb}
 use lib.ListN.{length}
 use Rattle.meaning.specs.Lists.{pick, each}
-use Rattle.meaning.specs.Names.{Name, same, member}
+use Rattle.meaning.specs.Names.{Name, is-operator, same, member}
 use Rattle.meaning.specs.Syntax.{Function, Signature, Parameter, Pair, Clause, renamed-by, bound-by, Import, VariableGroup, Term, node, Terms, no-terms, _then_, Sides, Equation, Module}
-use Rattle.tape.specs.Tape.{Entry, entry, input-role, output-role, export-sort, export-function, hidden-sort, hidden-function, flat-function, flat-signature, flat-parameter, flat-pair, flat-clause, flat-import, flat-group, flat-node, flat-term, flat-terms, flat-sides, flat-equation, flat-module, spelled, entries}
+use Rattle.tape.specs.Tape.{Entry, entry, input-role, output-role, export-sort, export-function, hidden-sort, hidden-function, flat-function, flat-signature, flat-parameter, flat-pair, flat-clause, flat-import, flat-group, role-with, closing, flat-node, how-many, flat-term, flat-terms, flat-sides, flat-equation, flat-module, spelled, entries}
 use Rattle.names.specs.Word.{name-of}
 use Rattle.tables.specs.Entries.{role-at, name-at, last-with, home-at}
 use Rattle.declarations.specs.Scans.{found, first-of}
@@ -101,16 +101,35 @@ module _ (P : ℕ → Type 0) where
       one g = all-last (map (entry 17) (g .names)) (entry 18 (g .sort)) (all-map 17 h (g .names)) l
 
   module _ (h : (r : ℕ) → 19 ≤ r → P r) where
-    all-node : (f : Name) (es : List Entry) → All P es → All P (flat-node f es)
+    -- the role of a name with arguments, and what closes them
+    all-role : (f : Name) (n : ℕ) → P (role-with f n)
+    unfolding role-with pick
+    all-role f n = go (is-operator f) (eqb n 1) (eqb n 2)
+      where
+        go : (x y z : Bool) → P (pick x (pick y 25 (pick z 26 21)) 21)
+        go true true z = h 25 (omega arith)
+        go true false true = h 26 (omega arith)
+        go true false false = h 21 (omega arith)
+        go false y z = h 21 (omega arith)
+
+    all-closing : (r : ℕ) → All P (closing r)
+    unfolding closing pick
+    all-closing r = go (eqb r 21)
+      where
+        go : (b : Bool) → All P (pick b (entry 22 [] ∷ []) [])
+        go true = (h 22 (omega arith), tt)
+        go false = tt
+
+    all-node : (f : Name) (n : ℕ) (es : List Entry) → All P es → All P (flat-node f n es)
     unfolding flat-node
-    all-node f [] l = (h 20 (omega arith), tt)
-    all-node f (e ∷ es) l = (h 21 (omega arith), all-last (e ∷ es) (entry 22 []) l (h 22 (omega arith)))
+    all-node f zero es l = (h 20 (omega arith), tt)
+    all-node f (suc n) es l = (all-role f (suc n), all-append es (closing (role-with f (suc n))) l (all-closing (role-with f (suc n))))
 
     mutual
       unfolding flat-term
 
       all-term : (t : Term) → All P (flat-term t)
-      all-term (node f ts) = all-node f (flat-terms ts) (all-terms ts)
+      all-term (node f ts) = all-node f (how-many ts) (flat-terms ts) (all-terms ts)
 
       all-terms : (ts : Terms) → All P (flat-terms ts)
       all-terms no-terms = tt

@@ -1,19 +1,18 @@
 -- What the checks after a clause or a union ask of places, and what comes of them (meaning/specs/Checks.antt, `checked`).
-use mathlib.Core.Path.{_≡_, refl, sym, ap, ap₂, _∙_, subst}
+use mathlib.Core.Path.{_≡_, refl, sym, ap, _∙_}
 use mathlib.Core.Logic.{inl}
 use mathlib.Core.Bool.{Bool, true, false, _&&_, false≢true}
-use mathlib.Core.List.{List, [], _∷_}
+use mathlib.Core.List.{List, []}
 use Prim.Native.Nat.{ℕ, zero, suc, _+_, _*_, _≤_}
 use native.Mathlib.Omega.{arith}
 use lib.Dec.{leb}
 use lib.ListN.{length}
 use borrow.Author.Tests.{leb-true}
 use Rattle.meaning.specs.Lists.{pick}
-use Rattle.meaning.specs.Names.{Name}
 use Rattle.meaning.specs.Numbers.{parameter-room, item-room, equation-room, no-room}
 use Rattle.meaning.specs.Normal.{Visible, Normal}
-use Rattle.meaning.specs.Checks.{Outcome, fine, stop, _>>=_, _>>_, Check, consistent, size, fits, room, checked}
-use Rattle.names.specs.Word.{name-of}
+use Rattle.meaning.specs.Checks.{fine, stop, _>>_, Check, consistent, size, fits, room, checked}
+use Rattle.names.specs.Word.{name-of, no-name}
 use Rattle.forms.specs.declared.Form.{Form}
 use Rattle.forms.specs.declared.Block.{Block}
 use Rattle.forms.specs.declared.Made.{Made}
@@ -88,12 +87,12 @@ fitting-in b f l nodes = go (enough f) refl
     go false e = tt
 
 fitting-made : (text tape w : List ℕ) (f : Form) (n : Normal) → Stands text tape w f n → Makes text tape w (fitting f) (fits (enough f) >> fine n)
-unfolding fitting fits pick _>>_ name-of
+unfolding fitting fits pick _>>_
 fitting-made text tape w f n s = go (enough f)
   where
     go : (c : Bool) → Makes text tape w (pick c (Done f) (Refused no-room 0)) (fits c >> fine n)
     go true = s
-    go false = (refl, refl)
+    go false = (refl, no-name text)
 
 -- a form that lies in a block ends before its order table
 pub record Ends (f : Form) (at : ℕ) : Type 0 where

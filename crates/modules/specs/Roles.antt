@@ -1,17 +1,18 @@
 -- Where the names of modules stand in a module laid flat (tape/specs/Tape.antt): its own at its head, those that it names in its imports,
 -- and none elsewhere.
 use mathlib.Core.Path.{_≡_, refl, ap, _∙_}
-use Prim.Native.Nat.{ℕ, _≤_}
+use Prim.Native.Nat.{ℕ, zero, suc, _≤_}
 use native.Mathlib.Omega.{arith}
 use mathlib.Core.Bool.{Bool, true, false}
 use mathlib.Core.List.{List, [], _∷_, _++_, map, append-nil, append-assoc}
+use lib.Dec.{eqb}
 use borrow.Author.Tests.{ne-eqb}
 use Rattle.meaning.specs.Lists.{pick, each}
-use Rattle.meaning.specs.Names.{Name}
+use Rattle.meaning.specs.Names.{Name, is-operator}
 use Rattle.meaning.specs.Syntax.{Function, Signature, Parameter, Pair, Clause, renamed-by, bound-by, Import, VariableGroup, Term, node, Terms, no-terms, _then_, Sides, Equation, Module}
 use Rattle.meaning.specs.Evaluate.{clause-names, import-names, named-by}
 use Rattle.meaning.specs.Reached.{module-names}
-use Rattle.tape.specs.Tape.{Entry, entry, flat-function, flat-signature, flat-parameter, flat-pair, flat-clause, flat-import, flat-group, flat-node, flat-term, flat-terms, flat-sides, flat-equation, flat-module, flat-modules}
+use Rattle.tape.specs.Tape.{Entry, entry, flat-function, flat-signature, flat-parameter, flat-pair, flat-clause, flat-import, flat-group, role-with, closing, flat-node, how-many, flat-term, flat-terms, flat-sides, flat-equation, flat-module, flat-modules}
 use Rattle.modules.specs.Modules.{is-module, names-module}
 
 -- the names of those entries whose role passes
@@ -103,17 +104,36 @@ module _ (p : ℕ → Bool) (o : Others p) where
   none-group g =
       none-append p (map (entry 17) (g .names)) _ (none-map p 17 (o .equating 17 (omega arith)) (g .names)) (none-last 18 (g .sort) (o .equating 18 (omega arith)))
 
-  none-node : (f : Name) (es : List Entry) → names-with p es ≡ [] → names-with p (flat-node f es) ≡ []
+  -- the role of a name with arguments, and what closes them
+  none-role : (f : Name) (n : ℕ) → p (role-with f n) ≡ false
+  unfolding role-with pick
+  none-role f n = go (is-operator f) (eqb n 1) (eqb n 2)
+    where
+      go : (x y z : Bool) → p (pick x (pick y 25 (pick z 26 21)) 21) ≡ false
+      go true true z = o .equating 25 (omega arith)
+      go true false true = o .equating 26 (omega arith)
+      go true false false = o .equating 21 (omega arith)
+      go false y z = o .equating 21 (omega arith)
+
+  none-closing : (r : ℕ) → names-with p (closing r) ≡ []
+  unfolding closing names-with pick
+  none-closing r = go (eqb r 21)
+    where
+      go : (b : Bool) → names-with p (pick b (entry 22 [] ∷ []) []) ≡ []
+      go true = none-last 22 [] (o .equating 22 (omega arith))
+      go false = refl
+
+  none-node : (f : Name) (n : ℕ) (es : List Entry) → names-with p es ≡ [] → names-with p (flat-node f n es) ≡ []
   unfolding flat-node
-  none-node f [] h = none-last 20 f (o .equating 20 (omega arith))
-  none-node f (e ∷ es) h =
-      none-cons p 21 f _ (o .equating 21 (omega arith)) (none-append p (e ∷ es) _ h (none-last 22 [] (o .equating 22 (omega arith))))
+  none-node f zero es h = none-last 20 f (o .equating 20 (omega arith))
+  none-node f (suc n) es h =
+      none-cons p (role-with f (suc n)) f _ (none-role f (suc n)) (none-append p es _ h (none-closing (role-with f (suc n))))
 
   mutual
     unfolding flat-term flat-terms names-with
 
     none-term : (t : Term) → names-with p (flat-term t) ≡ []
-    none-term (node f ts) = none-node f (flat-terms ts) (none-terms ts)
+    none-term (node f ts) = none-node f (how-many ts) (flat-terms ts) (none-terms ts)
 
     none-terms : (ts : Terms) → names-with p (flat-terms ts) ≡ []
     none-terms no-terms = refl

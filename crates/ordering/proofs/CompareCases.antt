@@ -13,7 +13,7 @@ use Rattle.meaning.specs.Names.{bytes-not-after, by-two}
 use Rattle.meaning.specs.Origins.{Item, sort-shape, function-shape, variable-shape}
 use Rattle.meaning.specs.Written.{origin-text, shape-text, shape-rank, standing-text, visible-order, hidden-order}
 use Rattle.meaning.specs.ListingOrder.{place-order}
-use Rattle.names.specs.Word.{name-of}
+use Rattle.names.specs.Word.{name-of, no-name}
 use Rattle.runs.specs.Orders.{compared, bytes-compared}
 use Rattle.tables.specs.declared.Section.{Section}
 use Rattle.tables.specs.declared.Section.the-variants as section
@@ -68,9 +68,9 @@ module _ (k l : ℕ) (s : Bool) where
 
 module _ (text : List ℕ) where
   standing-told : (s : Section) → name-of text (standing-word s) ≡ standing-text (section-of text s)
-  unfolding standing-word standing-text section-of name-of
-  standing-told section.Export = refl
-  standing-told section.Hidden = refl
+  unfolding standing-word standing-text section-of
+  standing-told section.Export = no-name text
+  standing-told section.Hidden = no-name text
   standing-told (section.Parameter p) = refl
 
 rank-told : (text tape : List ℕ) (k : ℕ) (sorts : List ℕ) → kind-rank k ≡ shape-rank (shape-of text tape k sorts)

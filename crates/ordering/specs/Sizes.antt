@@ -1,18 +1,17 @@
--- How many bytes origins and types are written with at most: names have at most forty, and there are at most nine sorts in a type.
+-- How many bytes origins and types are written with at most: names have at most forty-two, and there are at most nine sorts in a type.
 use mathlib.Core.Path.{_≡_, refl, ap}
 use mathlib.Core.Bool.{Bool, true, false}
 use mathlib.Core.List.{List, [], _∷_, _++_, map}
-use Prim.Native.Nat.{ℕ, zero, suc, _+_, _*_, _/_, _%_, _-_, _≤_, min}
+use Prim.Native.Nat.{ℕ, zero, suc, _+_, _*_, _/_, _%_, _-_, _≤_}
 use native.Mathlib.Omega.{arith}
 use lib.Dec.{eqb, ltb}
-use lib.ListN.{length, take, drop, getD, length-append, length-take, length-map}
+use lib.ListN.{length, take, getD, length-append, length-take, length-map}
 use Rattle.meaning.specs.Lists.{pick}
 use Rattle.meaning.specs.Names.{bytes}
-use Rattle.meaning.specs.Origins as meant
 use Rattle.meaning.specs.Origins.{Item, visible-sort, hidden-sort, sort-shape, function-shape, variable-shape, declared-sort, declared-function, declared-variable}
 use Rattle.meaning.specs.Written.{digits, decimal, between-marks, type-text, section-text, declared-text, origin-text, numbered, sort-text, function-type-text, shape-text}
 use Rattle.meaning.specs.OrderLaws.{Every}
-use Rattle.names.specs.Word.{name-of}
+use Rattle.names.specs.Word.{name-of, name-short}
 use Rattle.tape.specs.Tape.{variable-role}
 use Rattle.tables.specs.declared.Section.{Section}
 use Rattle.tables.specs.declared.Section.the-variants.{Export, Hidden, Parameter}
@@ -36,12 +35,8 @@ marked x (y ∷ z ∷ zs) c h =
 
 -- ---- names and numbers
 
-pub name-size-of : (text : List ℕ) (w : ℕ) → length (name-of text w) ≤ 40
-unfolding name-of
-name-size-of text w = omega (arith, length-take (min (w % 64) 40) (drop (w / 64) text))
-
-name-at-size : (text tape : List ℕ) (i : ℕ) → length (name-at text tape i) ≤ 40
-name-at-size text tape i = name-size-of text _
+name-at-size : (text tape : List ℕ) (i : ℕ) → length (name-at text tape i) ≤ 42
+name-at-size text tape i = name-short text _
 
 digits-size : (n k : ℕ) → length (digits n k) ≤ n
 unfolding digits pick
@@ -52,7 +47,7 @@ digits-size (suc n) k = go (ltb k 10) (digits-size n (k / 10))
     go true h = omega arith
     go false h = omega (arith, length-append (digits n (k / 10)) ((48 + k % 10) ∷ []))
 
-pub numbered-size : (k : ℕ) → length (numbered k) ≤ 40
+pub numbered-size : (k : ℕ) → length (numbered k) ≤ 42
 unfolding numbered decimal
 numbered-size k =
     let h = joined (bytes "{") (digits 10 k ++ bytes "}") 1 11 (omega arith) (joined (digits 10 k) (bytes "}") 10 1 (digits-size 10 k)
@@ -60,11 +55,11 @@ numbered-size k =
 
 -- ---- origins
 
-section-size : (text : List ℕ) (s : Section) → length (section-text (section-of text s)) ≤ 50
+section-size : (text : List ℕ) (s : Section) → length (section-text (section-of text s)) ≤ 52
 unfolding section-text section-of
 section-size text Export = omega arith
 section-size text Hidden = omega arith
-section-size text (Parameter p) = joined (bytes "parameter ") (name-of text p) 10 40 (omega arith) (name-size-of text p)
+section-size text (Parameter p) = joined (bytes "parameter ") (name-of text p) 10 42 (omega arith) (name-short text p)
 
 inputs-few : (tape : List ℕ) (i c : ℕ) → inputs-from tape i c ≤ c
 unfolding inputs-from pick
@@ -80,21 +75,21 @@ unfolding names-from
 names-length text tape i zero = refl
 names-length text tape i (suc c) = ap suc (names-length text tape (suc i) c)
 
-names-sizes : (text tape : List ℕ) (i c : ℕ) → Every (λ (y : List ℕ). length y ≤ 40) (names-from text tape i c)
+names-sizes : (text tape : List ℕ) (i c : ℕ) → Every (λ (y : List ℕ). length y ≤ 42) (names-from text tape i c)
 unfolding names-from
 names-sizes text tape i zero = tt
 names-sizes text tape i (suc c) = (name-at-size text tape i, names-sizes text tape (suc i) c)
 
--- at most nine sorts of at most forty bytes
-type-size : (i : List (List ℕ)) (o : List ℕ) → length i ≤ 9 → Every (λ (y : List ℕ). length y ≤ 40) i → length o ≤ 40
-    → length (type-text i o) ≤ 412
+-- at most nine sorts of at most forty-two bytes
+type-size : (i : List (List ℕ)) (o : List ℕ) → length i ≤ 9 → Every (λ (y : List ℕ). length y ≤ 42) i → length o ≤ 42
+    → length (type-text i o) ≤ 432
 unfolding type-text
 type-size i o h e k =
-    let inputs : length (between-marks (bytes "#") i) ≤ 369 = let m = marked 35 i 40 e in omega arith in
-    joined (bytes ":") (between-marks (bytes "#") i ++ (bytes "->" ++ o)) 1 411 (omega arith)
-    (joined (between-marks (bytes "#") i) (bytes "->" ++ o) 369 42 inputs (joined (bytes "->") o 2 40 (omega arith) k))
+    let inputs : length (between-marks (bytes "#") i) ≤ 387 = let m = marked 35 i 42 e in omega arith in
+    joined (bytes ":") (between-marks (bytes "#") i ++ (bytes "->" ++ o)) 1 431 (omega arith)
+    (joined (between-marks (bytes "#") i) (bytes "->" ++ o) 387 44 inputs (joined (bytes "->") o 2 42 (omega arith) k))
 
-declared-size : (text tape : List ℕ) (d : ℕ) → length (declared-text (declared-at text tape d)) ≤ 461
+declared-size : (text tape : List ℕ) (d : ℕ) → length (declared-text (declared-at text tape d)) ≤ 483
 unfolding declared-at arity-at declared-text pick
 declared-size text tape d = go (is-function-role (role-at tape d)) (eqb (role-at tape d) variable-role)
   where
@@ -103,20 +98,20 @@ declared-size text tape d = go (is-function-role (role-at tape d)) (eqb (role-at
 
     go : (f v : Bool) → length (declared-text (pick f
         (declared-function (name-at text tape d) (names-from text tape (d + 1) (arity-at tape d)) (name-at text tape (d + 1 + arity-at tape d)))
-        (pick v (declared-variable (name-at text tape d) (name-at text tape (sort-place tape d))) (declared-sort (name-at text tape d))))) ≤ 461
+        (pick v (declared-variable (name-at text tape d) (name-at text tape (sort-place tape d))) (declared-sort (name-at text tape d))))) ≤ 483
     go true v =
         let i = names-from text tape (d + 1) (arity-at tape d) in
         let o = name-at text tape (d + 1 + arity-at tape d) in
         let t = type-size i o few (names-sizes text tape (d + 1) (arity-at tape d)) (name-at-size text tape (d + 1 + arity-at tape d)) in
-        joined (bytes "function,") (name-at text tape d ++ type-text i o) 9 452 (omega arith)
-        (joined (name-at text tape d) (type-text i o) 40 412 (name-at-size text tape d) t)
+        joined (bytes "function,") (name-at text tape d ++ type-text i o) 9 474 (omega arith)
+        (joined (name-at text tape d) (type-text i o) 42 432 (name-at-size text tape d) t)
     go false true =
         let s = name-at text tape (sort-place tape d) in
         let t = type-size [] s (omega arith) tt (name-at-size text tape (sort-place tape d)) in
-        joined (bytes "variable,") (name-at text tape d ++ type-text [] s) 9 452 (omega arith)
-        (joined (name-at text tape d) (type-text [] s) 40 412 (name-at-size text tape d) t)
+        joined (bytes "variable,") (name-at text tape d ++ type-text [] s) 9 474 (omega arith)
+        (joined (name-at text tape d) (type-text [] s) 42 432 (name-at-size text tape d) t)
     go false false =
-        let h = joined (bytes "sort,") (name-at text tape d) 5 40 (omega arith) (name-at-size text tape d) in omega arith
+        let h = joined (bytes "sort,") (name-at text tape d) 5 42 (omega arith) (name-at-size text tape d) in omega arith
 
 pub origin-size : (text tape : List ℕ) (o : Origin) → length (origin-text (origin-of text tape o)) ≤ 4096
 unfolding origin-text origin-of
@@ -124,25 +119,25 @@ origin-size text tape o =
     let home = name-of text (o .home) in
     let section = section-text (section-of text (o .section)) in
     let declared = declared-text (declared-at text tape (o .place)) in
-    let last = joined declared (bytes "]") 461 1 (declared-size text tape (o .place)) (omega arith) in
-    let third = joined section (bytes "," ++ (declared ++ bytes "]")) 50 463 (section-size text (o .section))
-    (joined (bytes ",") (declared ++ bytes "]") 1 462 (omega arith) last) in
-    let second = joined home (bytes "," ++ (section ++ (bytes "," ++ (declared ++ bytes "]")))) 40 514 (name-size-of text (o .home))
-    (joined (bytes ",") (section ++ (bytes "," ++ (declared ++ bytes "]"))) 1 513 (omega arith) third) in
-    let all = joined (bytes "[") (home ++ (bytes "," ++ (section ++ (bytes "," ++ (declared ++ bytes "]"))))) 1 554 (omega arith) second in
+    let last = joined declared (bytes "]") 483 1 (declared-size text tape (o .place)) (omega arith) in
+    let third = joined section (bytes "," ++ (declared ++ bytes "]")) 52 485 (section-size text (o .section))
+    (joined (bytes ",") (declared ++ bytes "]") 1 484 (omega arith) last) in
+    let second = joined home (bytes "," ++ (section ++ (bytes "," ++ (declared ++ bytes "]")))) 42 538 (name-short text (o .home))
+    (joined (bytes ",") (section ++ (bytes "," ++ (declared ++ bytes "]"))) 1 537 (omega arith) third) in
+    let all = joined (bytes "[") (home ++ (bytes "," ++ (section ++ (bytes "," ++ (declared ++ bytes "]"))))) 1 580 (omega arith) second in
     omega arith
 
 -- ---- types
 
-sort-size : (text tape : List ℕ) (hidden : List Item) (w : ℕ) → length (sort-text hidden (sort-of text tape w)) ≤ 40
+sort-size : (text tape : List ℕ) (hidden : List Item) (w : ℕ) → length (sort-text hidden (sort-of text tape w)) ≤ 42
 unfolding sort-of sort-text pick
 sort-size text tape hidden w = go (eqb (w % 2) 0)
   where
-    go : (b : Bool) → length (sort-text hidden (pick b (visible-sort (name-of text (w / 2))) (hidden-sort (hidden-origin text tape (w / 2))))) ≤ 40
-    go true = name-size-of text (w / 2)
+    go : (b : Bool) → length (sort-text hidden (pick b (visible-sort (name-of text (w / 2))) (hidden-sort (hidden-origin text tape (w / 2))))) ≤ 42
+    go true = name-short text (w / 2)
     go false = numbered-size _
 
-sorts-sizes : (text tape : List ℕ) (hidden : List Item) (ws : List ℕ) → Every (λ (y : List ℕ). length y ≤ 40)
+sorts-sizes : (text tape : List ℕ) (hidden : List Item) (ws : List ℕ) → Every (λ (y : List ℕ). length y ≤ 42)
     (map (sort-text hidden) (map (sort-of text tape) ws))
 sorts-sizes text tape hidden [] = tt
 sorts-sizes text tape hidden (w ∷ ws) = (sort-size text tape hidden w, sorts-sizes text tape hidden ws)
@@ -164,7 +159,7 @@ shape-size text tape hidden kind sorts nine = go (eqb kind 0) (eqb kind 1)
         (pick q (variable-shape (sort-of text tape (getD sorts 8 0))) (function-shape (type-of text tape (kind - 2) sorts))))) ≤ 4096
     go true q = omega arith
     go false true =
-        let h = joined (bytes ":") (sort-text hidden (sort-of text tape (getD sorts 8 0))) 1 40 (omega arith)
+        let h = joined (bytes ":") (sort-text hidden (sort-of text tape (getD sorts 8 0))) 1 42 (omega arith)
         (sort-size text tape hidden (getD sorts 8 0)) in omega arith
     go false false =
         let h = type-size (map (sort-text hidden) (map (sort-of text tape) (take (kind - 2) sorts))) (sort-text hidden (sort-of text tape (getD sorts 8 0))) few

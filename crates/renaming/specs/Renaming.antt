@@ -9,7 +9,7 @@ use lib.ListN.{length}
 use Rattle.meaning.specs.Names.{Name}
 use Rattle.meaning.specs.Numbers.{bad-renaming}
 use Rattle.meaning.specs.Origins.{FunctionType}
-use Rattle.meaning.specs.Normal.{Visible, Hidden, Normal, empty, nothing-hidden, names-in, unite, move}
+use Rattle.meaning.specs.Normal.{Visible, Hidden, Normal, empty, nothing-hidden, unite, move}
 use Rattle.meaning.specs.Checks.{Check, fine, stop, _>>=_, _>>_, unless, checked}
 use Rattle.meaning.specs.Clauses.{renaming, wrong-renaming, rename}
 use Rattle.names.specs.Word.{name-of}
@@ -208,12 +208,12 @@ module _ (text : List ℕ) (t : ℕ) (w w₁ w₂ : List ℕ) (pairs : ℕ) (g e
       few = few-equations b g e
 
 module _ (text : List ℕ) (t : ℕ) (w w₁ : List ℕ) (pairs : ℕ) (g : Form) (b : Block) (v : Verdict)
-    (q : told text v ≡ unless bad-renaming (wrong-renaming (names-in (items-at text (part w 0 t) w (g .visible) (g .«visible_count»))) [] (pairs-at text (part w 0 t) pairs))) where
+    (q : told text v ≡ unless bad-renaming (wrong-renaming (items-at text (part w 0 t) w (g .visible) (g .«visible_count»)) [] (pairs-at text (part w 0 t) pairs))) where
   names-meant : (n : Normal) → Stands text (part w 0 t) w g n
-      → unless bad-renaming (wrong-renaming (names-in (n .visible .items)) [] (pairs-at text (part w 0 t) pairs)) ≡ told text v
+      → unless bad-renaming (wrong-renaming (n .visible .items) [] (pairs-at text (part w 0 t) pairs)) ≡ told text v
   unfolding visible-at
   names-meant n s =
-      ap (λ (u : Visible). unless bad-renaming (wrong-renaming (names-in (u .items)) [] (pairs-at text (part w 0 t) pairs))) (sym (s .visible)) ∙ sym q
+      ap (λ (u : Visible). unless bad-renaming (wrong-renaming (u .items) [] (pairs-at text (part w 0 t) pairs))) (sym (s .visible)) ∙ sym q
 
   pub rename-stop : (k x : ℕ) → v ≡ Stop k x → Renamed text t w pairs g b (Refused k x) w
   unfolding rename told

@@ -1,12 +1,16 @@
 -- One law for each way through the typer of terms, in the code's terms.
-use mathlib.Core.Path.{_≡_, refl, sym, _∙_}
+use mir.Syntax.{w64}
+use mir.Val.{Fits}
+use mathlib.Core.Path.{_≡_, refl, sym, ap, _∙_}
+use mathlib.Core.Bool.{Bool, true, false, false≢true}
 use mathlib.Core.List.{List, map}
-use Prim.Native.Nat.{ℕ, zero, suc, _+_, _-_, _*_, _<_, _≤_}
+use Prim.Native.Nat.{ℕ, zero, suc, _+_, _-_, _*_, _^_, _<_, _≤_}
 use native.Mathlib.Numerals.{sub-one}
 use native.Mathlib.Omega.{arith}
 use borrow.Author.Needs.{needs}
-use borrow.Author.Tests.{eq-eqb, ne-eqb, lt-ltb, le-ltb}
-use lib.ListN.{length, getD, set, take}
+use borrow.Author.Tests.{eq-eqb, ne-eqb, lt-ltb, le-ltb, ltb-true, ltb-false}
+use lib.Dec.{eqb, ltb}
+use lib.ListN.{length, getD, set, take, drop, length-take, length-drop, List·getD-eq-default}
 use Rattle.meaning.specs.Lists.{pick, before}
 use Rattle.names.specs.Word.{name-of}
 use Rattle.tables.specs.declared.Row.{Row}
@@ -16,7 +20,7 @@ use Rattle.typing.specs.declared.Known.{Known}
 use Rattle.typing.specs.declared.Answer.{Answer}
 use Rattle.typing.specs.declared.Answer.the-variants.{Sorted, Ill}
 use Rattle.typing.specs.Known.{variable-called, function-called}
-use Rattle.typing.specs.Typing.{Out, out, tape-in, items-in, node-word, settled, resolved, no-sorts, variable-row, function-row, alone-at, applied-at, further, at-close, args-by, term-by, term-at, args-at}
+use Rattle.typing.specs.Typing.{Out, out, tape-in, items-in, node-word, settled, resolved, no-sorts, variable-row, function-row, alone-at, applied-at, further, arguments-of, closers-of, ends-at, args-by, term-by, term-at, args-at}
 
 -- ---- one node
 
@@ -65,59 +69,126 @@ module _ (text : List ℕ) (k : Known) (i q : ℕ) (w : List ℕ) where
     unfolding applied-at resolved pick
     applied-ill m = rw (← g, le-ltb f (k .count) m)
 
--- ---- the arguments
+-- ---- how many arguments there are, and where they end
 
-module _ (text : List ℕ) (k : Known) (d head place i q n : ℕ) (sorts w : List ℕ) where
-  pub args-past : (left : ℕ) → k .tape ≤ i → out Ill w ≡ args-at text k d head place left i q n sorts w
-  unfolding args-by at-close pick
-  args-past zero h = rw (le-ltb i (k .tape) h)
-  args-past (suc left) h = rw (le-ltb i (k .tape) h)
+module _ (role : ℕ) where
+  pub arguments-head : role ≡ 21 → 9 ≡ arguments-of role
+  unfolding arguments-of pick
+  arguments-head h = rw (eq-eqb role 21 h)
 
-  -- what stands at i
-  module _ (h : i < k .tape) (role : ℕ) (e : role ≡ role-at (tape-in k w) i) where
-    pub args-done : (left : ℕ) (o : Out) → role ≡ 22 → o ≡ applied-at text k head place n sorts (i + 1) q w → o ≡ args-at text k d head place left i q n sorts w
-    unfolding args-by at-close pick
-    args-done zero o z t = rw (lt-ltb i (k .tape) h, ← e, eq-eqb role 22 z) t
-    args-done (suc left) o z t = rw (lt-ltb i (k .tape) h, ← e, eq-eqb role 22 z) t
+  pub closers-head : role ≡ 21 → 1 ≡ closers-of role
+  unfolding closers-of pick
+  closers-head h = rw (eq-eqb role 21 h)
 
-    module _ (z : role ≡ 22 → ⊥) where
-      pub args-many : (left : ℕ) → left ≡ 0 → out Ill w ≡ args-at text k d head place left i q n sorts w
-      unfolding args-by at-close pick
-      args-many left y = rw (y, lt-ltb i (k .tape) h, ← e, ne-eqb role 22 z)
+  module _ (h : role ≡ 21 → ⊥) where
+    pub arguments-prefix : role ≡ 25 → 1 ≡ arguments-of role
+    unfolding arguments-of pick
+    arguments-prefix g = rw (ne-eqb role 21 h, eq-eqb role 25 g)
 
-      module _ (r : Answer) (u : List ℕ) (f : out r u ≡ term-at text k d i q w) where
-        pub args-ill : (left : ℕ) → (left ≡ 0 → ⊥) → r ≡ Ill → out Ill u ≡ args-at text k d head place left i q n sorts w
-        unfolding args-by at-close further pick
-        args-ill zero y g = absurd (y refl)
-        args-ill (suc left) y g = rw (lt-ltb i (k .tape) h, ← e, ne-eqb role 22 z, ← f, g)
+    pub arguments-infix : (role ≡ 25 → ⊥) → role ≡ 26 → 2 ≡ arguments-of role
+    unfolding arguments-of pick
+    arguments-infix g f = rw (ne-eqb role 21 h, ne-eqb role 25 g, eq-eqb role 26 f)
 
-        args-more : (left s next free : ℕ) (more : List ℕ) → (left ≡ 0 → ⊥) → r ≡ Sorted s next free → more ≡ set sorts n s
-            → args-at text k d head place left i q n sorts w ≡ args-at text k d head place (left - 1) next free (n + 1) more u
-        unfolding args-by at-close further pick
-        args-more zero s next free more y g m = absurd (y refl)
-        args-more (suc left) s next free more y g m = rw (lt-ltb i (k .tape) h, ← e, ne-eqb role 22 z, ← f, g, ← m, sub-one)
+    pub arguments-none : (role ≡ 25 → ⊥) → (role ≡ 26 → ⊥) → 0 ≡ arguments-of role
+    unfolding arguments-of pick
+    arguments-none g f = rw (ne-eqb role 21 h, ne-eqb role 25 g, ne-eqb role 26 f)
+
+    pub closers-none : 0 ≡ closers-of role
+    unfolding closers-of pick
+    closers-none = rw (ne-eqb role 21 h)
+
+  pub arguments-few : (a : ℕ) → a ≡ arguments-of role → 0 + a ≤ 9
+  unfolding arguments-of pick
+  arguments-few a e = rw e (go (eqb role 21) (eqb role 25) (eqb role 26))
+    where
+      go : (x y z : Bool) → 0 + pick x 9 (pick y 1 (pick z 2 0)) ≤ 9
+      go true y z = omega arith
+      go false true z = omega arith
+      go false false true = omega arith
+      go false false false = omega arith
+
+  pub closers-few : (c : ℕ) → c ≡ closers-of role → c ≤ 1
+  unfolding closers-of pick
+  closers-few c e = rw e (go (eqb role 21))
+    where
+      go : (x : Bool) → pick x 1 0 ≤ 1
+      go true = omega arith
+      go false = omega arith
+
+module _ (tape : List ℕ) (c left i : ℕ) where
+  pub ends-counted : c ≡ 0 → eqb left 0 ≡ ends-at tape c left i
+  unfolding ends-at pick
+  ends-counted h = rw (eq-eqb c 0 h)
+
+  pub ends-closed : (role : ℕ) → role ≡ role-at tape i → (c ≡ 0 → ⊥) → eqb role 22 ≡ ends-at tape c left i
+  unfolding ends-at pick
+  ends-closed role e h = rw (ne-eqb c 0 h, e)
+
+-- what closes them is on the tape
+pub end-fits : (k : Known) (w : List ℕ) (c left i : ℕ) (b : Bool) → b ≡ ends-at (tape-in k w) c left i → b ≡ true → c ≤ 1 → length w < 2 ^ 64 → i < 2 ^ 64 → Fits w64 (i + c)
+unfolding ends-at pick
+end-fits k w zero left i b e t h g f = record { fits = omega arith }
+end-fits k w (suc (suc c)) left i b e t h g f = absurd (omega arith)
+end-fits k w (suc zero) left i b e t h g f = go (ltb i (length (tape-in k w))) refl
+  where
+    go : (x : Bool) → ltb i (length (tape-in k w)) ≡ x → Fits w64 (i + 1)
+    go true d = let l = ltb-true i (length (tape-in k w)) d in record { fits = omega (arith, length-take (k .tape - 0) (drop 0 w), length-drop 0 w) }
+    go false d =
+        let z = List·getD-eq-default (tape-in k w) 0 (ltb-false i (length (tape-in k w)) d) in
+        absurd (false≢true (rw z at (sym e ∙ t)))
+
+-- ---- the arguments; b tells whether they end before i
+
+module _ (text : List ℕ) (k : Known) (d head place c i q n : ℕ) (sorts w : List ℕ) where
+  pub args-done : (left : ℕ) (b : Bool) (o : Out) → b ≡ ends-at (tape-in k w) c left i → b ≡ true → o ≡ applied-at text k head place n sorts (i + c) q w
+      → o ≡ args-at text k d head place c left i q n sorts w
+  unfolding args-by pick
+  args-done zero b o e z t = rw (← e, z) t
+  args-done (suc left) b o e z t = rw (← e, z) t
+
+  module _ (left : ℕ) (b : Bool) (e : b ≡ ends-at (tape-in k w) c left i) (z : b ≡ false) where
+    pub args-many : left ≡ 0 → out Ill w ≡ args-at text k d head place c left i q n sorts w
+    unfolding args-by pick
+    args-many y = let f : ends-at (tape-in k w) c 0 i ≡ false = rw y at (sym e ∙ z) in rw (y, f)
+
+    module _ (r : Answer) (u : List ℕ) (f : out r u ≡ term-at text k d i q w) (y : left ≡ 0 → ⊥) where
+      abbrev onward : left ≡ suc (left - 1)
+      onward = omega arith
+
+      pub args-ill : r ≡ Ill → out Ill u ≡ args-at text k d head place c left i q n sorts w
+      unfolding args-by further pick
+      args-ill g = let h : ends-at (tape-in k w) c (suc (left - 1)) i ≡ false = rw onward at (sym e ∙ z) in rw (onward, h, ← f, g)
+
+      args-more : (s next free : ℕ) (more : List ℕ) → r ≡ Sorted s next free → more ≡ set sorts n s
+          → args-at text k d head place c left i q n sorts w ≡ args-at text k d head place c (left - 1) next free (n + 1) more u
+      unfolding args-by further pick
+      args-more s next free more g m =
+          let h : ends-at (tape-in k w) c (suc (left - 1)) i ≡ false = rw onward at (sym e ∙ z) in
+          ap (λ (x : ℕ). args-at text k d head place c x i q n sorts w) onward ∙ rw (h, ← f, g, ← m)
 
 -- what is wanted is what is wanted from here
-pub record Arguing (text : List ℕ) (k : Known) (d head place left₀ i₀ q₀ n₀ : ℕ) (sorts₀ w₀ : List ℕ) (left i q n : ℕ) (sorts w : List ℕ) : Type 0 where
+pub record Arguing (text : List ℕ) (k : Known) (d head place c left₀ i₀ q₀ n₀ : ℕ) (sorts₀ w₀ : List ℕ) (left i q n : ℕ) (sorts w : List ℕ) : Type 0 where
   pub size : length w ≡ length w₀
   pub few : n + left ≤ 9
-  pub rest : args-at text k d head place left₀ i₀ q₀ n₀ sorts₀ w₀ ≡ args-at text k d head place left i q n sorts w
+  pub fits : i < 2 ^ 64
+  pub rest : args-at text k d head place c left₀ i₀ q₀ n₀ sorts₀ w₀ ≡ args-at text k d head place c left i q n sorts w
 
-module _ (text : List ℕ) (k : Known) (d head place left₀ i₀ q₀ n₀ : ℕ) (sorts₀ w₀ : List ℕ) where
-  pub args-start : n₀ + left₀ ≤ 9 → Arguing text k d head place left₀ i₀ q₀ n₀ sorts₀ w₀ left₀ i₀ q₀ n₀ sorts₀ w₀
-  args-start h = record { size = refl; few = h; rest = refl }
+module _ (text : List ℕ) (k : Known) (d head place c left₀ i₀ q₀ n₀ : ℕ) (sorts₀ w₀ : List ℕ) where
+  pub args-start : n₀ + left₀ ≤ 9 → i₀ < 2 ^ 64 → Arguing text k d head place c left₀ i₀ q₀ n₀ sorts₀ w₀ left₀ i₀ q₀ n₀ sorts₀ w₀
+  args-start h f = record { size = refl; few = h; fits = f; rest = refl }
 
-  module _ (left i q n : ℕ) (sorts w : List ℕ) (inv : Arguing text k d head place left₀ i₀ q₀ n₀ sorts₀ w₀ left i q n sorts w) where
-    pub args-end : (o : Out) → o ≡ args-at text k d head place left i q n sorts w → o ≡ args-at text k d head place left₀ i₀ q₀ n₀ sorts₀ w₀
+  module _ (left i q n : ℕ) (sorts w : List ℕ) (inv : Arguing text k d head place c left₀ i₀ q₀ n₀ sorts₀ w₀ left i q n sorts w) where
+    pub args-end : (o : Out) → o ≡ args-at text k d head place c left i q n sorts w → o ≡ args-at text k d head place c left₀ i₀ q₀ n₀ sorts₀ w₀
     args-end o e = e ∙ sym (inv .rest)
 
-    pub args-again : (role : ℕ) (r : Answer) (u : List ℕ) (s next free : ℕ) (more : List ℕ) → i < k .tape → role ≡ role-at (tape-in k w) i → (role ≡ 22 → ⊥) → (left ≡ 0 → ⊥)
-        → out r u ≡ term-at text k d i q w → r ≡ Sorted s next free → length u ≡ length w → more ≡ set sorts n s
-        → Arguing text k d head place left₀ i₀ q₀ n₀ sorts₀ w₀ (left - 1) next free (n + 1) more u
-    args-again role r u s next free more h e z y f g l m = record {
+    pub args-again : (b : Bool) (r : Answer) (u : List ℕ) (s next free : ℕ) (more : List ℕ) → b ≡ ends-at (tape-in k w) c left i → b ≡ false → (left ≡ 0 → ⊥)
+        → out r u ≡ term-at text k d i q w → r ≡ Sorted s next free → length u ≡ length w → more ≡ set sorts n s → next < 2 ^ 64
+        → Arguing text k d head place c left₀ i₀ q₀ n₀ sorts₀ w₀ (left - 1) next free (n + 1) more u
+    args-again b r u s next free more e z y f g l m p = record {
       size = l ∙ inv .size;
       few = omega (arith, inv .few);
-      rest = inv .rest ∙ args-more text k d head place i q n sorts w h role e z r u f left s next free more y g m;
+      fits = p;
+      rest = inv .rest ∙ args-more text k d head place c i q n sorts w left b e z r u f y s next free more g m;
     }
 
 -- ---- the term
@@ -128,11 +199,11 @@ module _ (text : List ℕ) (k : Known) (d i q : ℕ) (w : List ℕ) where
   term-deep z = rw z
 
   -- the arguments stand one less deep
-  term-any : (d ≡ 0 → ⊥) → term-at text k d i q w ≡ term-by text k (λ j p v. args-at text k (d - 1) j p 9 (j + 1) (p + 1) 0 no-sorts v) i q w
+  term-any : (d ≡ 0 → ⊥) → term-at text k d i q w ≡ term-by text k (λ c left j p v. args-at text k (d - 1) j p c left (j + 1) (p + 1) 0 no-sorts v) i q w
   unfolding term-at
   term-any z = go d z
     where
-      go : (d : ℕ) → (d ≡ 0 → ⊥) → term-at text k d i q w ≡ term-by text k (λ j p v. args-at text k (d - 1) j p 9 (j + 1) (p + 1) 0 no-sorts v) i q w
+      go : (d : ℕ) → (d ≡ 0 → ⊥) → term-at text k d i q w ≡ term-by text k (λ c left j p v. args-at text k (d - 1) j p c left (j + 1) (p + 1) 0 no-sorts v) i q w
       go zero z = absurd (z refl)
       go (suc d) z = rw sub-one
 
@@ -151,13 +222,14 @@ module _ (text : List ℕ) (k : Known) (d i q : ℕ) (w : List ℕ) where
         unfolding term-by pick
         term-alone o y t = rw (term-any z, lt-ltb i (k .tape) h, lt-ltb q (length w) g, ← e, eq-eqb role 20 y) t
 
-        pub term-args : (o : Out) → (role ≡ 20 → ⊥) → role ≡ 21 → o ≡ args-at text k (d - 1) i q 9 (i + 1) (q + 1) 0 no-sorts w → o ≡ term-at text k d i q w
-        unfolding term-by pick
-        term-args o x y t = rw (term-any z, lt-ltb i (k .tape) h, lt-ltb q (length w) g, ← e, ne-eqb role 20 x, eq-eqb role 21 y) t
+        module _ (x : role ≡ 20 → ⊥) (a : ℕ) (y : a ≡ arguments-of role) where
+          pub term-args : (c : ℕ) (o : Out) → c ≡ closers-of role → (a ≡ 0 → ⊥) → o ≡ args-at text k (d - 1) i q c a (i + 1) (q + 1) 0 no-sorts w → o ≡ term-at text k d i q w
+          unfolding term-by pick
+          term-args c o f p t = rw (term-any z, lt-ltb i (k .tape) h, lt-ltb q (length w) g, ← e, ne-eqb role 20 x, ← y, ← f, ne-eqb a 0 p) t
 
-        pub term-other : (role ≡ 20 → ⊥) → (role ≡ 21 → ⊥) → out Ill w ≡ term-at text k d i q w
-        unfolding term-by pick
-        term-other x y = rw (term-any z, lt-ltb i (k .tape) h, lt-ltb q (length w) g, ← e, ne-eqb role 20 x, ne-eqb role 21 y)
+          pub term-other : a ≡ 0 → out Ill w ≡ term-at text k d i q w
+          unfolding term-by pick
+          term-other p = rw (term-any z, lt-ltb i (k .tape) h, lt-ltb q (length w) g, ← e, ne-eqb role 20 x, ← y, eq-eqb a 0 p)
 
 -- what the answers of this crate hand to `search`
-pub ruleset cases = (node-visible, node-hidden, settle-done, row-of-variable, row-of-function, alone-variable, alone-constant, applied-found, applied-ill, args-past, args-done, args-many, args-ill, args-start, args-again, args-end, term-deep, term-past, term-full, term-alone, term-args, term-other, needs)
+pub ruleset cases = (node-visible, node-hidden, settle-done, row-of-variable, row-of-function, alone-variable, alone-constant, applied-found, applied-ill, arguments-head, arguments-prefix, arguments-infix, arguments-none, arguments-few, closers-head, closers-none, closers-few, ends-counted, ends-closed, args-done, args-many, args-ill, args-start, args-again, args-end, term-deep, term-past, term-full, term-alone, term-args, term-other, needs)

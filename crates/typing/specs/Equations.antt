@@ -7,7 +7,7 @@ use lib.Dec.{eqb, ltb}
 use lib.Seq.{sets}
 use Rattle.meaning.specs.Lists.{pick}
 use Rattle.meaning.specs.Origins.{same-sort}
-use Rattle.tape.specs.Tape.{alone-role, head-role, condition-role, conclusion-role}
+use Rattle.tape.specs.Tape.{alone-role, head-role, prefix-role, infix-role, condition-role, conclusion-role}
 use Rattle.tables.specs.Entries.{role-at, word-at}
 use Rattle.tables.specs.Rows.{sort-of}
 use Rattle.typing.specs.declared.Known.{Known}
@@ -48,10 +48,13 @@ pub record Pass : Type 0 where
 abbrev pub passed : Passed → List ℕ → Pass
 passed r w = record { answer = r; memory = w }
 
+-- an entry of the role begins a term
+unfoldable pub is-opening : ℕ → Bool
+is-opening role = pick (eqb role alone-role) true (pick (eqb role head-role) true (pick (eqb role prefix-role) true (eqb role infix-role)))
+
 -- a term begins at i, before the end
 unfoldable pub begins-at : List ℕ → ℕ → ℕ → Bool
-begins-at tape i end =
-    pick (ltb i end) (pick (eqb (role-at tape i) alone-role) true (eqb (role-at tape i) head-role)) false
+begins-at tape i end = pick (ltb i end) (is-opening (role-at tape i)) false
 
 -- after two sides: they are kept where their entry has the role
 unfoldable pub after-sides : Known → ℕ → (ℕ → ℕ → ℕ → List ℕ → Pass) → ℕ → ℕ → Answer → List ℕ → Pass

@@ -1,7 +1,8 @@
 pub mod Known
 pub mod Typing
-pub mod Meant
 pub mod Equations
+pub mod Meant
+pub mod Terms
 pub mod Sides
 pub mod Chosen
 pub mod Equated

@@ -24,7 +24,7 @@ use Rattle.typing.specs.declared.Known.{Known}
 use Rattle.typing.specs.declared.Module.{Module}
 use Rattle.typing.specs.declared.Equated.the-variants.{All, Stop}
 use Rattle.typing.specs.Typing.{tape-in, items-in}
-use Rattle.typing.specs.Equations.{Pass, begins-at, turn-at, Told, told, after-turn, equations-from}
+use Rattle.typing.specs.Equations.{Pass, is-opening, begins-at, turn-at, Told, told, after-turn, equations-from}
 use Rattle.typing.specs.Meant.{Spells, spells-front, spells-back, Layout, Pointed, tape-stays}
 use Rattle.typing.specs.Chosen.{stand-stays}
 use Rattle.typing.specs.Equated.{equation-entries}
@@ -124,7 +124,7 @@ module _ (text : List ℕ) (k : Known) (w₀ : List ℕ) (m : Module) where
     -- behind an equation stands the next one's tag, or the end
     quiet : (es : List Equation) (i : ℕ) → Spells text k w₀ i (each on-tape.flat-equation es) → i + length (each on-tape.flat-equation es) ≡ m .end
         → begins-at (tape-in k w₀) i (m .end) ≡ false
-    unfolding each begins-at pick
+    unfolding each begins-at is-opening pick
     quiet [] i s h = rw (le-ltb i (m .end) (omega arith))
     quiet (e ∷ es) i s h =
         let t = rw (equation-entries e) at s in

@@ -23,7 +23,8 @@ use Rattle.typing.specs.declared.Answer.{Answer}
 use Rattle.typing.specs.declared.Answer.the-variants.{Sorted, Ill}
 use Rattle.typing.specs.Typing.{Out, out, items-in, term-at}
 use Rattle.typing.specs.Equations.{right-checked, right-at, left-checked, sides-at}
-use Rattle.typing.specs.Meant.{map-append, sets-append, Spells, spells-front, spells-back, Layout, node-here, Pointed, tape-stays, sets-kept, Agrees, term-typed}
+use Rattle.typing.specs.Meant.{map-append, sets-append, Spells, spells-front, spells-back, Layout, node-here, Pointed, tape-stays, sets-kept}
+use Rattle.typing.specs.Terms.{Agrees, term-typed}
 
 module _ (text : List ℕ) (k : Known) (w₀ : List ℕ) where
   -- the sides of `size` entries from i on are s: the words are their nodes, written from q on

@@ -1,12 +1,13 @@
 -- Typing in memory, as the code goes: the entries of a term from i on, and its nodes from place q on. A node is written behind its
 -- arguments' nodes, at the place kept for it in front of them.
 use Prim.Native.Nat.{ℕ, zero, suc, _+_, _-_, _*_}
+use mathlib.Core.Bool.{Bool}
 use mathlib.Core.List.{List, map}
 use lib.Dec.{eqb, ltb}
 use lib.ListN.{length, getD, set, take, replicate}
 use Rattle.meaning.specs.Lists.{pick, before}
 use Rattle.meaning.specs.Origins.{Item}
-use Rattle.tape.specs.Tape.{alone-role, head-role, close-role}
+use Rattle.tape.specs.Tape.{alone-role, head-role, close-role, prefix-role, infix-role}
 use Rattle.tables.specs.Entries.{role-at, name-at}
 use Rattle.tables.specs.Rows.{sort-of, row-at}
 use Rattle.forms.specs.Memory.{part}
@@ -70,31 +71,39 @@ unfoldable pub further : (ℕ → ℕ → ℕ → List ℕ → List ℕ → Out)
 further more n sorts Ill w = out Ill w
 further more n sorts (Sorted s next free) w = more next free (n + 1) (set sorts n s) w
 
--- the entry at i closes the arguments, where it is on the tape
-unfoldable pub at-close : Known → ℕ → List ℕ → Out → Out → Out
-at-close k i w closed onward = pick (ltb i (k .tape)) (pick (eqb (role-at (tape-in k w) i) close-role) closed onward) (out Ill w)
+-- how many arguments a name of the role may have, at the most; an operator has no fewer
+unfoldable pub arguments-of : ℕ → ℕ
+arguments-of role = pick (eqb role head-role) 9 (pick (eqb role prefix-role) 1 (pick (eqb role infix-role) 2 0))
+
+-- how many entries close them: none where they are counted
+unfoldable pub closers-of : ℕ → ℕ
+closers-of role = pick (eqb role head-role) 1 0
+
+-- the arguments end before i, of which `left` more may come
+unfoldable pub ends-at : List ℕ → ℕ → ℕ → ℕ → Bool
+ends-at tape closers left i = pick (eqb closers 0) (eqb left 0) (eqb (role-at tape i) close-role)
 
 -- the arguments from i on, at most `left`, each typed by `term`, up to what closes them; n sorts are there
-unfoldable pub args-by : Known → (ℕ → ℕ → List ℕ → Out) → (ℕ → List ℕ → ℕ → ℕ → List ℕ → Out) → ℕ → ℕ → ℕ → ℕ → List ℕ → List ℕ → Out
-args-by k term apply zero i q n sorts w = at-close k i w (apply n sorts (i + 1) q w) (out Ill w)
-args-by k term apply (suc left) i q n sorts w =
+unfoldable pub args-by : Known → (ℕ → ℕ → List ℕ → Out) → (ℕ → List ℕ → ℕ → ℕ → List ℕ → Out) → ℕ → ℕ → ℕ → ℕ → ℕ → List ℕ → List ℕ → Out
+args-by k term apply closers zero i q n sorts w = pick (ends-at (tape-in k w) closers 0 i) (apply n sorts (i + closers) q w) (out Ill w)
+args-by k term apply closers (suc left) i q n sorts w =
     let o = term i q w in
-    let more = further (args-by k term apply left) n sorts (o .answer) (o .memory) in
-    at-close k i w (apply n sorts (i + 1) q w) more
+    let more = further (args-by k term apply closers left) n sorts (o .answer) (o .memory) in
+    pick (ends-at (tape-in k w) closers (suc left) i) (apply n sorts (i + closers) q w) more
 
--- the term at i, whose arguments are typed by `args`
-unfoldable pub term-by : List ℕ → Known → (ℕ → ℕ → List ℕ → Out) → ℕ → ℕ → List ℕ → Out
+-- the term at i, whose arguments are typed by `args`, so many of them and closed by so many entries
+unfoldable pub term-by : List ℕ → Known → (ℕ → ℕ → ℕ → ℕ → List ℕ → Out) → ℕ → ℕ → List ℕ → Out
 term-by text k args i q w =
     let role = role-at (tape-in k w) i in
-    let a = args i q w in
-    let t = pick (eqb role alone-role) (alone-at text k i q w) (pick (eqb role head-role) a (out Ill w)) in
+    let a = args (closers-of role) (arguments-of role) i q w in
+    let t = pick (eqb role alone-role) (alone-at text k i q w) (pick (eqb (arguments-of role) 0) (out Ill w) a) in
     pick (ltb i (k .tape)) (pick (ltb q (length w)) t (out Ill w)) (out Ill w)
 
 -- the term at i, down to a depth
 unfoldable pub term-at : List ℕ → Known → ℕ → ℕ → ℕ → List ℕ → Out
 term-at text k zero i q w = out Ill w
 term-at text k (suc depth) i q w =
-    term-by text k (λ j p v. args-by k (term-at text k depth) (applied-at text k j p) 9 (j + 1) (p + 1) 0 no-sorts v) i q w
+    term-by text k (λ closers left j p v. args-by k (term-at text k depth) (applied-at text k j p) closers left (j + 1) (p + 1) 0 no-sorts v) i q w
 
-abbrev pub args-at : List ℕ → Known → ℕ → ℕ → ℕ → ℕ → ℕ → ℕ → ℕ → List ℕ → List ℕ → Out
-args-at text k depth head place left i q n sorts w = args-by k (term-at text k depth) (applied-at text k head place) left i q n sorts w
+abbrev pub args-at : List ℕ → Known → ℕ → ℕ → ℕ → ℕ → ℕ → ℕ → ℕ → ℕ → List ℕ → List ℕ → Out
+args-at text k depth head place closers left i q n sorts w = args-by k (term-at text k depth) (applied-at text k head place) closers left i q n sorts w

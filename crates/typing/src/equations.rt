@@ -71,7 +71,13 @@ fn begins_at(tape: &[u32], i: usize, end: usize) -> bool
         if role == 20 {
             return true;
         }
-        return role == 21;
+        if role == 21 {
+            return true;
+        }
+        if role == 25 {
+            return true;
+        }
+        return role == 26;
     }
     false
 }

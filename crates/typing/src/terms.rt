@@ -11,7 +11,7 @@ ghost use mathlib.Core.Path.{_≡_};
 ghost use Prim.Native.Nat.{_+_, _≤_, _<_};
 ghost use lib.ListN.{length};
 ghost use Rattle.names.specs.Joint.{joint};
-ghost use Rattle.typing.specs.Typing.{out, node-word, settled, variable-row, function-row, alone-at, applied-at, args-at, term-at};
+ghost use Rattle.typing.specs.Typing.{out, node-word, settled, variable-row, function-row, alone-at, applied-at, arguments-of, closers-of, ends-at, args-at, term-at};
 
 // The node of a row and a number of arguments.
 fn node_word(k: Known, row: u32, n: usize) -> u32
@@ -120,6 +120,32 @@ fn type_alone(library: &[u8], text: &[u8], work: &mut [u32], k: Known, i: usize,
     type_applied(library, text, work, k, i, q, 0, [0; 9], i + 1, q + 1)
 }
 
+// How many arguments a name of the role may have, at the most; an operator has no fewer.
+fn arguments_of(role: u32) -> usize
+    ensures { λ r. ⌜ r ≡ arguments-of role ⌝ }
+{
+    if role == 21 {
+        return 9;
+    }
+    if role == 25 {
+        return 1;
+    }
+    if role == 26 {
+        return 2;
+    }
+    0
+}
+
+// How many entries close them: none where they are counted.
+fn closers_of(role: u32) -> usize
+    ensures { λ r. ⌜ r ≡ closers-of role ⌝ }
+{
+    if role == 21 {
+        return 1;
+    }
+    0
+}
+
 // The term at i, down to a depth; its nodes are written from q on.
 pub fn type_term(
     library: &[u8],
@@ -143,30 +169,43 @@ pub fn type_term(
             if role == 20 {
                 return type_alone(library, text, work, k, i, q);
             }
-            if role == 21 {
-                return type_args(
-                    library,
-                    text,
-                    work,
-                    k,
-                    depth - 1,
-                    i,
-                    q,
-                    9,
-                    i + 1,
-                    q + 1,
-                    0,
-                    [0; 9],
-                );
+            let a = arguments_of(role);
+            if a == 0 {
+                return Answer::Ill;
             }
-            return Answer::Ill;
+            let c = closers_of(role);
+            return type_args(
+                library,
+                text,
+                work,
+                k,
+                depth - 1,
+                i,
+                q,
+                c,
+                a,
+                i + 1,
+                q + 1,
+                0,
+                [0; 9],
+            );
         }
         return Answer::Ill;
     }
     Answer::Ill
 }
 
-// The arguments of the name at `head`: at most `left` more from i on, and n sorts of those before.
+// Do the arguments end before i, of which `left` more may come?
+fn ends_at(tape: &[u32], closers: usize, left: usize, i: usize) -> bool
+    ensures { λ r. ⌜ r ≡ ends-at (now (tape .entry)) closers left i ⌝ }
+{
+    if closers == 0 {
+        return left == 0;
+    }
+    role_at(tape, i) == 22
+}
+
+// The arguments of the name at `head`, closed by so many entries: at most `left` more from i on, and n sorts of those before.
 fn type_args(
     library: &[u8],
     text: &[u8],
@@ -175,14 +214,15 @@ fn type_args(
     depth: usize,
     head: usize,
     place: usize,
+    closers: usize,
     left: usize,
     i: usize,
     q: usize,
     n: usize,
     sorts: [u32; 9],
 ) -> Answer
-    requires { ⌜ (k .tape ≤ length (now work)) × (k .count ≤ 65536) × (k .hidden ≤ 65536) × (n + left ≤ 9) ⌝ }
-    ensures { λ r. ⌜ out r (now (work .exit)) ≡ args-at (joint (now (library .entry)) (now (text .entry))) k depth head place left i q n sorts (now (work .entry)) ⌝ }
+    requires { ⌜ (k .tape ≤ length (now work)) × (k .count ≤ 65536) × (k .hidden ≤ 65536) × (closers ≤ 1) × (n + left ≤ 9) ⌝ }
+    ensures { λ r. ⌜ out r (now (work .exit)) ≡ args-at (joint (now (library .entry)) (now (text .entry))) k depth head place closers left i q n sorts (now (work .entry)) ⌝ }
 {
     let t = k.tape;
     let mut rest = left;
@@ -190,10 +230,9 @@ fn type_args(
     let mut free = q;
     let mut count = n;
     let mut known = sorts;
-    while at < t {
-        let role = role_at(&work[0..t], at);
-        if role == 22 {
-            let end = at + 1;
+    loop {
+        if ends_at(&work[0..t], closers, rest, at) {
+            let end = at + closers;
             return type_applied(library, text, work, k, head, place, count, known, end, free);
         }
         if rest == 0 {
@@ -214,5 +253,4 @@ fn type_args(
         free = behind;
         rest -= 1;
     }
-    Answer::Ill
 }

@@ -1,6 +1,6 @@
 -- `clauses::bindings::binds` meets its contract.
 -- Assumes nothing.
-use Rattle.clauses.proofs.BindingCases.{fits}
+use Rattle.clauses.proofs.PairWalks.{singles}
 use borrow.Author.Needs.{needs}
 use Rattle.clauses.proofs.bindings.binds.Statement.{statement}
 use Rattle.clauses.proofs.bindings.binds.Tie as tie
@@ -18,7 +18,7 @@ binds-spec =
     (λ c. search needs)  -- part-is-given-start
     (λ c. search needs)  -- part-is-given-end
     (λ c κs. search needs)  -- is-given-requires
-    (λ c. search fits)  -- returns
-    (λ c. search fits)  -- returns-2
-    (λ c. search fits)  -- returns-3
+    (λ c. search singles)  -- returns
+    (λ c. search singles)  -- returns-2
+    (λ c. search singles)  -- returns-3
     )

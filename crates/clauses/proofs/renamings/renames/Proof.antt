@@ -1,6 +1,6 @@
 -- `clauses::renamings::renames` meets its contract.
 -- Assumes nothing.
-use Rattle.clauses.proofs.PairWalks.{renamings}
+use Rattle.clauses.proofs.PairWalks.{singles}
 use borrow.Author.Needs.{needs}
 use Rattle.clauses.proofs.renamings.renames.Statement.{statement}
 use Rattle.clauses.proofs.renamings.renames.Tie as tie
@@ -9,16 +9,16 @@ pub renames-spec : {M : Type 1} → statement M
 renames-spec =
     tie.close
     (tie.spec
+    (λ c κs. search needs)  -- pair-renames-requires
     (λ c. search needs)  -- sub-old-word
     (λ c. search needs)  -- part-old-word-start
     (λ c. search needs)  -- part-old-word-end
     (λ c κs. search needs)  -- old-word-requires
-    (λ c κs. search needs)  -- is-visible-requires
     (λ c. search needs)  -- sub-is-given
     (λ c. search needs)  -- part-is-given-start
     (λ c. search needs)  -- part-is-given-end
     (λ c κs. search needs)  -- is-given-requires
-    (λ c. search renamings)  -- returns
-    (λ c. search renamings)  -- returns-2
-    (λ c. search renamings)  -- returns-3
+    (λ c. search singles)  -- returns
+    (λ c. search singles)  -- returns-2
+    (λ c. search singles)  -- returns-3
     )

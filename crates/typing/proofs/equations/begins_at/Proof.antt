@@ -13,4 +13,6 @@ begins-at-spec =
     (λ c. search passes)  -- returns
     (λ c. search passes)  -- returns-2
     (λ c. search passes)  -- returns-3
+    (λ c. search passes)  -- returns-4
+    (λ c. search passes)  -- returns-5
     )

@@ -1,0 +1,183 @@
+-- Laws of the check of a renaming's pairs, in the code's terms.
+use mathlib.Core.Path.{_≡_, refl, sym, ap, _∙_}
+use Prim.Native.Nat.{ℕ, _+_, _-_, _*_, _≤_, _<_, min}
+use mathlib.Core.Bool.{Bool, true, false, not, _&&_}
+use mathlib.Core.Option.{Option}
+use mathlib.Core.List.{List, [], _∷_, map}
+use native.Mathlib.Omega.{arith}
+use lib.Dec.{eqb, leb}
+use lib.ListN.{length, getD, take, length-take, length-map}
+use borrow.Author.Needs.{needs}
+use borrow.Author.Tests.{eq-eqb, ne-eqb, eqb-true, eqb-false}
+use Rattle.meaning.specs.Lists.{pick, any, before}
+use Rattle.meaning.specs.Names.{Name, same, is-operator, is-infix, member}
+use Rattle.meaning.specs.Syntax.{Pair}
+use Rattle.meaning.specs.Origins.{Shape, sort-shape, function-shape, variable-shape, Item}
+use Rattle.meaning.specs.Normal.{names-in, is-called}
+use Rattle.meaning.specs.Checks.{unless}
+use Rattle.meaning.specs.Clauses.{arguments-fit, may-name, renames, wrong-renaming}
+use Rattle.names.specs.Word.{name-of}
+use Rattle.tables.specs.declared.Row.{Row}
+use Rattle.tables.specs.Entries.{word-at}
+use Rattle.tables.specs.Rows.{sort-of, type-of, shape-of, item-of}
+use Rattle.forms.specs.declared.Verdict.the-variants.{Fine, Stop}
+use Rattle.forms.specs.Forms.{items-at}
+use Rattle.forms.specs.Verdicts.{told}
+use Rattle.translation.specs.Translation.{pairs-at}
+use Rattle.clauses.specs.Pairs.{pair-at, rightly, first-wrong, renaming-wrong}
+use Rattle.clauses.specs.Renamed.{kind-named, unfit}
+use Rattle.clauses.proofs.RowSearches.{named-any, none-below}
+use Rattle.clauses.proofs.PairWalks.{Checking, check-start, check-again, none-wrong, one-wrong}
+
+-- ---- what a name may stand for, by the kind k of a row
+
+module _ (w : Name) (k : ℕ) where
+  pub named-variable : k ≡ 1 → true ≡ kind-named w k
+  unfolding kind-named pick
+  named-variable h = rw (eq-eqb k 1 h)
+
+  module _ (h : k ≡ 1 → ⊥) (o : Bool) (e : o ≡ is-operator w) where
+    pub named-plain : o ≡ false → true ≡ kind-named w k
+    unfolding kind-named pick
+    named-plain q = rw (ne-eqb k 1 h, ← e, q)
+
+    module _ (q : o ≡ true) (i : Bool) (f : i ≡ is-infix w) where
+      pub named-infix : i ≡ true → eqb k 4 ≡ kind-named w k
+      unfolding kind-named pick
+      named-infix g = rw (ne-eqb k 1 h, ← e, q, ← f, g)
+
+      pub named-prefix : i ≡ false → eqb k 3 ≡ kind-named w k
+      unfolding kind-named pick
+      named-prefix g = rw (ne-eqb k 1 h, ← e, q, ← f, g)
+
+-- ---- the kind tells the shape
+
+one-test : (a b c d : ℕ) → (a ≡ b → c ≡ d) → (c ≡ d → a ≡ b) → eqb a b ≡ eqb c d
+one-test a b c d to from = go (eqb a b) refl
+  where
+    go : (r : Bool) → eqb a b ≡ r → eqb a b ≡ eqb c d
+    go true q = q ∙ sym (eq-eqb c d (to (eqb-true a b q)))
+    go false q = q ∙ sym (ne-eqb c d (λ e. eqb-false a b q (from e)))
+
+module _ (text tape : List ℕ) (w : Name) (k : ℕ) (sorts : List ℕ) (nine : length sorts ≡ 9) where
+  inputs-told : length (map (sort-of text tape) (take (k - 2) sorts)) ≡ min (k - 2) 9
+  inputs-told = length-map (take (k - 2) sorts) (sort-of text tape) ∙ length-take (k - 2) sorts ∙ ap (min (k - 2)) nine
+
+  abbrev asked : Bool → Bool
+  asked b = pick b true (pick (is-operator w) (pick (is-infix w) (eqb k 4) (eqb k 3)) true)
+
+  kind-told : kind-named w k ≡ may-name w (shape-of text tape k sorts)
+  unfolding kind-named may-name arguments-fit shape-of type-of pick
+  kind-told = go (eqb k 0) (eqb k 1) refl refl
+    where
+      no-sort : (o i : Bool) → pick o (pick i false false) true ≡ not o
+      no-sort true true = refl
+      no-sort true false = refl
+      no-sort false i = refl
+
+      as-many : (n : ℕ) → eqb k 4 ≡ eqb n 2 → eqb k 3 ≡ eqb n 1 → (o i : Bool)
+          → pick o (pick i (eqb k 4) (eqb k 3)) true ≡ pick o (eqb n (pick i 2 1)) true
+      as-many n e f true true = e
+      as-many n e f true false = f
+      as-many n e f false i = refl
+
+      go : (a b : Bool) → eqb k 0 ≡ a → eqb k 1 ≡ b
+          → asked b ≡ may-name w (pick a sort-shape (pick b (variable-shape (sort-of text tape (getD sorts 8 0))) (function-shape (type-of text tape (k - 2) sorts))))
+      go true true e f = absurd (omega (arith, eqb-true k 0 e, eqb-true k 1 f))
+      go true false e f =
+          let zero-kind = eqb-true k 0 e in
+          rw (ne-eqb k 4 (λ q. omega arith), ne-eqb k 3 (λ q. omega arith)) (no-sort (is-operator w) (is-infix w))
+      go false true e f = refl
+      go false false e f =
+          let n = min (k - 2) 9 in
+          rw inputs-told
+          (as-many n (one-test k 4 n 2 (λ q. omega arith) (λ q. omega arith)) (one-test k 3 n 1 (λ q. omega arith) (λ q. omega arith)) (is-operator w) (is-infix w))
+
+-- ---- a row that the new name may not stand for
+
+module _ (text tape : List ℕ) (old new : ℕ) (x : Row) (b : Bool) (e : b ≡ same (name-of text old) (name-of text (x .name))) where
+  pub unfit-other : b ≡ false → false ≡ unfit (name-of text old) (name-of text new) (item-of text tape x)
+  unfolding unfit item-of is-called
+  unfit-other h = rw (← e, h)
+
+  module _ (h : b ≡ true) (nine : length (x .sorts) ≡ 9) (c : Bool) (f : c ≡ kind-named (name-of text new) (x .kind)) where
+    fits-told : may-name (name-of text new) (shape-of text tape (x .kind) (x .sorts)) ≡ c
+    fits-told = sym (f ∙ kind-told text tape (name-of text new) (x .kind) (x .sorts) nine)
+
+    pub unfit-not : c ≡ true → false ≡ unfit (name-of text old) (name-of text new) (item-of text tape x)
+    unfolding unfit item-of is-called
+    unfit-not q = rw (← e, h, fits-told, q)
+
+    pub unfit-here : c ≡ false → true ≡ unfit (name-of text old) (name-of text new) (item-of text tape x)
+    unfolding unfit item-of is-called
+    unfit-here q = rw (← e, h, fits-told, q)
+
+-- a plain name may stand for anything
+may-plainly : (new : Name) → is-operator new ≡ false → (s : Shape) → may-name new s ≡ true
+unfolding may-name arguments-fit pick
+may-plainly new p sort-shape = rw p
+may-plainly new p (function-shape t) = rw p
+may-plainly new p (variable-shape s) = refl
+
+none-unfit : (old new : Name) → is-operator new ≡ false → (is : List Item) → any (unfit old new) is ≡ false
+unfolding any unfit pick
+none-unfit old new p [] = refl
+none-unfit old new p (i ∷ is) = rw (may-plainly new p (i .shape), none-unfit old new p is) (go (is-called old i))
+  where
+    go : (b : Bool) → pick (b && false) true false ≡ false
+    go true = refl
+    go false = refl
+
+-- ---- a pair: x and y are its names
+
+module _ (text tape w : List ℕ) (pairs k visible count x : ℕ) (e : x ≡ word-at tape (pairs + k * 2)) (b : Bool)
+    (f : b ≡ member (name-of text x) (names-in (items-at text tape w visible count))) where
+  abbrev items : List Item
+  items = items-at text tape w visible count
+
+  pub renames-unknown : b ≡ false → false ≡ renames items (pair-at text tape pairs k)
+  unfolding renames pair-at
+  renames-unknown h = rw (← e, ← named-any (name-of text x) items, ← f, h)
+
+  pub renames-known : (y j : ℕ) → b ≡ true → y ≡ word-at tape (pairs + k * 2 + 1) → j ≡ before (unfit (name-of text x) (name-of text y)) items
+      → leb count j ≡ renames items (pair-at text tape pairs k)
+  unfolding renames pair-at unfit
+  renames-known y j h g o =
+      rw (← e, ← g, ← named-any (name-of text x) items, ← f, h)
+      (none-below text tape w visible count j (unfit (name-of text x) (name-of text y)) o)
+
+  pub renames-plainly : (y : ℕ) (o : Bool) → b ≡ true → y ≡ word-at tape (pairs + k * 2 + 1) → o ≡ is-operator (name-of text y) → o ≡ false
+      → true ≡ renames items (pair-at text tape pairs k)
+  unfolding renames pair-at unfit
+  renames-plainly y o h g p q =
+      rw (← e, ← g, ← named-any (name-of text x) items, ← f, h, none-unfit (name-of text x) (name-of text y) (sym p ∙ q) items)
+
+-- ---- all pairs
+
+module _ (text tape w : List ℕ) (pairs visible count n : ℕ) where
+  abbrev right : Pair → Bool
+  right = renames (items-at text tape w visible count)
+
+  abbrev wrong : Option Name
+  wrong = wrong-renaming (items-at text tape w visible count) [] (pairs-at text tape pairs)
+
+  wrong-walked : first-wrong right [] (pairs-at text tape pairs) ≡ wrong
+  wrong-walked = renaming-wrong (items-at text tape w visible count) [] (pairs-at text tape pairs)
+
+  module _ (k : ℕ) (inv : Checking right text tape pairs n k) where
+    pub renamings-fine : n ≤ k → told text Fine ≡ unless 14 wrong
+    unfolding told unless
+    renamings-fine h = rw (← wrong-walked, none-wrong right text tape pairs n k h inv)
+
+    pub renaming-stops : (x : ℕ) (r : Bool) → k < n → r ≡ rightly right text tape pairs k → r ≡ false → x ≡ word-at tape (pairs + k * 2)
+        → told text (Stop 14 x) ≡ unless 14 wrong
+    unfolding told unless
+    renaming-stops x r h f q e = rw (← wrong-walked, one-wrong right text tape pairs n k r h inv f q, e)
+
+pub ruleset kinds = (named-variable, named-plain, named-infix, named-prefix, needs)
+
+pub ruleset unfits = (unfit-other, unfit-not, unfit-here, needs)
+
+pub ruleset known = (renames-plainly, renames-unknown, renames-known, needs)
+
+pub ruleset renamings = (check-start, check-again, renamings-fine, renaming-stops, needs)

@@ -1,0 +1,17 @@
+-- `clauses::renamings::is_unfit` meets its contract.
+-- Assumes nothing.
+use Rattle.clauses.proofs.RenamingCases.{unfits}
+use borrow.Author.Needs.{needs}
+use Rattle.clauses.proofs.renamings.is_unfit.Statement.{statement}
+use Rattle.clauses.proofs.renamings.is_unfit.Tie as tie
+
+pub is-unfit-spec : {M : Type 1} → statement M
+is-unfit-spec =
+    tie.close
+    (tie.spec
+    (λ c κs. search needs)  -- same-word-requires
+    (λ c κs. search needs)  -- may-name-requires
+    (λ c. search unfits)  -- returns
+    (λ c. search unfits)  -- returns-2
+    (λ c. search unfits)  -- returns-3
+    )
