@@ -15,21 +15,21 @@ use Rattle.meaning.specs.Reached.{short-or-blank}
 use Rattle.meaning.specs.Answer.{refusal, unread, answer, memory-after}
 use Rattle.meaning.specs.Texts.{Texts, Reading, read-texts}
 use Rattle.meaning.specs.Contract.{call}
-use Rattle.names.specs.Word.{name-of}
+use Rattle.names.specs.Word.{name-of, name-short}
 use Rattle.names.specs.Joint.{joint}
 use Rattle.pen.specs.Pen.{pen, written}
 use Rattle.pen.proofs.Laws.{laid, reached}
 use Rattle.asf.specs.declared.answers.Name.{Name}
 use Rattle.asf.specs.declared.answers.Answer.{Answer}
-use Rattle.asf.specs.Answers.{held, told, told-listed, returned, told-call}
-use Rattle.asf.specs.Told.{short-name, long-name, word-short, refusal-held, refusal-told, refusal-leaves, unread-held, unread-told}
+use Rattle.asf.specs.Answers.{told-size, held, told, told-listed, returned, told-call}
+use Rattle.asf.specs.Told.{short-name, long-name, refusal-held, refusal-told, refusal-leaves, unread-held, unread-told}
 use Rattle.asf.specs.Steps.{Answered, Spoken}
 use Rattle.asf.specs.Meant.{end-within, tape-room, unread-answered, read-spoken, tape-within, tape-small, asked-found, absent-answered, found-within, found-given, refused-answered, form-evaluated, listed-within, hidden-few, listed-answered, long-answered}
 
 -- ---- names
 
 abbrev zeros : List ℕ
-zeros = replicate 40 0
+zeros = replicate told-size 0
 
 drop-zeros : (k m : ℕ) → drop {A = ℕ} m (replicate k 0) ≡ replicate (k - m) 0
 drop-zeros zero zero = refl
@@ -41,25 +41,37 @@ pub is-blank : record { bytes = zeros; length = 0 } ≡ held []
 unfolding held
 is-blank = refl
 
-name-held : (n b : List ℕ) (k : ℕ) → length n ≤ name-size → pen k b ≡ written 41 n (pen 0 zeros) → record { bytes = b; length = k } ≡ held n
+name-held : (n b : List ℕ) (k : ℕ) → length n ≤ told-size → pen k b ≡ written 43 n (pen 0 zeros) → record { bytes = b; length = k } ≡ held n
 unfolding held
 name-held n b k h e =
-    let bytes = laid 41 0 k n zeros b (omega (arith, length-replicate {A = ℕ} 40 0)) (omega arith) (omega (arith, length-replicate {A = ℕ} 40 0)) e in
-    let size = reached 41 0 k n zeros b (omega arith) e in
+    let bytes = laid 43 0 k n zeros b (omega (arith, length-replicate {A = ℕ} told-size 0)) (omega arith) (omega (arith, length-replicate {A = ℕ} told-size 0)) e in
+    let size = reached 43 0 k n zeros b (omega arith) e in
     let z : 0 + length n ≡ length n = omega arith in
     λ i. record {
-      bytes = (bytes ∙ ap (λ (m : ℕ). n ++ drop m zeros) z ∙ ap (λ (r : List ℕ). n ++ r) (drop-zeros 40 (length n))) i;
+      bytes = (bytes ∙ ap (λ (m : ℕ). n ++ drop m zeros) z ∙ ap (λ (r : List ℕ). n ++ r) (drop-zeros told-size (length n))) i;
       length = (size ∙ z) i;
     }
 
-pub short-held : (n b : List ℕ) (k : ℕ) → length n ≤ 40 → pen k b ≡ written 41 n (pen 0 zeros) → record { bytes = b; length = k } ≡ held (short-or-blank n)
-short-held n b k h e = name-held n b k h e ∙ ap held (sym (short-name n h))
+pub short-held : (n b : List ℕ) (k : ℕ) → length n ≤ 40 → pen k b ≡ written 43 n (pen 0 zeros) → record { bytes = b; length = k } ≡ held (short-or-blank n)
+short-held n b k h e = name-held n b k (omega arith) e ∙ ap held (sym (short-name n h))
 
 pub long-blank : (n : List ℕ) (r : Name) → 40 < length n → r ≡ held [] → r ≡ held (short-or-blank n)
 long-blank n r h e = e ∙ ap held (sym (long-name n h))
 
-pub word-held : (text b : List ℕ) (w k : ℕ) → pen k b ≡ written 41 (name-of text w) (pen 0 zeros) → record { bytes = b; length = k } ≡ held (name-of text w)
-word-held text b w k e = name-held (name-of text w) b k (word-short text w) e
+pub word-held : (text b : List ℕ) (w k : ℕ) → pen k b ≡ written 43 (name-of text w) (pen 0 zeros) → record { bytes = b; length = k } ≡ held (name-of text w)
+word-held text b w k e = name-held (name-of text w) b k (name-short text w) e
+
+-- a name that is held, by its size
+module _ (n : List ℕ) (r : Name) (k : ℕ) (e : r ≡ held n) (f : k ≡ r .length) where
+  size-told : k ≡ length n
+  unfolding held
+  size-told = f ∙ ap (λ (x : Name). x .length) e
+
+  pub held-long : (none : Name) → 40 < k → none ≡ held [] → none ≡ held (short-or-blank n)
+  held-long none h g = g ∙ ap held (sym (long-name n (omega (arith, size-told))))
+
+  pub held-short : k ≤ 40 → r ≡ held (short-or-blank n)
+  held-short h = e ∙ ap held (sym (short-name n (omega (arith, size-told))))
 
 -- ---- answers
 
@@ -80,10 +92,10 @@ pub is-absent : (asked : List ℕ) (name : Name) → name ≡ held (short-or-bla
     → refusal-held 6 0 name name 0 ≡ told (refusal asked-absent 0 asked (short-or-blank asked) 0)
 is-absent asked name e = (λ i. refusal-held 6 0 (e i) (e i) 0) ∙ sym (refusal-told asked-absent 0 asked (short-or-blank asked) 0)
 
-pub is-refused : (text : List ℕ) (number modules m c : ℕ) (evaluating name : Name) → evaluating ≡ held (name-of text m) → name ≡ held (name-of text c)
+pub is-refused : (text : List ℕ) (number modules m c : ℕ) (evaluating name : Name) → evaluating ≡ held (short-or-blank (name-of text m)) → name ≡ held (name-of text c)
     → refusal-held number modules evaluating name 0 ≡ told (refusal number modules (name-of text m) (name-of text c) 0)
 is-refused text number modules m c evaluating name e f =
-    (λ i. refusal-held number modules ((e ∙ ap held (sym (short-name (name-of text m) (word-short text m)))) i) (f i) 0)
+    (λ i. refusal-held number modules (e i) (f i) 0)
     ∙ sym (refusal-told number modules (name-of text m) (name-of text c) 0)
 
 pub is-short : (asked : List ℕ) (modules : ℕ) (evaluating none : Name) → evaluating ≡ held (short-or-blank asked) → none ≡ held []
@@ -125,4 +137,4 @@ module _ (asked : List ℕ) (t : Texts) (w o : List ℕ) (size : ℕ) (e : size 
       rw there
       (λ i. record { answer = a .answer i; output = a .output i; memory = (z ∙ same-zeros w₁ w s) i })
 
-pub ruleset cases = (is-blank, short-held, long-blank, word-held, is-listed, is-unread, is-absent, is-refused, is-short, is-size, tape-fits, memory-short, call-answered, end-within, tape-room, unread-answered, read-spoken, tape-within, asked-found, absent-answered, found-within, found-given, refused-answered, form-evaluated, listed-within, hidden-few, listed-answered, long-answered, needs)
+pub ruleset cases = (is-blank, short-held, long-blank, word-held, held-long, held-short, is-listed, is-unread, is-absent, is-refused, is-short, is-size, tape-fits, memory-short, call-answered, end-within, tape-room, unread-answered, read-spoken, tape-within, asked-found, absent-answered, found-within, found-given, refused-answered, form-evaluated, listed-within, hidden-few, listed-answered, long-answered, needs)

@@ -4,19 +4,23 @@ use mathlib.Core.Bool.{false}
 use mathlib.Core.List.{List, [], _++_}
 use lib.ListN.{length, replicate}
 use Rattle.meaning.specs.Names as Names
-use Rattle.meaning.specs.Numbers.{name-size, accepted}
+use Rattle.meaning.specs.Numbers.{accepted}
 use Rattle.meaning.specs.Reached.{short-or-blank}
 use Rattle.meaning.specs.Answer as Meaning
 use Rattle.meaning.specs.Contract.{Call}
 use Rattle.asf.specs.declared.answers.Name.{Name}
 use Rattle.asf.specs.declared.answers.Answer.{Answer}
 
--- a name of at most 40 bytes, and zeros behind it
+-- the most bytes that a name has which is told: an operator's token, and two underlines
+abbrev pub told-size : ℕ
+told-size = 42
+
+-- a name of at most so many, and zeros behind it
 unfoldable pub held : Names.Name → Name
-held n = record { bytes = n ++ replicate (name-size - length n) 0; length = length n }
+held n = record { bytes = n ++ replicate (told-size - length n) 0; length = length n }
 
 -- what the code has of an answer. For 6 and 19 the module is the asked one, which may have more than 40 bytes: it is blank then, and the
--- caller has it. Every other name of an answer has at most 40
+-- caller has it. Every other module has at most 40, and a culprit at most 42
 unfoldable pub told : Meaning.Answer → Answer
 told a = record {
   number = a .number;

@@ -5,3 +5,4 @@ pub mod Meant
 pub mod ReadNames
 pub mod Promises
 pub mod Demand
+pub mod Replaced

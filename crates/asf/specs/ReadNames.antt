@@ -1,67 +1,35 @@
 -- The names of modules that are read have at most 40 bytes. So has the module that an answer names, unless it is the asked one; and where the
 -- asked name has more, no module is called so, and the answer's number tells the module.
-use mathlib.Core.Path.{_≡_, refl, ap, subst}
+use mathlib.Core.Path.{_≡_, refl, ap}
 use mathlib.Core.Logic.{_⊎_, inl, inr}
-use Prim.Native.Nat.{ℕ, _/_, _<_, _≤_, min}
+use Prim.Native.Nat.{ℕ, _<_, _≤_}
 use native.Mathlib.Omega.{arith}
 use mathlib.Core.Bool.{Bool, false}
-use mathlib.Core.List.{List, [], _∷_, _++_}
+use mathlib.Core.List.{List, [], _∷_}
 use borrow.Author.Tests.{le-leb, lt-leb}
 use lib.Dec.{leb}
-use lib.ListN.{length, take, replicate, length-replicate}
+use lib.ListN.{length}
 use Rattle.meaning.specs.Laws.{by-cases}
-use Rattle.meaning.specs.Lists.{pick, each}
+use Rattle.meaning.specs.Lists.{pick}
 use Rattle.meaning.specs.OrderLaws.{Every, same-equal}
 use Rattle.meaning.specs.Names.{Name, member}
-use Rattle.meaning.specs.Numbers.{text-size, name-size, asked-absent, lent-short}
+use Rattle.meaning.specs.Numbers.{name-size, asked-absent, lent-short}
 use Rattle.meaning.specs.Syntax.{Module}
-use Rattle.meaning.specs.Grammar.{State, Result, done, refused, read}
 use Rattle.meaning.specs.Texts.{Texts, Reading, all-read, refused-in, read-texts}
-use Rattle.meaning.specs.TextsLaws.{of-both}
 use Rattle.meaning.specs.Normal.{Normal, empty}
 use Rattle.meaning.specs.Checks.{Outcome, fine, stop}
 use Rattle.meaning.specs.Evaluate.{Evaluated, evaluate}
 use Rattle.meaning.specs.Reached.{Placed, reached-among, reached, Ended, normalised, refused-at, end-or, total-of, in-turn, module-names, short-or-blank, normalise}
 use Rattle.meaning.specs.Answer.{Answer, refusal, of-ended, unread, of-read, within, answer}
-use Rattle.limits.specs.EveryLaws.{every-append, every-made}
-use Rattle.tape.specs.Tape.{Entry, spelled, entries, flat-module, flat-modules}
-use Rattle.meant.specs.Meant.{read-done}
+use Rattle.limits.specs.Limits.{Limited, limits-read}
+use Rattle.promises.specs.ListingLaws.{every-so}
 use Rattle.promises.specs.ReadNumbers.{refused-low}
-use Rattle.asf.specs.Told.{word-short}
 
 abbrev Short : Name → Type 0
 Short n = length n ≤ name-size
 
--- ---- the modules of a text
-
-after-front : {A : Type 0} (P : A → Type 0) (xs ys : List A) → Every P (xs ++ ys) → Every P ys
-after-front P [] ys h = h
-after-front P (x ∷ xs) ys h = after-front P xs ys (h .1)
-
-abbrev ShortEntry : Entry → Type 0
-ShortEntry e = Short (e .name)
-
-entries-short : (text : List ℕ) (n : ℕ) (tape : List ℕ) → Every ShortEntry (entries text n tape)
-unfolding entries spelled
-entries-short text n tape = every-made ShortEntry (spelled text) (λ w. word-short text (w / 32)) (take n tape)
-
-flat-short : (ms : List Module) → Every ShortEntry (each flat-module ms) → Every (λ (m : Module). Short (m .name)) ms
-unfolding each flat-module
-flat-short [] h = tt
-flat-short (m ∷ ms) h = (h .0, flat-short ms (after-front ShortEntry (flat-module m) (each flat-module ms) h))
-
-text-names : (text : List ℕ) (n : ℕ) (taken : List Name) (ms : List Module) (s : State) → read text n taken ≡ done ms s
-    → Every (λ (m : Module). Short (m .name)) ms
-unfolding flat-modules
-text-names text n taken ms s e =
-    let tape : List ℕ = replicate (length text) 0 in
-    let there : min (length text) text-size ≤ length tape = omega (arith, length-replicate {A = ℕ} (length text) 0) in
-    let r = read-done text n taken tape there ms s e in
-    flat-short ms (subst (Every ShortEntry) (r .says .said) (entries-short text _ _))
-
-pub read-names : (texts : Texts) (ms : List Module) → read-texts texts ≡ all-read ms → Every (λ (m : Module). Short (m .name)) ms
-read-names =
-    of-both (Every (λ (m : Module). Short (m .name))) tt (λ ls ms h g. every-append (λ (m : Module). Short (m .name)) ls ms h g) text-names
+read-names : (texts : Texts) (ms : List Module) → read-texts texts ≡ all-read ms → Every (λ (m : Module). Short (m .name)) ms
+read-names texts ms e = every-so Limited (λ (m : Module). Short (m .name)) ms (λ m h. h .name) (limits-read texts ms e)
 
 -- ---- the module that an answer names
 

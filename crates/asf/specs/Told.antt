@@ -5,14 +5,13 @@ use native.Mathlib.Omega.{arith}
 use mathlib.Core.Bool.{Bool, false}
 use mathlib.Core.List.{List, []}
 use borrow.Author.Tests.{le-leb, lt-leb}
-use lib.ListN.{length, length-take}
+use lib.ListN.{length}
 use Rattle.meaning.specs.Lists.{pick, each}
 use Rattle.meaning.specs.Names as Names
 use Rattle.meaning.specs.Numbers.{name-size}
 use Rattle.meaning.specs.Reached.{short-or-blank}
 use Rattle.meaning.specs.Listing.{lines-text}
 use Rattle.meaning.specs.Answer.{refusal, unread, within, output-after}
-use Rattle.names.specs.Word.{name-of}
 use Rattle.asf.specs.declared.answers.Name.{Name}
 use Rattle.asf.specs.declared.answers.Answer.{Answer}
 use Rattle.asf.specs.Answers.{held, told}
@@ -26,10 +25,6 @@ short-name n h = rw (le-leb (length n) name-size h)
 pub long-name : (n : Names.Name) → name-size < length n → short-or-blank n ≡ []
 unfolding short-or-blank pick
 long-name n h = rw (lt-leb (length n) name-size h)
-
-pub word-short : (text : List ℕ) (w : ℕ) → length (name-of text w) ≤ name-size
-unfolding name-of
-word-short text w = rw length-take (omega arith)
 
 -- ---- refusals
 

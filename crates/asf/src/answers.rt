@@ -8,9 +8,9 @@ ghost use Rattle.names.specs.Word.{name-of};
 ghost use Rattle.names.specs.Joint.{joint};
 ghost use Rattle.asf.specs.Answers.{held, told, told-listed};
 
-// A name of at most 40 bytes, and zeros behind it.
+// A name of at most 42 bytes, as many as an operator has with its underlines, and zeros behind it.
 pub struct Name {
-    pub bytes: [u8; 40],
+    pub bytes: [u8; 42],
     pub length: usize,
 }
 
@@ -29,7 +29,7 @@ pub struct Answer {
 fn blank() -> Name
     ensures { λ r. ⌜ r ≡ held [] ⌝ }
 {
-    let bytes = [0; 40];
+    let bytes = [0; 42];
     Name { bytes, length: 0 }
 }
 
@@ -37,11 +37,11 @@ fn blank() -> Name
 fn short_or_blank(name: &[u8]) -> Name
     ensures { λ r. ⌜ r ≡ held (short-or-blank (now (name .entry))) ⌝ }
 {
-    let mut bytes = [0; 40];
+    let mut bytes = [0; 42];
     if 40 < name.len() {
         return blank();
     }
-    let length = pen::put_text(&mut bytes, 0, 41, name);
+    let length = pen::put_text(&mut bytes, 0, 43, name);
     Name { bytes, length }
 }
 
@@ -49,9 +49,21 @@ fn short_or_blank(name: &[u8]) -> Name
 fn name_in(library: &[u8], text: &[u8], w: u32) -> Name
     ensures { λ r. ⌜ r ≡ held (name-of (joint (now (library .entry)) (now (text .entry))) w) ⌝ }
 {
-    let mut bytes = [0; 40];
-    let length = pen::put_name(&mut bytes, 0, 41, library, text, w);
+    let mut bytes = [0; 42];
+    let length = pen::put_name(&mut bytes, 0, 43, library, text, w);
     Name { bytes, length }
+}
+
+// The name of the module that the word w stands for, or a blank one if it has more than 40 bytes, which no module's has.
+fn module_in(library: &[u8], text: &[u8], w: u32) -> Name
+    ensures { λ r. ⌜ r ≡ held (short-or-blank (name-of (joint (now (library .entry)) (now (text .entry))) w)) ⌝ }
+{
+    let name = name_in(library, text, w);
+    let size = name.length;
+    if 40 < size {
+        return blank();
+    }
+    name
 }
 
 // 0, with a listing of so many bytes.
@@ -113,7 +125,7 @@ pub fn refused(
 ) -> Answer
     ensures { λ r. ⌜ r ≡ told (refusal number modules (name-of (joint (now (library .entry)) (now (text .entry))) «module») (name-of (joint (now (library .entry)) (now (text .entry))) culprit) 0) ⌝ }
 {
-    let evaluating = name_in(library, text, module);
+    let evaluating = module_in(library, text, module);
     let name = name_in(library, text, culprit);
     Answer {
         number,

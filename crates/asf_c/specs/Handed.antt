@@ -14,7 +14,7 @@ unfoldable pub answer-values : Answer → List ℕ
 answer-values r =
     r .number ∷ r .modules ∷ r .at ∷ r .evaluating .length ∷ r .culprit .length ∷ r .listing ∷ bit-of (r .«in_library») ∷ []
 
--- the two names, one behind the other, each in 40 bytes
+-- the two names, one behind the other, each in 42 bytes
 unfoldable pub names-laid : Name → Name → List ℕ → List ℕ
 names-laid m w names = written (length names + 1) (w .bytes) (written (length names + 1) (m .bytes) (pen 0 names)) .out
 

@@ -30,7 +30,7 @@ fn put_answer(values: &mut [usize], r: Answer)
     put_value(values, 6, bit(mark));
 }
 
-// The names of an answer, each in 40 bytes.
+// The names of an answer, each in 42 bytes.
 fn put_names(names: &mut [u8], evaluating: Name, culprit: Name)
     ensures { λ _. ⌜ now (names .exit) ≡ names-laid evaluating culprit (now (names .entry)) ⌝ }
 {

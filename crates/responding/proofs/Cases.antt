@@ -30,7 +30,7 @@ use Rattle.pen.proofs.Cases.{digits-none, digits-one, digits-more}
 use Rattle.asf.specs.declared.answers.Name.{Name}
 use Rattle.asf.specs.declared.answers.Answer.{Answer}
 use Rattle.asf.specs.Answers as Answers
-use Rattle.asf.specs.Answers.{returned, told-call}
+use Rattle.asf.specs.Answers.{told-size, returned, told-call}
 use Rattle.responding.specs.declared.Framing.{Framing}
 use Rattle.responding.specs.declared.Framing.the-variants.{Alone, TooLong, Both}
 use Rattle.responding.specs.Program.{asfnorm-with, page-room, Framed, AloneFramed, BothFramed, with-memory, answer-behind, Behind, Refused, line-of, spelled, marked-place, refusal-text, answer-text, Responded}
@@ -326,21 +326,21 @@ unfolding line-of
 line-size key value n h =
     omega (arith, h, length-append key (bytes "=" ++ (value ++ bytes "\n")), length-append (bytes "=") (value ++ bytes "\n"), length-append value (bytes "\n"))
 
-spelled-size : (n : Name) → length (n .bytes) ≡ 40 → length (spelled n) ≤ 40
+spelled-size : (n : Name) → length (n .bytes) ≡ told-size → length (spelled n) ≤ told-size
 unfolding spelled
 spelled-size n h = omega (arith, h, length-take (n .length) (n .bytes))
 
 -- whatever the struct holds
 record Sized (r : Answer) : Type 0 where
-  pub module-bytes : length (r .evaluating .bytes) ≡ 40
-  pub culprit-bytes : length (r .culprit .bytes) ≡ 40
+  pub module-bytes : length (r .evaluating .bytes) ≡ told-size
+  pub culprit-bytes : length (r .culprit .bytes) ≡ told-size
 
 place-size : (b : Bool) (n : ℕ) → length (marked-place b n) ≤ 18
 unfolding marked-place pick
 place-size true n = omega (arith, decimal-size n)
 place-size false n = omega (arith, decimal-size n)
 
-refusal-size : (r : Answer) → Sized r → length (refusal-text r) ≤ 116
+refusal-size : (r : Answer) → Sized r → length (refusal-text r) ≤ 120
 unfolding refusal-text
 refusal-size r h =
     let module-line = line-of (bytes "module") (spelled (r .evaluating)) in
@@ -350,8 +350,8 @@ refusal-size r h =
       arith,
       length-append module-line (name-line ++ place-line),
       length-append name-line place-line,
-      line-size (bytes "module") (spelled (r .evaluating)) 40 (spelled-size (r .evaluating) (h .module-bytes)),
-      line-size (bytes "name") (spelled (r .culprit)) 40 (spelled-size (r .culprit) (h .culprit-bytes)),
+      line-size (bytes "module") (spelled (r .evaluating)) told-size (spelled-size (r .evaluating) (h .module-bytes)),
+      line-size (bytes "name") (spelled (r .culprit)) told-size (spelled-size (r .culprit) (h .culprit-bytes)),
       line-size (bytes "at") (marked-place (r .«in_library») (r .at)) 18 (place-size (r .«in_library») (r .at)),
     )
 
@@ -361,8 +361,8 @@ answer-size r output h =
     let number-line = line-of (bytes "answer") (decimal (r .number)) in
     let count-line = line-of (bytes "modules") (decimal (r .modules)) in
     let rest = pick (eqb (r .number) 0) (take (r .listing) output) (refusal-text r) in
-    let most : length rest ≤ length output + 116 =
-    by-cases (λ (t : List ℕ). length t ≤ length output + 116) (eqb (r .number) 0) _ _
+    let most : length rest ≤ length output + 120 =
+    by-cases (λ (t : List ℕ). length t ≤ length output + 120) (eqb (r .number) 0) _ _
     (λ e. omega (arith, length-take (r .listing) output)) (λ e. omega (arith, refusal-size r h)) in
     omega (
       arith,
@@ -481,7 +481,7 @@ module _ (asked rest work out : List ℕ) (r : Answer) (work′ out′ : List �
 -- ---- the two ways of a response
 
 module _ (input work out page : List ℕ) (e : ℕ) (at-end : e ≡ request-end input) (b : Bool) (told : b ≡ has-request input)
-    (r : Answer) (size : ℕ) (work′ out′ page′ : List ℕ) (m : length (r .evaluating .bytes) ≡ 40) (w : length (r .culprit .bytes) ≡ 40) where
+    (r : Answer) (size : ℕ) (work′ out′ page′ : List ℕ) (m : length (r .evaluating .bytes) ≡ told-size) (w : length (r .culprit .bytes) ≡ told-size) where
   module _ (passed : b ≡ true) where
     abbrev asked : List ℕ
     asked = take (e - 10) (drop 10 input)

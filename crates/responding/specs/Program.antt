@@ -30,7 +30,7 @@ as-lent input = refl
 -- how many bytes more than the output a page must have to hold whatever is printed: the longest refusal, which is longer than the two lines
 -- before a listing
 abbrev pub page-room : ℕ
-page-room = 153
+page-room = 157
 
 -- what a call leaves behind: at the front of the page what is printed, and its length, which is one more than the page's where that is too
 -- short; the working memory zero and the output as a call leaves it, without the first line too

@@ -8,7 +8,7 @@ pub refused-spec : {M : Type 1} → statement M
 refused-spec =
     tie.close
     (tie.spec
+    (λ c κs. search needs)  -- module-in-requires
     (λ c κs. search needs)  -- name-in-requires
-    (λ c κs. search needs)  -- name-in-requires-2
     (λ c. search cases)  -- returns
     )
