@@ -13,9 +13,10 @@
 extern "C" {
 #endif
 
-/* The most bytes of each of the two texts, library and customer's, and of a name. */
+/* The most bytes of each of the two texts, library and customer's, and of a name that is told. In a text a name and an operator have at most
+ * 40 bytes; an operator's name has one or two underlines besides. */
 #define ASF_TEXT_BYTES 32768
-#define ASF_NAME_BYTES 40
+#define ASF_NAME_BYTES 42
 
 /* The words of working memory that asf_normalise needs: 4 MiB. asf_memory_words gives the same number. */
 #define ASF_MEMORY_WORDS 1048576

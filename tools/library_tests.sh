@@ -33,4 +33,4 @@ echo "the tests and the example in Rust ran"
 cargo build --offline --release --quiet --manifest-path rust/Cargo.toml
 rust/target/release/compare proved "$seeds" "$first" "${RUN[@]}" build/driver
 rust/target/release/compare divided $((seeds / 3)) "$first" "${RUN[@]}" build/driver
-tools/stack.sh --limit 16384
+tools/stack.sh --limit 24576

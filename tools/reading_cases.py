@@ -1,16 +1,15 @@
 #!/usr/bin/env python3
-"""Writes the standard input of crates/reading_trials and what it must print: reading_cases.py VECTORS
+"""Writes the standard input of crates/reading_trials and what it must print: reading_cases.py VECTORS..
 
-VECTORS is a folder of NAME.in / NAME.out pairs, inputs of asfnorm and what it prints; those refused by 1 to 5 are taken, without their
-first line. To these come the sizes of document 01, each at its limit and one beyond, with the place that document 01 gives, counted here.
+VECTORS are folders of NAME.in / NAME.out pairs, inputs of asfnorm and what it prints, without a library: `readings` and `two` of
+rust/reference/vectors. Those refused by 1 to 5 are taken, without their first line. To these come the sizes of document 01, each at its limit
+and one beyond, with the place that document 01 gives, counted here.
 A case is a line `NAME SIZE` and then SIZE bytes; what is printed is `NAME 0 ENTRIES` for a text that is read, `NAME NUMBER PLACE` else."""
 import glob
 import os
 import sys
 
 cases = []
-
-
 
 
 def at(text):
@@ -64,18 +63,38 @@ limit('conditions-before', equation(many(8, 'c=d') + ' ==> a = b'), 2 + 9 * 3, e
 eight = 'f(%s)' % many(7, 'a')
 limit('nodes', equation(eight + '=' + eight + ' when ' + many(3, eight + '=' + eight)), 2 + 8 * 9 + 4,
       equation(eight + '=' + eight + ' when ' + many(3, eight + '=' + eight) + ',|a=b'))
+# operators: bytes, in a declaration and in a term; each is a node where it stands, and its entry stands before its operands', which nothing closes
+limit('operator-bytes', module('functions _%s_ : A # A -> A' % ('+' * 40)), 1 + 1 + 2 + 1,
+      module('functions _|%s_ : A # A -> A' % ('+' * 41)))
+limit('dotted-bytes', module('functions .%s. _ : A -> A' % ('x' * 38)), 1 + 1 + 1 + 1, module('functions |.%s. _ : A -> A' % ('x' * 39)))
+limit('operator-bytes-in-terms', equation('a %s b = c' % ('*' * 40)), 2 + 3 + 1 + 1, equation('a |%s b = c' % ('*' * 41)))
+limit('operator-nodes', equation('b = a' + '+a' * 31), 2 + 64 + 1, equation('b = a' + '+a' * 31 + '|+a'))
+limit('prefix-nodes', equation('-b = -a' + '+a' * 30), 2 + 64 + 1, equation('-b = -a' + '+a' * 30 + '|+a'))
+limit('operator-arguments', equation('f(%s) = b' % many(8, '-a')), 2 + 1 + 16 + 1 + 1 + 1, equation('f(%s,|-a) = b' % many(8, '-a')))
+limit('operator-conditions', equation('a = b when ' + many(8, '-c=d')), 2 + 3 + 8 * 4, equation('a = b when ' + many(8, '-c=d') + ',|-c=d'))
+limit('operator-pairs', module('imports A { renamed by [%s] }' % many(32, '-_->_+_')), 2 + 1 + 64,
+      module('imports A { renamed by [%s,|-_->_+_] }' % many(32, '-_->_+_')))
+limit('infix-pairs', module('imports A { %s }' % ('P bound by [%s] to B' % many(32, '_+_->a'))), 2 + 1 + 64 + 1,
+      module('imports A { %s }' % ('P bound by [%s,|_+_->a] to B' % many(32, '_+_->a'))))
+limit('operator-brackets', equation('-(' * 15 + 'a' + ')' * 15 + ' = b'), 2 + 15 + 1 + 1 + 1, equation('-(' * 15 + '-|(a' + ')' * 16 + ' = b'))
 # the whole text
 start, stop = 'module M begin sorts ', ' end M'
 full = start + 'a,' * ((32768 - len(start) - len(stop) - 2) // 2) + 'bb' + stop
 full = full + ' ' * (32768 - len(full))
 cases.append(('bytes-at', full, 0, full.count(',') + 2))
 cases.append(('bytes-beyond', full + ' ', 4, 32768))
-# every place of a sort list is read: the most entries that a text can give
+# operands in a row: the most entries that a text can give, where a list of sorts has one for two bytes
+row, start = '[e]' + 'a+' * 31 + 'a=a', 'module M begin equations '
+rows = (32768 - len(start) - len(stop)) // len(row)
+full = start + row * rows + stop
+cases.append(('operators-to-the-brim', full + ' ' * (32768 - len(full)), 0, 1 + rows * (1 + 64 + 1)))
 cases.append(('comment-at-byte-0', '-- c -- module M begin end M', 1, 0))
 cases.append(('comment-after-layout', ' -- c -- module M begin end M', 0, 1))
+text, place = at(module('functions |.-a._ : A -> A'))
+cases.append(('hyphen-behind-a-dot', text, 1, place))
 
 taken = []
-for f in sorted(glob.glob(sys.argv[1] + '/*.in')):
+for f in sorted(f for folder in sys.argv[1:] for f in glob.glob(folder + '/*.in')):
     out = dict(l.split('=', 1) for l in open(f[:-3] + '.out', encoding='latin1').read().split('\n') if '=' in l)
     text = open(f, encoding='latin1', newline='').read()
     if out['answer'] in ('1', '2', '3', '4', '5') and text.startswith('normalise=') and '\n' in text and len(text.split('\n')[0]) <= 50:

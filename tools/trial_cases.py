@@ -111,6 +111,25 @@ tried('divided-64', halved(64), 0)
 tried('divided-65', halved(65), 4)
 tried('library-shorter-than-told', 'normalise=M\nlibrary=32768\nmodule M begin end M\n', 2)
 
+# ---- operators: names of 42 bytes told, terms as deep as they go, one operator in two texts. Their sizes are among the vectors
+
+
+def declared_twice(name, inputs):
+    declared = '%s : %s -> A' % (name, inputs)
+    return 'normalise=M\nmodule M begin exports begin sorts A functions %s %s end end M\n' % (declared, declared)
+
+
+tried('infix-told', declared_twice('_ %s _' % ('+' * 40), 'A#A'), 9)
+tried('prefix-told', declared_twice('.%s. _' % ('x' * 38), 'A'), 9)
+
+ground = 'exports begin sorts A functions a : -> A _ +\n_ : A#A -> A - _ : A -> A end'
+deep = '-(' * 15 + '-a' + '+a' * 23 + ')' * 15 + ' = a'
+over = 'module N begin imports M { renamed by [ _+_ -> _.and._ ] } end N\n'
+tried('operators-deep', 'normalise=N\nmodule M begin %s equations [e] %s end M\n%s' % (ground, deep, over), 0)
+tried('operators-too-many', 'normalise=M\nmodule M begin %s equations [e] %s+a end M\n' % (ground, deep), 4)
+joined = 'normalise=N\nmodule M begin %s end M\n' % ground + 'module N begin imports M equations [e] a+a = - (a + -- c -- a) end N\n'
+tried('operators-divided', divided(joined, joined.index('module N') - joined.index('module M')), 0)
+
 # ---- the listing's size: all that the program lends, and one byte more. An equation's tag makes it longer byte by byte
 
 

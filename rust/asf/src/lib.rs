@@ -13,8 +13,10 @@ pub use specification::{fetch, Part, Specification};
 
 /// The most bytes of a text that is read, the library's as the customer's.
 pub const TEXT_BYTES: usize = 32_768;
-/// The most bytes of a name.
-pub const NAME_BYTES: usize = 40;
+/// The most bytes of a name or an operator in a text, and of the asked name.
+pub const TOKEN_BYTES: usize = 40;
+/// The most bytes of a name that is listed or told: an operator's has its underlines.
+pub const NAME_BYTES: usize = TOKEN_BYTES + 2;
 /// The bytes that are lent for a listing, unless [`Memory::with_output`] says otherwise.
 pub const OUTPUT_BYTES: usize = 65_536;
 

@@ -1,7 +1,8 @@
 //! The safe functions over the proved library: a listing and its lines, refusals and their texts, two texts, what is lent, and the test vectors.
 
 use asf::{fetch, lines, normalise, visible};
-use asf::{BadLine, Line, Memory, Part, Refusal, Specification, NAME_BYTES, TEXT_BYTES};
+use asf::{BadLine, Line, Memory, Part, Refusal, Specification};
+use asf::{NAME_BYTES, TEXT_BYTES, TOKEN_BYTES};
 use std::fs;
 use std::path::{Path, PathBuf};
 
@@ -95,12 +96,29 @@ fn refusals() {
     let empty = refused(b"M", b"");
     assert_eq!((empty.number(), empty.at()), (2, 0));
     assert_eq!((empty.module(), empty.name()), (&b""[..], &b""[..]));
-    let long = refused(&[b'x'; NAME_BYTES + 1], L);
+    let long = refused(&[b'x'; TOKEN_BYTES + 1], L);
     assert_eq!(
         (long.number(), long.module()),
-        (6, &[b'x'; NAME_BYTES + 1][..])
+        (6, &[b'x'; TOKEN_BYTES + 1][..])
     );
     assert_eq!(long.name(), b"");
+}
+
+/// An operator is told by its name, underlines included.
+#[test]
+fn operators_are_told() {
+    let text = b"module M begin exports begin sorts A functions _+_ : A # A -> A end end M
+module N begin imports M { renamed by [_+_ -> -_] } end N
+";
+    let refusal = refused(b"N", text);
+    assert_eq!((refusal.number(), refusal.name()), (14, &b"_+_"[..]));
+    let infix = format!("_{}_", "+".repeat(TOKEN_BYTES));
+    let twice = format!("{infix}:A#A->A", infix = infix).repeat(2);
+    let text = format!("module M begin sorts A functions {} end M", twice);
+    let refusal = refused(b"M", &text);
+    assert_eq!(refusal.number(), 9);
+    assert_eq!(refusal.name(), infix.as_bytes());
+    assert_eq!(refusal.name().len(), NAME_BYTES);
 }
 
 #[test]
@@ -194,7 +212,7 @@ fn question(input: &[u8]) -> Option<(&[u8], Specification<'_>)> {
     let rest = input.strip_prefix(b"normalise=")?;
     let length = rest.iter().position(|&byte| byte == b'\n')?;
     let (asked, text) = (&rest[..length], &rest[length + 1..]);
-    if length > NAME_BYTES {
+    if length > TOKEN_BYTES {
         return None;
     }
     match library_line(text) {
@@ -252,7 +270,7 @@ fn the_vectors() {
     let vectors = Path::new(env!("CARGO_MANIFEST_DIR")).join("../reference/vectors");
     let mut memory = Memory::new();
     let mut count = 0;
-    for folder in ["appendix", "readings", "one", "nine", "twelve"] {
+    for folder in ["appendix", "readings", "one", "nine", "twelve", "two"] {
         for input in inputs(&vectors.join(folder)) {
             let expected = fs::read(input.with_extension("out")).expect("an output");
             let text = fs::read(&input).expect("an input");
@@ -262,7 +280,7 @@ fn the_vectors() {
             }
         }
     }
-    assert!(count > 230, "{} vectors", count);
+    assert!(count > 340, "{} vectors", count);
 }
 
 /// The help sheet's heading for each number: `### 7: there is no module of this name`.

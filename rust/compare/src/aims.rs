@@ -197,7 +197,7 @@ fn clash(specification: &mut Specification, index: usize, random: &mut Random) {
                 insert(&mut signature(module, random).sorts, sort, random);
             }
             if random.chance(30) {
-                let twins = ["A'", "z"].map(|called| function(called, &["Own"], "Own"));
+                let twins = ["A'", "z", "*_"].map(|called| function(called, &["Own"], "Own"));
                 module.exports.sorts.push(name("Own"));
                 module.exports.functions.extend(twins.clone());
                 module.hidden.functions.extend(twins);
@@ -299,6 +299,10 @@ fn overloading(specification: &mut Specification, index: usize, random: &mut Ran
             twins.functions.push(function(called, &["T1"], "T1"));
             twins.functions.push(function(called, &["T1", "T1"], "T1"));
         }
+        if random.chance(50) {
+            twins.functions.push(function("-_", &["T1"], "T1"));
+            twins.functions.push(function("_-_", &["T1", "T1"], "T1"));
+        }
         twins.sorts.push(name("T1"));
         module.parameters.push(Parameter {
             name: name("Twins"),
@@ -378,16 +382,20 @@ fn unavailable(module: &mut Module, random: &mut Random) {
     if random.chance(50) {
         declared.inputs.push(wrong);
     }
+    if declared.inputs.len() == 1 && random.chance(50) {
+        declared.name = names::operator_name(1, random);
+    }
     insert(&mut signature(module, random).functions, declared, random);
 }
 
 /// Puts a wrong pair into a renaming; makes one where there is none.
 fn renaming(specification: &mut Specification, index: usize, random: &mut Random) {
+    let misfit = misfit(specification, index, random);
     let module = &mut specification.modules[index];
-    let wrong = Pair {
+    let wrong = misfit.unwrap_or(Pair {
         old: names::sort(random),
         new: names::fresh(random),
-    };
+    });
     for expression in &mut module.imports {
         for clause in &mut expression.clauses {
             if let Clause::Renaming(pairs) = clause {
@@ -412,6 +420,20 @@ fn renaming(specification: &mut Specification, index: usize, random: &mut Random
         specification.modules[index]
             .imports
             .push(import(&earlier, vec![clause]));
+    }
+}
+
+/// A pair that makes an operator of a sort, or of a function that mostly has another number of arguments.
+fn misfit(specification: &Specification, index: usize, random: &mut Random) -> Option<Pair> {
+    let imported = &specification.modules[index].imports.first()?.module;
+    let seen = view(specification, imported)?;
+    let count = random.between(1, 2);
+    let new = names::operator_name(count, random);
+    let function = random.pick(&seen.functions);
+    match random.below(6) {
+        0 => Some(pair(random.pick(&seen.sorts)?, &new)),
+        1..=3 => Some(pair(&function?.name, &new)),
+        _ => None,
     }
 }
 
@@ -485,7 +507,7 @@ fn leave_unpaired(pairs: &mut Vec<Pair>, random: &mut Random) {
 fn spoil(pairs: &mut Vec<Pair>, random: &mut Random) {
     let place = random.below(pairs.len());
     let actuals = ["D", "E", "G", "m", "n", "d", "q'", "H"];
-    match random.below(6) {
+    match random.below(7) {
         0 if pairs.len() > 1 => drop(pairs.remove(place)),
         1 => pairs[place].new = names::sort(random),
         2 => pairs[place].new = name(actuals[random.below(actuals.len())]),
@@ -497,6 +519,7 @@ fn spoil(pairs: &mut Vec<Pair>, random: &mut Random) {
             insert(pairs, twin, random);
         }
         4 => insert(pairs, pair(&name("nobody"), &name("D")), random),
+        5 => pairs[place].new = names::operator_name(random.between(1, 2), random),
         _ => pairs.swap(0, place),
     }
 }

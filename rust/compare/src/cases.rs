@@ -8,6 +8,7 @@ use crate::division;
 use crate::draft::{self, Plan};
 use crate::names;
 use crate::numbering;
+use crate::operators;
 use crate::random::Random;
 use crate::sizes;
 use crate::spelling::{self, Tokens};
@@ -116,25 +117,33 @@ fn from_tokens(
     }
 }
 
-fn from_draft(kind: &'static str, specification: &Specification, random: &mut Random) -> Case {
-    let asked = asked(specification, random);
-    let tokens = spelling::spell(specification, random);
+/// Operators stand in most of these texts; in some of them, wherever they may.
+fn written(mut specification: Specification, random: &mut Random) -> Tokens {
+    if random.chance(30) {
+        operators::operate(&mut specification, random);
+    }
+    spelling::spell(&specification, random)
+}
+
+fn from_draft(kind: &'static str, specification: Specification, random: &mut Random) -> Case {
+    let asked = asked(&specification, random);
+    let tokens = written(specification, random);
     from_tokens(kind, asked, tokens, random)
 }
 
 fn accepted(random: &mut Random) -> Case {
     let specification = drafted(0, random);
-    from_draft("accepted", &specification, random)
+    from_draft("accepted", specification, random)
 }
 
 fn diamonds(random: &mut Random) -> Case {
     let specification = diamonds::specification(random);
-    from_draft("diamonds", &specification, random)
+    from_draft("diamonds", specification, random)
 }
 
 fn loose(random: &mut Random) -> Case {
     let specification = drafted(60, random);
-    from_draft("loose", &specification, random)
+    from_draft("loose", specification, random)
 }
 
 /// One change aimed at a number, sometimes two: then the order of the checks decides.
@@ -147,7 +156,7 @@ fn aimed(random: &mut Random) -> Case {
         let other = aims::near(number, random);
         aims::aim(other, &mut specification, random);
     }
-    let tokens = spelling::spell(&specification, random);
+    let tokens = written(specification, random);
     from_tokens("aimed", asked, tokens, random)
 }
 
@@ -158,7 +167,7 @@ fn damaged_tokens(
 ) -> Case {
     let specification = drafted(0, random);
     let asked = asked(&specification, random);
-    let mut tokens = spelling::spell(&specification, random);
+    let mut tokens = written(specification, random);
     damage(&mut tokens, random);
     from_tokens(kind, asked, tokens, random)
 }
@@ -169,7 +178,7 @@ fn damaged_text(
     random: &mut Random,
 ) -> Case {
     let specification = drafted(0, random);
-    let mut case = from_draft(kind, &specification, random);
+    let mut case = from_draft(kind, specification, random);
     damage(&mut case.text, random);
     case
 }

@@ -4,8 +4,8 @@ use crate::names;
 use crate::random::Random;
 use crate::spelling::Tokens;
 
-const MARKS: [&[u8]; 14] = [
-    b":", b"#", b",", b"(", b")", b"[", b"]", b"{", b"}", b"->", b"=", b"==>", b"==\n", b"()",
+const MARKS: [&[u8]; 15] = [
+    b":", b"#", b",", b"(", b")", b"[", b"]", b"{", b"}", b"->", b"=", b"==>", b"==\n", b"()", b"_",
 ];
 
 const KEYWORDS: [&[u8]; 15] = [
@@ -26,8 +26,20 @@ const KEYWORDS: [&[u8]; 15] = [
     b"when",
 ];
 
-/// What begins no token, or a comment where none may begin.
-const OFFENCES: [&[u8]; 16] = [
+/// What begins no token, or a comment where none may begin, or looks so: an operator where mostly none may stand.
+const OFFENCES: [&[u8]; 28] = [
+    b".end.",
+    b".a-.",
+    b".-a.",
+    b".a--b.",
+    b". a.",
+    b".a",
+    b"..",
+    b"+->",
+    b"-->",
+    b"- >",
+    b"--+",
+    b"^",
     b"+",
     b"<",
     b">",
@@ -54,17 +66,40 @@ pub fn identifier(token: &[u8]) -> bool {
         && !KEYWORDS.contains(&token)
 }
 
+/// Whether a token is an operator, or begins like one.
+fn operator(token: &[u8]) -> bool {
+    let symbol = |byte: &u8| b".+-*/&|!@%?~".contains(byte);
+    token.first().is_some_and(symbol) && token != b"->"
+}
+
 fn some_token(tokens: &Tokens, random: &mut Random) -> Vec<u8> {
-    match random.below(4) {
+    match random.below(5) {
         0 => MARKS[random.below(MARKS.len())].to_vec(),
         1 => KEYWORDS[random.below(KEYWORDS.len())].to_vec(),
         2 => names::function(random),
+        3 => names::operator(random),
         _ => random.pick(tokens).cloned().unwrap_or_default(),
     }
 }
 
 /// Phrases that the grammar knows, each with a token near which it is almost right, and how far behind.
-const PHRASES: [(&str, usize, &str); 18] = [
+const PHRASES: [(&str, usize, &str); 34] = [
+    ("functions", 1, "_ + _ : A # A -> A"),
+    ("functions", 1, "- _ : A -> A"),
+    ("functions", 1, "_ + _ : A -> A"),
+    ("functions", 1, "- _ : A # A -> A"),
+    ("functions", 1, "- _ : -> A"),
+    ("functions", 1, "_ + _ : A # A # A -> A"),
+    ("functions", 1, "- : A -> A"),
+    ("functions", 1, "_ + : A # A -> A"),
+    ("=", 0, "+ x"),
+    ("=", 1, "- x +"),
+    ("=", 1, "- -"),
+    ("=", 0, "+ - x"),
+    ("=", 1, "_ + _ ( x , x ) ="),
+    ("(", 1, "- x +"),
+    (",", 1, "- _ -> f ,"),
+    ("->", 1, "_"),
     ("imports", 2, "{ }"),
     ("}", 0, "renamed by [ A -> B ]"),
     ("{", 1, "renamed by [ A -> B ]"),
@@ -121,10 +156,15 @@ pub fn tokens(tokens: &mut Tokens, random: &mut Random) {
     }
 }
 
-/// Puts one identifier of the text in the place of another: the grammar stays, the meaning does not.
+/// Puts one identifier of the text in the place of another, or one operator: the grammar stays, the meaning does not.
 pub fn identifiers(tokens: &mut Tokens, random: &mut Random) {
+    let kind: fn(&[u8]) -> bool = if random.chance(40) {
+        operator
+    } else {
+        identifier
+    };
     let places: Vec<usize> = (0..tokens.len())
-        .filter(|&place| identifier(&tokens[place]))
+        .filter(|&place| kind(&tokens[place]))
         .collect();
     for _ in 0..random.between(1, 3) {
         if let (Some(&place), Some(&other)) = (random.pick(&places), random.pick(&places)) {
@@ -215,7 +255,7 @@ pub fn comments(text: &mut Vec<u8>, random: &mut Random) {
 
 /// Changes, deletes, adds or repeats bytes, or cuts the text.
 pub fn bytes(text: &mut Vec<u8>, random: &mut Random) {
-    let likely = b" \n\r\t\x0c-->==()[]{},:#'a0A\x00\xff.+";
+    let likely = b" \n\r\t\x0c--->==()[]{},:#'a0A\x00\xff..+*__";
     for _ in 0..random.between(1, 4) {
         if text.is_empty() {
             return;

@@ -7,8 +7,10 @@ use reference::MODULES;
 pub fn deep_loads() -> Vec<Load> {
     vec![
         load("deep terms", "Top", deep_terms()),
+        load("deep operators", "Top", deep_operators()),
         load("deep imports", "Top", deep_imports()),
         divided("deep terms, divided", "Top", deep_terms()),
+        divided("deep operators, divided", "Top", deep_operators()),
         divided("deep imports, divided", "Top", deep_imports()),
     ]
 }
@@ -52,6 +54,28 @@ fn deep_equations() -> String {
 fn deep_term(function: &str, arguments: usize) -> String {
     let open = format!("{function}({}", "x,".repeat(arguments - 1));
     format!("{}x{}", open.repeat(15), ")".repeat(15))
+}
+
+/// Terms by operators, deeper as trees than brackets alone may go. They come to the last module under two names, as above.
+fn deep_operators() -> String {
+    let equations = format!(
+        "variables x: -> A equations [d] {} [e] x=x when {}{}",
+        deep_row(62),
+        "x=x,".repeat(7),
+        deep_row(46)
+    );
+    let exported = "sorts A functions _+_: A#A->A -_: A->A";
+    let deep = format!("module Deep begin exports begin {exported} end {equations} end Deep");
+    last_of_64(
+        &[deep],
+        &format!("Deep,Deep {{renamed by [_+_->plus,-_->neg]}} {equations}"),
+    )
+}
+
+/// So many nodes, as deep as they go: 15 brackets, each behind an operator, and inside them operands in a row.
+fn deep_row(nodes: usize) -> String {
+    let row = format!("-x{}", "+x".repeat((nodes - 17) / 2));
+    format!("{}{row}{}=x", "-(".repeat(15), ")".repeat(15))
 }
 
 /// 16 imports, the last of them with as many clauses as there may be, over functions of eight inputs.

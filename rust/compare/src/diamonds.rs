@@ -6,7 +6,14 @@ use crate::view::view;
 use reference::syntax::*;
 
 const SORTS: [&str; 3] = ["S", "T", "U"];
-const FUNCTIONS: [&str; 4] = ["f", "g", "c", "S"];
+const FUNCTIONS: [&str; 6] = ["f", "g", "c", "S", "-_", "_+_"];
+
+const PARAMETERS: [&str; 4] = [
+    "",
+    "",
+    "parameters P begin sorts X functions p: X -> S end P",
+    "parameters P begin sorts U functions f: U -> U end P",
+];
 
 fn one<'p>(phrases: &[&'p str], random: &mut Random) -> &'p str {
     phrases[random.below(phrases.len())]
@@ -32,15 +39,7 @@ pub fn specification(random: &mut Random) -> Specification {
 }
 
 fn base(random: &mut Random) -> String {
-    let parameters = one(
-        &[
-            "",
-            "",
-            "parameters P begin sorts X functions p: X -> S end P",
-            "parameters P begin sorts U functions f: U -> U end P",
-        ],
-        random,
-    );
+    let parameters = one(&PARAMETERS, random);
     let sorts = one(&["S", "S, T", "T, S"], random);
     let functions = one(
         &[
@@ -49,6 +48,8 @@ fn base(random: &mut Random) -> String {
             "f: S -> S c: -> S",
             "f: S -> S f: S#S -> S",
             "f: S -> S S: -> S",
+            "f: S -> S -_: S -> S",
+            "f: S -> S _+_: S#S -> S",
         ],
         random,
     );
@@ -63,12 +64,13 @@ fn base(random: &mut Random) -> String {
             "[e] f(x) = x [e] f(x) = x",
             "[e] f(x) = x when h(x) = x [d] h(f(x)) = f(h(x))",
             "[e] x = h(x), x = x ==> f(x) = x",
+            "[e] ~ x = f(x) [d] x * x * (~ x) = h(x)",
         ],
         random,
     );
     format!(
         "module Base begin {parameters} exports begin sorts {sorts} functions {functions} end \
-         sorts H functions {hidden} variables {variables} equations {equations} end Base"
+         sorts H functions {hidden} ~_: S -> S _*_: S#S -> S variables {variables} equations {equations} end Base"
     )
 }
 

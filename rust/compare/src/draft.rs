@@ -115,10 +115,11 @@ fn renaming(shown: &View, random: &mut Random) -> Option<Clause> {
             (random.pick(&shown.sorts)?.clone(), names::sort(random))
         } else {
             let function = random.pick(&shown.functions)?;
-            (function.name.clone(), names::function(random))
+            let count = function.inputs.len();
+            (function.name.clone(), names::function_of(count, random))
         };
         let new = if random.chance(30) {
-            names::fresh(random)
+            names::fresh_like(&new, random)
         } else {
             new
         };
@@ -259,7 +260,7 @@ fn new_functions(
             inputs.extend(random.pick(sorts).cloned());
         }
         let mut function = FunctionDeclaration {
-            name: names::function(random),
+            name: names::function_of(inputs.len(), random),
             inputs,
             output: output.clone(),
         };
@@ -267,7 +268,7 @@ fn new_functions(
             other.name == function.name && other.inputs == function.inputs
         };
         if taken.iter().any(meets) && !random.chance(3) {
-            function.name = names::fresh(random);
+            function.name = names::fresh_like(&function.name, random);
         }
         taken.push(function.clone());
         functions.push(function);
@@ -339,13 +340,37 @@ impl Ground<'_> {
     fn sides(&self, sorts: &[Name], random: &mut Random) -> Option<Sides> {
         for _ in 0..4 {
             let sort = random.pick(sorts)?;
-            let left = self.term(sort, 3, random);
-            let right = self.term(sort, 3, random);
+            let left = self.side(sort, random);
+            let right = self.side(sort, random);
             if let (Some(left), Some(right)) = (left, right) {
                 return Some(Sides { left, right });
             }
         }
         None
+    }
+
+    /// A term, now and then with others joined to it in a row.
+    fn side(&self, sort: &Name, random: &mut Random) -> Option<TermText> {
+        let mut side = self.term(sort, 3, random)?;
+        let joining = |function: &&FunctionDeclaration| {
+            operands(&function.name) == Some(2)
+                && function.output == *sort
+                && function.inputs[0] == *sort
+        };
+        let joining: Vec<_> = self.functions.iter().filter(joining).collect();
+        if joining.is_empty() || random.chance(60) {
+            return Some(side);
+        }
+        let row = if random.chance(15) { 14 } else { 3 };
+        for _ in 0..random.between(1, row) {
+            let function = random.pick(&joining)?;
+            let joined = self.term(&function.inputs[1], 2, random)?;
+            side = TermText {
+                name: function.name.clone(),
+                arguments: vec![side, joined],
+            };
+        }
+        Some(side)
     }
 
     /// A term of a sort, at most so deep.

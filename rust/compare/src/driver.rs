@@ -9,7 +9,7 @@ use std::process::{Child, ChildStdin, ChildStdout, Command, Stdio};
 pub const MEMORY_WORDS: usize = 1_048_576;
 /// The values and the bytes of names that an answer has (`c/asf.h`).
 pub const VALUES: usize = 7;
-pub const NAMES: usize = 80;
+pub const NAMES: usize = 84;
 /// What the driver fills lent memory with.
 pub const FILL: u8 = 0xa5;
 

@@ -14,6 +14,7 @@ pub mod generic;
 pub mod loads;
 pub mod names;
 pub mod numbering;
+pub mod operators;
 pub mod proved;
 pub mod random;
 pub mod shrink;

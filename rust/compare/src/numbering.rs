@@ -5,7 +5,7 @@ use crate::damage::identifier;
 use crate::names;
 use crate::random::Random;
 use crate::spelling::Tokens;
-use reference::{Name, NAME_BYTES};
+use reference::{Name, TOKEN_BYTES};
 
 /// Puts other names in the place of most of a text's, the asked one included.
 pub fn rename(tokens: &mut Tokens, asked: &mut Name, random: &mut Random) {
@@ -19,7 +19,10 @@ pub fn rename(tokens: &mut Tokens, asked: &mut Name, random: &mut Random) {
     let mut pairs: Vec<(Name, Name)> = Vec::new();
     for old in taken.clone() {
         if random.chance(90) {
-            let new = untaken(&taken, &stems, random);
+            let new = match old[0] {
+                b'.' => untaken(&taken, &stems, dotted, random),
+                _ => untaken(&taken, &stems, |name| name, random),
+            };
             taken.push(new.clone());
             pairs.push((old, new));
         }
@@ -32,32 +35,45 @@ pub fn rename(tokens: &mut Tokens, asked: &mut Name, random: &mut Random) {
 }
 
 /// Mostly of the first stem, so that what stands behind it decides.
-fn untaken(taken: &[Name], stems: &[&str; 2], random: &mut Random) -> Name {
+fn untaken(
+    taken: &[Name],
+    stems: &[&str; 2],
+    written: fn(Name) -> Name,
+    random: &mut Random,
+) -> Name {
     loop {
         let stem = stems[usize::from(random.chance(15))];
-        let name = names::numbered(stem, random);
-        if !taken.contains(&name) {
+        let name = written(names::numbered(stem, random));
+        if name.len() <= TOKEN_BYTES && !taken.contains(&name) {
             return name;
         }
     }
 }
 
-/// A name as it may stand in a text; a token that is damaged stays so.
+fn dotted(name: Name) -> Name {
+    [b".", &name[..], b"."].concat()
+}
+
+/// A name or a dotted operator as it may stand in a text; a token that is damaged stays so.
 fn is_name(token: &[u8]) -> bool {
     let inside = |&byte: &u8| byte.is_ascii_alphanumeric() || byte == b'\'' || byte == b'-';
-    let ended = token.len() <= NAME_BYTES && !token.ends_with(b"-");
-    identifier(token) && ended && token.iter().all(inside)
+    let dotless = token
+        .strip_prefix(b".")
+        .and_then(|rest| rest.strip_suffix(b"."));
+    let name = dotless.unwrap_or(token);
+    let ended = token.len() <= TOKEN_BYTES && !name.ends_with(b"-");
+    identifier(name) && ended && name.iter().all(inside)
 }
 
 #[cfg(test)]
 mod tests {
     use super::*;
     use crate::draft::{specification, Plan};
-    use crate::spelling::spell;
+    use crate::spelling::{spaced, spell};
     use reference::{normalise, Answer, Lent, Texts};
 
     fn answer(tokens: &Tokens, asked: &Name) -> Answer {
-        let text = tokens.join(&b' ');
+        let text = spaced(tokens);
         normalise(asked, Texts::alone(&text), Lent::output(usize::MAX))
     }
 

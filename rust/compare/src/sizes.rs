@@ -8,7 +8,7 @@ use reference::{normalise, Lent, Texts};
 type Writer = fn(usize, &mut Random) -> String;
 
 /// Each limit with the writer of its texts.
-const LIMITS: [(&str, usize, Writer); 29] = [
+const LIMITS: [(&str, usize, Writer); 41] = [
     ("modules", 64, modules),
     ("name", 40, one_name),
     ("closing name", 40, closing_name),
@@ -38,6 +38,18 @@ const LIMITS: [(&str, usize, Writer); 29] = [
     ("equations in all", 512, equations_in_all),
     ("nodes in all", 4_096, nodes_in_all),
     ("listing", 65_536, listing_bytes),
+    ("operator", 40, one_operator),
+    ("operators", 64, operators),
+    ("operators in conditions", 64, condition_operators),
+    ("arguments with operators", 8, operator_arguments),
+    ("conditions with operators", 8, operator_conditions),
+    ("renaming pairs of operators", 32, operator_renaming),
+    ("binding pairs of operators", 32, operator_binding),
+    ("brackets of operators", 15, operator_brackets),
+    ("operators to the brim", 32_768, operators_to_the_brim),
+    ("pairs to the brim", 32_768, pairs_to_the_brim),
+    ("items with operators", 512, operator_items),
+    ("listing with operators", 65_536, operator_listing),
 ];
 
 /// A text at a limit, just below or just beyond; now and then far beyond.
@@ -422,6 +434,21 @@ fn listing_bytes(size: usize, random: &mut Random) -> String {
     let inputs = repeat(8, "#", |_| long.clone());
     let count = random.between(75, 80);
     let functions = repeat(count, " ", |index| format!("f{index}:{inputs}->{long}"));
+    listing_over(size, &long, &functions)
+}
+
+/// The same by names of 42 bytes.
+fn operator_listing(size: usize, random: &mut Random) -> String {
+    let long = "S".repeat(40);
+    let count = random.between(160, 170);
+    let functions = repeat(count, " ", |index| {
+        let operator = format!("{}{index:03}", "o".repeat(35));
+        format!("_.{operator}._:{long}#{long}->{long}")
+    });
+    listing_over(size, &long, &functions)
+}
+
+fn listing_over(size: usize, long: &str, functions: &str) -> String {
     let ground =
         format!("exports begin sorts {long} functions {functions} end variables x: -> {long}");
     let with = |equations: &str| format!("module M begin {ground} equations {equations} end M");
@@ -447,6 +474,198 @@ fn listing_length(text: &str) -> usize {
     normalise(b"M", texts, Lent::output(usize::MAX))
         .listing
         .len()
+}
+
+/// An operator of the wanted length in one of the places where operators stand.
+fn one_operator(size: usize, random: &mut Random) -> String {
+    let long = String::from_utf8(names::long_operator(size, random)).expect("operators are ASCII");
+    let inside = match random.below(8) {
+        0 => format!("exports begin sorts A functions {long}_: A -> A end"),
+        1 => format!("exports begin sorts A functions _{long}_: A#A -> A end"),
+        2 => format!("sorts A functions _ {long} _: A#A -> A"),
+        3 => format!("imports N {{ renamed by [_+_ -> _{long}_] }}"),
+        4 => format!("imports N {{ renamed by [{long}_ -> f] }}"),
+        5 => format!("imports N equations [e] {long} a = a"),
+        6 => format!("imports N equations [e] a = a {long}a"),
+        _ => format!("sorts A functions {long}_: A -> A {long}_: A -> A"),
+    };
+    let exported = "sorts S functions a: -> S _+_: S#S -> S";
+    format!("module N begin exports begin {exported} end end N module M begin {inside} end M")
+}
+
+/// The module `M` with operators, variables and the given equations.
+fn with_operators(equations: &str) -> String {
+    format!(
+        "module M begin exports begin sorts A functions f: A -> A g: A#A -> A _+_: A#A -> A _.o._: A#A -> A -_: A -> A end \
+         variables x, y: -> A equations {equations} end M"
+    )
+}
+
+/// A term of exactly so many nodes by operators, in brackets where it must be; the fewer brackets may open, the more it is a row.
+fn operator_term(nodes: usize, open: usize, random: &mut Random) -> String {
+    match nodes {
+        0 | 1 => "x".to_string(),
+        2 => "- x".to_string(),
+        _ if open > 0 && random.chance(15) => {
+            format!("-({})", operator_term(nodes - 1, open - 1, random))
+        }
+        _ => {
+            let right = if open > 0 && random.chance(30) {
+                random.between(1, nodes - 2)
+            } else {
+                1
+            };
+            let left = operator_term(nodes - 1 - right, open, random);
+            let operator = if random.chance(50) { "+" } else { " .o. " };
+            match right {
+                1 => format!("{left}{operator}x"),
+                _ => {
+                    let inside = operator_term(right, open - 1, random);
+                    format!("{left}{operator}({inside})")
+                }
+            }
+        }
+    }
+}
+
+fn operators(size: usize, random: &mut Random) -> String {
+    let open = [0, 3, 15][random.below(3)];
+    let left = random.between(1, size - 1);
+    let (left, right) = (
+        operator_term(left, open, random),
+        operator_term(size - left, open, random),
+    );
+    with_operators(&format!("[e] {left}={right}"))
+}
+
+fn condition_operators(size: usize, random: &mut Random) -> String {
+    let conclusion = random.between(2, size - 5);
+    let (first, second) = (
+        operator_term(conclusion, 5, random),
+        operator_term(size - 4 - conclusion, 5, random),
+    );
+    match random.below(2) {
+        0 => with_operators(&format!("[e] x={first} when x=y,{second}=x")),
+        _ => with_operators(&format!("[e] x={first},x=y==>{second}=y")),
+    }
+}
+
+/// A term, more often than not one that begins with an operator.
+fn operator_or_not(random: &mut Random) -> String {
+    ["-x", "- x", "-x+x", "x+x", "x"][random.below(5)].to_string()
+}
+
+fn operator_arguments(size: usize, random: &mut Random) -> String {
+    let inputs = repeat(size.min(8), "#", |_| "A".to_string());
+    let arguments: Vec<String> = (0..size).map(|_| operator_or_not(random)).collect();
+    format!(
+        "module M begin sorts A functions f: {inputs} -> A _+_: A#A -> A -_: A -> A variables x: -> A \
+         equations [e] x = f({}) end M",
+        arguments.join(",")
+    )
+}
+
+fn operator_conditions(size: usize, random: &mut Random) -> String {
+    let conditions: Vec<String> = (0..size)
+        .map(|_| format!("{}=y", operator_or_not(random)))
+        .collect();
+    match random.below(2) {
+        0 => with_operators(&format!("[e] x=y when {}", conditions.join(","))),
+        _ => with_operators(&format!("[e] {}==>x=y", conditions.join(","))),
+    }
+}
+
+/// A pair for the operator of this number: to an operator, or to a plain name.
+fn operator_pair(index: usize) -> String {
+    match index % 3 {
+        0 => format!("_.s{index}._->_.t{index}._"),
+        1 => format!("_ .s{index}. _->t{index}"),
+        _ => format!("_.s{index}._ -> _ .t{index}._"),
+    }
+}
+
+fn operator_renaming(size: usize, _: &mut Random) -> String {
+    let declared = repeat(40, "", |index| format!("_.s{index}._:A#A->A"));
+    let pairs = repeat(size, ",", operator_pair);
+    format!(
+        "module N begin exports begin sorts A functions {declared} end end N \
+         module M begin imports N {{ renamed by [{pairs}] }} end M"
+    )
+}
+
+fn operator_binding(size: usize, random: &mut Random) -> String {
+    let prefix = random.chance(50);
+    let formals = repeat(
+        if random.chance(50) { size } else { 32 } - 1,
+        "",
+        |index| match prefix {
+            true => format!(".s{index}._:X->X"),
+            false => format!("_.s{index}._:X#X->X"),
+        },
+    );
+    let pairs = repeat(size - 1, ",", |index| match prefix {
+        true => format!(".s{index}._->neg"),
+        false => format!("_.s{index}._->_+_"),
+    });
+    format!(
+        "module N begin exports begin sorts S functions neg: S -> S _+_: S#S -> S end end N \
+         module G begin parameters P begin sorts X functions {formals} end P end G \
+         module M begin imports G {{ P bound by [X->S,{pairs}] to N }} end M"
+    )
+}
+
+fn operator_brackets(size: usize, random: &mut Random) -> String {
+    let opened: String = (0..size)
+        .map(|_| ["-(", "x+(", "f(", "-x+("][random.below(4)])
+        .collect();
+    with_operators(&format!("[e] {opened}x{}=x", ")".repeat(size)))
+}
+
+/// So many bytes with as many tokens as they hold, in a module that is not reached.
+fn operators_to_the_brim(size: usize, random: &mut Random) -> String {
+    let row = format!("[e]{}x=x", "x+".repeat(62));
+    let (start, element) = [
+        ("functions", "-_:A->A"),
+        ("functions", "_+_:A#A->A"),
+        ("equations", "[e]-x=-x"),
+        ("equations", "[e]x+x=x"),
+        ("equations", &row),
+    ][random.below(5)];
+    let (start, end) = (
+        format!("module D begin {start} "),
+        "end D module M begin end M",
+    );
+    let count = (size - start.len() - end.len() - 1) / element.len();
+    filled(size, &format!("{start}{} {end}", element.repeat(count)))
+}
+
+/// The same by pairs: 16 imports with 32 of them, in as many modules as there is room for.
+fn pairs_to_the_brim(size: usize, _: &mut Random) -> String {
+    let pairs = repeat(32, ",", |_| "-_->_+_".to_string());
+    let imports = repeat(16, ",", |_| format!("N{{renamed by[{pairs}]}}"));
+    let modules = repeat(7, " ", |index| {
+        format!("module D{index} begin imports {imports} end D{index}")
+    });
+    filled(size, &format!("{modules} module M begin end M"))
+}
+
+/// The text with layout behind it.
+fn filled(size: usize, text: &str) -> String {
+    format!("{text}{}", " ".repeat(size.saturating_sub(text.len())))
+}
+
+/// So many items, most of them operators.
+fn operator_items(size: usize, random: &mut Random) -> String {
+    let functions = repeat(size - 2, "", |index| match index % 2 {
+        0 => format!("_.a{index}._:A#A->A"),
+        _ => format!(".a{index}._:A->A"),
+    });
+    let (open, close) = if random.chance(50) {
+        ("exports begin", "end")
+    } else {
+        ("", "")
+    };
+    format!("module M begin {open} sorts A functions {functions} {close} variables x: -> A end M")
 }
 
 #[cfg(test)]

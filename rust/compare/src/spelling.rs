@@ -9,7 +9,7 @@ pub type Tokens = Vec<Vec<u8>>;
 pub struct Speller<'r> {
     pub tokens: Tokens,
     pub random: &'r mut Random,
-    /// Percent of terms that get brackets of their own.
+    /// Percent of terms that get brackets which they do not need.
     pub brackets: usize,
 }
 
@@ -38,7 +38,19 @@ pub fn plain(specification: &Specification) -> Vec<u8> {
     for module in &specification.modules {
         speller.module(module);
     }
-    speller.tokens.join(&b' ')
+    spaced(&speller.tokens)
+}
+
+/// Tokens with single spaces, but for what would be a comment behind one.
+pub fn spaced(tokens: &[Vec<u8>]) -> Vec<u8> {
+    let mut text = Vec::new();
+    for token in tokens {
+        if !text.is_empty() && (!token.starts_with(b"--") || joins(&text, token)) {
+            text.push(b' ');
+        }
+        text.extend_from_slice(token);
+    }
+    text
 }
 
 impl Speller<'_> {
@@ -50,6 +62,20 @@ impl Speller<'_> {
 
     fn name(&mut self, name: &Name) {
         self.tokens.push(name.clone());
+    }
+
+    /// A function's name as declarations and pairs have it: an operator stands between its underlines.
+    fn function_name(&mut self, name: &Name) {
+        match operator_of(name) {
+            Some(operator) => {
+                if name.starts_with(b"_") {
+                    self.words("_");
+                }
+                self.tokens.push(operator);
+                self.words("_");
+            }
+            None => self.name(name),
+        }
     }
 
     fn separator(&mut self, index: usize, mark: &str) {
@@ -106,7 +132,7 @@ impl Speller<'_> {
             if index == 0 {
                 self.words("functions");
             }
-            self.name(&function.name);
+            self.function_name(&function.name);
             self.words(":");
             for (index, sort) in function.inputs.iter().enumerate() {
                 self.separator(index, "#");
@@ -163,9 +189,9 @@ impl Speller<'_> {
         self.words("[");
         for (index, pair) in pairs.iter().enumerate() {
             self.separator(index, ",");
-            self.name(&pair.old);
+            self.function_name(&pair.old);
             self.words("->");
-            self.name(&pair.new);
+            self.function_name(&pair.new);
         }
         self.words("]");
     }
@@ -178,8 +204,12 @@ impl Speller<'_> {
             self.list(&equation.conditions);
             let implications: [&[u8]; 4] = [b"==>", b"==\n", b"====>", b"===\n"];
             let implication = implications[self.random.below(4)];
+            let place = self.tokens.len();
             self.tokens.push(implication.to_vec());
             self.sides(&equation.conclusion);
+            if self.tokens[place + 1].starts_with(b"--") {
+                self.tokens[place] = b"==>".to_vec();
+            }
             return;
         }
         self.sides(&equation.conclusion);
@@ -204,11 +234,42 @@ impl Speller<'_> {
 
     fn term(&mut self, term: &TermText) {
         if self.random.chance(self.brackets) {
-            self.words("(");
-            self.term(term);
-            self.words(")");
-            return;
+            return self.bracketed(term);
         }
+        let Some(operator) = operator_of(&term.name) else {
+            return self.application(term);
+        };
+        match (&term.arguments[..], term.name.starts_with(b"_")) {
+            ([operand], false) => {
+                self.tokens.push(operator);
+                self.primary(operand);
+            }
+            ([left, right], true) => {
+                self.term(left);
+                self.tokens.push(operator);
+                self.primary(right);
+            }
+            // no text says this: the name stands as a declaration has it, which is refused
+            _ => self.function_name(&term.name),
+        }
+    }
+
+    fn bracketed(&mut self, term: &TermText) {
+        self.words("(");
+        self.term(term);
+        self.words(")");
+    }
+
+    /// What may stand behind an operator.
+    fn primary(&mut self, term: &TermText) {
+        if operator_of(&term.name).is_some() {
+            self.bracketed(term);
+        } else {
+            self.term(term);
+        }
+    }
+
+    fn application(&mut self, term: &TermText) {
         self.name(&term.name);
         if term.arguments.is_empty() {
             return;
@@ -220,6 +281,12 @@ impl Speller<'_> {
         }
         self.words(")");
     }
+}
+
+/// The operator of a name; none where the name is plain.
+pub fn operator_of(name: &[u8]) -> Option<Vec<u8>> {
+    let operator = name.strip_suffix(b"_")?;
+    Some(operator.strip_prefix(b"_").unwrap_or(operator).to_vec())
 }
 
 /// How wildly tokens are laid out.
@@ -234,11 +301,13 @@ pub fn some_layout(random: &mut Random) -> Layout {
     [Layout::Tight, Layout::Plain, Layout::Plain, Layout::Wild][random.below(4)]
 }
 
-/// Tokens as text: layout where two would else be one, and more of it as the way of laying out wants.
+/// Tokens as text: layout where two would else be one, and more of it as the way of laying out wants. Where a comment
+/// would begin there is mostly none.
 pub fn lay_out(tokens: &[Vec<u8>], layout: Layout, random: &mut Random) -> Vec<u8> {
     let mut text = Vec::new();
     for token in tokens {
         match layout {
+            _ if token.starts_with(b"--") && random.chance(97) => {}
             Layout::Tight => {}
             Layout::Plain => text.push(if random.chance(10) { b'\n' } else { b' ' }),
             Layout::Wild if random.chance(60) => wild(&mut text, random),
@@ -255,10 +324,13 @@ pub fn lay_out(tokens: &[Vec<u8>], layout: Layout, random: &mut Random) -> Vec<u
     text
 }
 
-/// Whether the token would join what stands before it.
+/// Whether the token would join what stands before it: two words, with hyphens between or without; two runs of symbols.
 fn joins(text: &[u8], token: &[u8]) -> bool {
     let word = |byte: &u8| byte.is_ascii_alphanumeric() || *byte == b'\'';
-    text.last().is_some_and(word) && token.first().is_some_and(word)
+    let symbol = |byte: &u8| b"+-*/&|!@%?~".contains(byte);
+    let before_hyphens = text.iter().rev().find(|&&byte| byte != b'-');
+    let words = before_hyphens.is_some_and(word) && token.first().is_some_and(word);
+    words || text.last().is_some_and(symbol) && token.first().is_some_and(symbol)
 }
 
 fn wild(text: &mut Vec<u8>, random: &mut Random) {

@@ -1,9 +1,9 @@
-//! Renaming and binding ("Evaluating", step 3).
+//! Renaming and binding ("Evaluating", step 3; document 02, Two).
 
 use crate::checks::{refuse, Refusal};
 use crate::form::{Form, Function, Replacement, Section, Sort};
 use crate::order;
-use crate::syntax::{Binding, Name, Pair};
+use crate::syntax::{operands, Binding, Name, Pair};
 use std::rc::Rc;
 
 /// Simultaneous renaming of visible sorts and functions; types and equations follow.
@@ -12,7 +12,7 @@ pub fn renamed(form: &Form, pairs: &[Pair]) -> Result<Form, Refusal> {
         let visible = form.visible_sort(&pair.old).is_some()
             || form.visible_functions(&pair.old).next().is_some();
         let repeated = pairs[..index].iter().any(|earlier| earlier.old == pair.old);
-        if !visible || repeated {
+        if !visible || repeated || !fits(form, pair) {
             return refuse(14, &pair.old);
         }
     }
@@ -28,6 +28,16 @@ pub fn renamed(form: &Form, pairs: &[Pair]) -> Result<Form, Refusal> {
         sort: &sort,
         function: &function,
     }))
+}
+
+/// Any name may be made a plain one. An operator stands for functions alone, and for all of the old name's instances.
+fn fits(form: &Form, pair: &Pair) -> bool {
+    let Some(count) = operands(&pair.new) else {
+        return true;
+    };
+    let no_sort = form.visible_sort(&pair.old).is_none();
+    let mut instances = form.visible_functions(&pair.old);
+    no_sort && instances.all(|function| function.inputs.len() == count)
 }
 
 fn first_pair<'p>(pairs: &'p [Pair], old: &[u8]) -> Option<&'p Pair> {

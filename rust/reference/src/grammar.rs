@@ -1,8 +1,9 @@
-//! From tokens to a specification, with the sizes of a text ("The text"; the report's section 2.1).
+//! From tokens to a specification, with the sizes of a text ("The text"; the report's section 2.1; document
+//! 02, Two).
 
 use crate::lexis::{self, Lexeme, Offence, Token};
-use crate::syntax::*;
-use crate::{MODULES, NAME_BYTES, TEXT_BYTES};
+use crate::syntax::{self, *};
+use crate::{MODULES, TEXT_BYTES, TOKEN_BYTES};
 
 const EXPRESSIONS: usize = 16;
 const BINDINGS: usize = 4;
@@ -11,6 +12,12 @@ const CONDITIONS: usize = 8;
 const NODES: usize = 64;
 const ARGUMENTS: usize = 8;
 const OPEN_BRACKETS: usize = 15;
+
+const UNDERLINE: Token = Token::Mark(b'_');
+/// What a term may begin with.
+const TERM: [Token; 3] = [Token::Identifier, Token::Operator, Token::Mark(b'(')];
+/// What a function's name may begin with, in a declaration and in a pair.
+const FUNCTION: [Token; 3] = [Token::Identifier, Token::Operator, UNDERLINE];
 
 /// Reads a whole text, or tells its leftmost offence.
 pub fn read(text: &[u8]) -> Result<Specification, Offence> {
@@ -32,6 +39,15 @@ fn size(at: usize) -> Offence {
     Offence { number: 4, at }
 }
 
+/// One node more, at a place.
+fn node(nodes: &mut usize, at: usize) -> Result<(), Offence> {
+    *nodes += 1;
+    if *nodes > NODES {
+        return Err(size(at));
+    }
+    Ok(())
+}
+
 struct Parser<'t> {
     text: &'t [u8],
     place: usize,
@@ -44,6 +60,10 @@ impl Parser<'_> {
 
     fn next_is(&self, token: Token) -> Result<bool, Offence> {
         Ok(self.look()?.token == token)
+    }
+
+    fn next_among(&self, tokens: &[Token]) -> Result<bool, Offence> {
+        Ok(tokens.contains(&self.look()?.token))
     }
 
     fn not_allowed<T>(&self) -> Result<T, Offence> {
@@ -82,24 +102,47 @@ impl Parser<'_> {
         self.expect(Token::Keyword(keyword))
     }
 
-    /// A name of any length, and its place.
-    fn long_name(&mut self) -> Result<(Name, usize), Offence> {
+    /// The bytes of the expected token, however many, and its place.
+    fn bytes(&mut self, token: Token) -> Result<(Name, usize), Offence> {
         let next = self.look()?;
-        self.expect(Token::Identifier)?;
+        self.expect(token)?;
         Ok((self.text[next.start..next.stop].to_vec(), next.start))
     }
 
-    fn name(&mut self) -> Result<Name, Offence> {
-        let (name, at) = self.long_name()?;
-        if name.len() > NAME_BYTES {
+    fn short_bytes(&mut self, token: Token) -> Result<Name, Offence> {
+        let (bytes, at) = self.bytes(token)?;
+        if bytes.len() > TOKEN_BYTES {
             return Err(size(at));
         }
-        Ok(name)
+        Ok(bytes)
+    }
+
+    fn name(&mut self) -> Result<Name, Offence> {
+        self.short_bytes(Token::Identifier)
+    }
+
+    fn operator(&mut self) -> Result<Name, Offence> {
+        self.short_bytes(Token::Operator)
+    }
+
+    /// A function's name as declarations and pairs write it: `f`, `-_` or `_+_`, with layout where one likes.
+    fn function_name(&mut self) -> Result<Name, Offence> {
+        if self.next_is(Token::Identifier)? {
+            return self.name();
+        }
+        let infix = self.accept(UNDERLINE)?;
+        let operator = self.operator()?;
+        self.expect(UNDERLINE)?;
+        Ok(if infix {
+            syntax::infix(&operator)
+        } else {
+            syntax::prefix(&operator)
+        })
     }
 
     /// The name after `end`; at one place 3 comes before 4.
     fn closing_name(&mut self, opening: &Name) -> Result<(), Offence> {
-        let (name, at) = self.long_name()?;
+        let (name, at) = self.bytes(Token::Identifier)?;
         if name != *opening {
             return Err(Offence { number: 3, at });
         }
@@ -211,7 +254,7 @@ impl Parser<'_> {
         let mut functions = Vec::new();
         if self.keyword("functions")? {
             functions.push(self.function()?);
-            while self.next_is(Token::Identifier)? {
+            while self.next_among(&FUNCTION)? {
                 functions.push(self.function()?);
             }
         }
@@ -219,9 +262,12 @@ impl Parser<'_> {
     }
 
     fn function(&mut self) -> Result<FunctionDeclaration, Offence> {
-        let name = self.name()?;
+        let name = self.function_name()?;
         self.expect(Token::Mark(b':'))?;
-        let inputs = self.inputs()?;
+        let inputs = match syntax::operands(&name) {
+            Some(count) => self.operand_sorts(count)?,
+            None => self.inputs()?,
+        };
         self.expect(Token::Arrow)?;
         let output = self.name()?;
         Ok(FunctionDeclaration {
@@ -229,6 +275,16 @@ impl Parser<'_> {
             inputs,
             output,
         })
+    }
+
+    /// As many sorts as the operator has operands.
+    fn operand_sorts(&mut self, count: usize) -> Result<Vec<Name>, Offence> {
+        let mut sorts = vec![self.name()?];
+        while sorts.len() < count {
+            self.expect(Token::Mark(b'#'))?;
+            sorts.push(self.name()?);
+        }
+        Ok(sorts)
     }
 
     fn inputs(&mut self) -> Result<Vec<Name>, Offence> {
@@ -314,7 +370,7 @@ impl Parser<'_> {
         self.expect(Token::Mark(b'['))?;
         let mut pairs = vec![self.pair()?];
         while self.mark(b',')? {
-            self.full(pairs.len(), PAIRS, &[Token::Identifier])?;
+            self.full(pairs.len(), PAIRS, &FUNCTION)?;
             pairs.push(self.pair()?);
         }
         self.expect(Token::Mark(b']'))?;
@@ -322,9 +378,9 @@ impl Parser<'_> {
     }
 
     fn pair(&mut self) -> Result<Pair, Offence> {
-        let old = self.name()?;
+        let old = self.function_name()?;
         self.expect(Token::Arrow)?;
-        let new = self.name()?;
+        let new = self.function_name()?;
         Ok(Pair { old, new })
     }
 
@@ -413,11 +469,7 @@ impl Parser<'_> {
         nodes: &mut usize,
     ) -> Result<Vec<Sides>, Offence> {
         while self.mark(b',')? {
-            self.full(
-                list.len(),
-                CONDITIONS,
-                &[Token::Identifier, Token::Mark(b'(')],
-            )?;
+            self.full(list.len(), CONDITIONS, &TERM)?;
             list.push(self.sides(nodes)?);
         }
         Ok(list)
@@ -430,8 +482,30 @@ impl Parser<'_> {
         Ok(Sides { left, right })
     }
 
-    /// A term inside so many open brackets.
+    /// A term inside so many open brackets: a primary, mostly, or an operator and its primary; then operators join
+    /// what stands before them to the primary behind.
     fn term(&mut self, nodes: &mut usize, open: usize) -> Result<TermText, Offence> {
+        let mut term = if self.next_is(Token::Operator)? {
+            let operator = self.operator_node(nodes)?;
+            TermText {
+                name: syntax::prefix(&operator),
+                arguments: vec![self.primary(nodes, open)?],
+            }
+        } else {
+            self.primary(nodes, open)?
+        };
+        while self.next_is(Token::Operator)? {
+            let operator = self.operator_node(nodes)?;
+            term = TermText {
+                name: syntax::infix(&operator),
+                arguments: vec![term, self.primary(nodes, open)?],
+            };
+        }
+        Ok(term)
+    }
+
+    /// A term in brackets, or a name with its arguments.
+    fn primary(&mut self, nodes: &mut usize, open: usize) -> Result<TermText, Offence> {
         if self.open_bracket(open)? {
             let inner = self.term(nodes, open + 1)?;
             self.expect(Token::Mark(b')'))?;
@@ -439,16 +513,20 @@ impl Parser<'_> {
         }
         let at = self.look()?.start;
         let name = self.name()?;
-        *nodes += 1;
-        if *nodes > NODES {
-            return Err(size(at));
-        }
+        node(nodes, at)?;
         let arguments = if self.open_bracket(open)? {
             self.arguments(nodes, open + 1)?
         } else {
             Vec::new()
         };
         Ok(TermText { name, arguments })
+    }
+
+    fn operator_node(&mut self, nodes: &mut usize) -> Result<Name, Offence> {
+        let at = self.look()?.start;
+        let operator = self.operator()?;
+        node(nodes, at)?;
+        Ok(operator)
     }
 
     fn open_bracket(&mut self, open: usize) -> Result<bool, Offence> {
@@ -459,11 +537,7 @@ impl Parser<'_> {
     fn arguments(&mut self, nodes: &mut usize, open: usize) -> Result<Vec<TermText>, Offence> {
         let mut arguments = vec![self.term(nodes, open)?];
         while self.mark(b',')? {
-            self.full(
-                arguments.len(),
-                ARGUMENTS,
-                &[Token::Identifier, Token::Mark(b'(')],
-            )?;
+            self.full(arguments.len(), ARGUMENTS, &TERM)?;
             arguments.push(self.term(nodes, open)?);
         }
         self.expect(Token::Mark(b')'))?;

@@ -1,4 +1,4 @@
-//! From bytes to tokens ("The text"; the report's section 2.2).
+//! From bytes to tokens ("The text"; the report's section 2.2; document 02, Two).
 
 /// A refusal that has a place: 1 to 5.
 #[derive(Clone, Copy, Debug, PartialEq, Eq)]
@@ -14,6 +14,8 @@ pub enum Token {
     Arrow,
     Equals,
     Implies,
+    /// A run of operator symbols, or a dotted identifier.
+    Operator,
     Mark(u8),
     EndOfText,
 }
@@ -25,6 +27,8 @@ pub struct Lexeme {
     pub start: usize,
     pub stop: usize,
 }
+
+const SYMBOLS: &[u8] = b"+-*/&|!@%?~";
 
 const KEYWORDS: [&str; 15] = [
     "begin",
@@ -44,18 +48,19 @@ const KEYWORDS: [&str; 15] = [
     "when",
 ];
 
-/// The next token from a place on, behind layout and comments.
+/// The next token from the end of the one before it, behind layout and comments.
 pub fn token(text: &[u8], place: usize) -> Result<Lexeme, Offence> {
     let start = skip(text, place)?;
     let Some(&byte) = text.get(start) else {
         return Ok(lexeme(Token::EndOfText, start, 0));
     };
     match byte {
-        b':' | b'#' | b',' | b'(' | b')' | b'[' | b']' | b'{' | b'}' => {
+        b':' | b'#' | b',' | b'(' | b')' | b'[' | b']' | b'{' | b'}' | b'_' => {
             Ok(lexeme(Token::Mark(byte), start, 1))
         }
         b'=' => Ok(equals_or_implies(text, start)),
-        b'-' if text.get(start + 1) == Some(&b'>') => Ok(lexeme(Token::Arrow, start, 2)),
+        b'.' => dotted(text, start),
+        _ if symbol(byte) => Ok(arrow_or_operator(text, start)),
         _ if identifier_byte(byte) => Ok(word(text, start)),
         _ => Err(no_token(start)),
     }
@@ -81,12 +86,19 @@ fn identifier_byte(byte: u8) -> bool {
     byte.is_ascii_alphanumeric() || byte == b'\''
 }
 
-/// Steps over layout and comments; a comment needs a layout byte right before it.
+fn symbol(byte: u8) -> bool {
+    SYMBOLS.contains(&byte)
+}
+
+/// Steps over layout and comments, from byte 0 or from a token's end. Two hyphens are a comment behind a layout byte,
+/// be it an implication's last, and no token at byte 0 and behind a comment's closing hyphens; behind any other token
+/// they begin an operator.
 fn skip(text: &[u8], mut place: usize) -> Result<usize, Offence> {
+    let mut behind_token = place > 0 && !layout(text[place - 1]);
     while place < text.len() {
         if layout(text[place]) {
             place += 1;
-        } else if text[place..].starts_with(b"--") {
+        } else if text[place..].starts_with(b"--") && !behind_token {
             if place == 0 || !layout(text[place - 1]) {
                 return Err(no_token(place));
             }
@@ -94,6 +106,7 @@ fn skip(text: &[u8], mut place: usize) -> Result<usize, Offence> {
         } else {
             break;
         }
+        behind_token = false;
     }
     Ok(place)
 }
@@ -121,6 +134,31 @@ fn equals_or_implies(text: &[u8], start: usize) -> Lexeme {
         Some(b'>' | b'\n') if run >= 2 => lexeme(Token::Implies, start, run + 1),
         _ => lexeme(Token::Equals, start, 1),
     }
+}
+
+/// A maximal run of operator symbols; one that is a lone `-` is the arrow where `>` follows.
+fn arrow_or_operator(text: &[u8], start: usize) -> Lexeme {
+    let run = text[start..]
+        .iter()
+        .take_while(|&&byte| symbol(byte))
+        .count();
+    match &text[start..start + run] {
+        b"-" if text.get(start + run) == Some(&b'>') => lexeme(Token::Arrow, start, 2),
+        _ => lexeme(Token::Operator, start, run),
+    }
+}
+
+/// A dot, an identifier and a dot, with nothing between.
+fn dotted(text: &[u8], start: usize) -> Result<Lexeme, Offence> {
+    let opened = text
+        .get(start + 1)
+        .is_some_and(|&byte| identifier_byte(byte));
+    let inside = word(text, start + 1);
+    let closed = text.get(inside.stop) == Some(&b'.');
+    if opened && closed && inside.token == Token::Identifier {
+        return Ok(lexeme(Token::Operator, start, inside.stop + 1 - start));
+    }
+    Err(no_token(start))
 }
 
 /// An identifier or keyword: hyphens belong to it only where an identifier byte follows later in the run.

@@ -24,8 +24,10 @@ pub use syntax::Name;
 
 /// The longest text that is read ("The text", sizes), the library as the customer's.
 pub const TEXT_BYTES: usize = 32_768;
-/// The longest name ("The text", sizes).
-pub const NAME_BYTES: usize = 40;
+/// The longest name or operator as it stands in a text ("The text", sizes), and the longest asked name.
+pub const TOKEN_BYTES: usize = 40;
+/// The longest name that is listed or told: that of an infix operator has two underlines (document 02, Two).
+pub const NAME_BYTES: usize = TOKEN_BYTES + 2;
 /// The most modules of a specification ("The text", sizes), over both texts (document 02, One).
 pub const MODULES: usize = 64;
 /// What the program `asfnorm` lends for its output ("The listing").
@@ -149,7 +151,7 @@ fn finish(
 
 /// An answer that names the asked module; a name over 40 bytes is told as a blank.
 fn about_asked(number: u32, asked: &[u8]) -> Answer {
-    let module = if asked.len() <= NAME_BYTES {
+    let module = if asked.len() <= TOKEN_BYTES {
         asked.to_vec()
     } else {
         Vec::new()

@@ -42,7 +42,7 @@ pub fn parts(text: &[u8]) -> Vec<Part<'_>> {
             break;
         }
         let name = token_or_end(text, keyword.stop);
-        place = part_end(text, name.stop);
+        place = part_end(text, name);
         parts.push(Part {
             name: &text[name.start..name.stop],
             place: keyword.start,
@@ -52,9 +52,13 @@ pub fn parts(text: &[u8]) -> Vec<Part<'_>> {
     parts
 }
 
-/// Where the last token ends before the next `module` or the end, from a token's end on. No text that is read has more
-/// tokens than bytes.
-fn part_end(text: &[u8], mut place: usize) -> usize {
+/// Where the last token ends before the next `module` or the end, from a module's name on. No text that is read has
+/// more tokens than bytes.
+fn part_end(text: &[u8], name: Lexeme) -> usize {
+    let mut place = name.stop;
+    if name.token == Token::EndOfText {
+        return place;
+    }
     for _ in 0..TEXT_BYTES {
         let next = token_or_end(text, place);
         if [MODULE, Token::EndOfText].contains(&next.token) {

@@ -1,7 +1,7 @@
 //! The program `asfnorm` as a function from its standard input to its output ("The listing"; document 02, One).
 
 use crate::{at_place, normalise, Answer, Lent, Offence, Texts};
-use crate::{NAME_BYTES, OUTPUT_BYTES, TEXT_BYTES};
+use crate::{OUTPUT_BYTES, TEXT_BYTES, TOKEN_BYTES};
 
 const FIRST: &[u8] = b"normalise=";
 const SECOND: &[u8] = b"library=";
@@ -38,7 +38,7 @@ fn answered(input: &[u8]) -> Answer {
 fn split(input: &[u8]) -> Option<(&[u8], &[u8])> {
     let rest = input.strip_prefix(FIRST)?;
     let length = rest.iter().position(|&byte| byte == b'\n')?;
-    (length <= NAME_BYTES).then(|| (&rest[..length], &rest[length + 1..]))
+    (length <= TOKEN_BYTES).then(|| (&rest[..length], &rest[length + 1..]))
 }
 
 /// The length that a library's line tells, and what is behind that line; none where it is no such line.

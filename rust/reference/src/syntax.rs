@@ -1,6 +1,21 @@
 //! What a specification says, as a tree ("The text").
 
+/// An operator's name has its underlines: `-_`, `_+_`.
 pub type Name = Vec<u8>;
+
+pub fn prefix(operator: &[u8]) -> Name {
+    [operator, b"_"].concat()
+}
+
+pub fn infix(operator: &[u8]) -> Name {
+    [b"_", operator, b"_"].concat()
+}
+
+/// How many operands an operator's name has room for; none where the name is plain.
+pub fn operands(name: &[u8]) -> Option<usize> {
+    let underlines = name.iter().filter(|&&byte| byte == b'_').count();
+    (underlines > 0).then_some(underlines)
+}
 
 /// The modules of both texts in one sequence, the library's first.
 #[derive(Clone, Debug, Default)]

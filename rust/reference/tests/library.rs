@@ -42,6 +42,17 @@ fn an_asked_name_over_forty_bytes_is_blank() {
     assert_eq!((answer.number, &answer.name[..]), (6, &[b'n'; 40][..]));
 }
 
+/// An operator of 40 bytes is told with its underlines.
+#[test]
+fn told_names_have_up_to_42_bytes() {
+    let infix = format!("_{}_", "+".repeat(40));
+    let declared = format!("{infix}: A#A -> A");
+    let text =
+        format!("module M begin exports begin sorts A functions {declared} {declared} end end M");
+    let answer = normalise(b"M", text.as_bytes(), Lent::output(0));
+    assert_eq!((answer.number, answer.name), (9, infix.into_bytes()));
+}
+
 #[test]
 fn the_reader_steps_line_by_line() {
     let first = Step::Line {
@@ -115,6 +126,9 @@ fn refused_texts_have_parts() {
     assert_eq!(parts_of("sorts module M"), [""; 0]);
     assert_eq!(parts_of("--\nmodule M"), [""; 0]);
     assert_eq!(parts_of("module M -- open"), ["module M"]);
+    assert_eq!(parts_of("module -- c ----x"), ["module -- c --"]);
+    assert_eq!(parts_of("module M--x -+->"), ["module M--x -+-"]);
+    assert_eq!(parts_of("module M .a-b. .-a. .x."), ["module M .a-b."]);
     assert_eq!(parts_of(&"module M ".repeat(65)).len(), 64);
     assert_eq!(fetched("", "module \n", ""), Some(("module \n", true)));
     assert_eq!(fetched("", "", "module $"), Some(("module ", false)));

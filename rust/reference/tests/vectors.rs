@@ -5,7 +5,7 @@ use std::env;
 use std::fs;
 use std::path::{Path, PathBuf};
 
-/// The folder with `appendix/`, `readings/`, `one/`, `nine/` and `twelve/`: from the environment, or beside this crate.
+/// The folder with `appendix/`, `readings/`, `one/`, `nine/`, `twelve/` and `two/`: from the environment, or beside this crate.
 fn folder() -> PathBuf {
     match env::var_os("ASF_VECTORS") {
         Some(path) => PathBuf::from(path),
@@ -66,4 +66,9 @@ fn nine() {
 #[test]
 fn twelve() {
     run("twelve", 31);
+}
+
+#[test]
+fn two() {
+    run("two", 118);
 }
