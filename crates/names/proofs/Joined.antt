@@ -1,11 +1,11 @@
--- Laws of names of two texts, in the code's terms: t is the text, l the library behind it, w a word, k how many bytes its token may have.
+-- Laws of names of two texts, in the code's terms: t is the text, l the library behind it, w a word.
 use mathlib.Core.Path.{_≡_, sym, _∙_}
 use mathlib.Core.Bool.{Bool, true, false}
 use mathlib.Core.List.{List, append-nil}
 use Prim.Native.Nat.{ℕ, _+_, _-_, _*_, _/_, _%_, _<_, _≤_, min}
 use native.Mathlib.Omega.{arith}
 use lib.Dec.{leb}
-use lib.ListN.{length, getD, take, drop, List·getD-append}
+use lib.ListN.{length, take, drop}
 use lib.Seq.{take-length}
 use borrow.Author.Needs.{needs}
 use borrow.Author.Tests.{le-leb, lt-leb, leb-true, lt-ltb}
@@ -13,64 +13,19 @@ use mir.Syntax.{w32}
 use mir.Val.{Fits}
 use Rattle.meaning.specs.Lists.{pick}
 use Rattle.meaning.specs.Names.{same}
-use Rattle.names.specs.Word.{token-of, name-of, word-parts, token-length, plain-name}
+use Rattle.names.specs.Word.{token-of, name-of, plain-name}
+use Rattle.spelling.specs.Word.{word-parts}
 use Rattle.runs.specs.Orders.{compared}
 use Rattle.runs.specs.Runs.{Seen}
-use Rattle.names.specs.Joint.{joint, has-room, have-room, both-behind, joint-length, name-in-library, name-in-text}
+use Rattle.names.specs.Joint.{joint, has-room, have-room, both-behind, name-in-library, name-in-text}
 use Rattle.names.proofs.Auto.{told}
-use Rattle.names.proofs.Compared.{same-words, not-after-told, same-lengths, same-on, same-off, same-end}
-use Rattle.names.proofs.Forms.{past-seam}
+use Rattle.names.proofs.Compared.{same-words, not-after-told}
 use Rattle.names.proofs.Places.{first-true, second-true}
-
--- ---- wherever they lie, byte by byte
-
-module _ (l t : List ℕ) where
-  pub byte-left : (i : ℕ) → i < length t → getD t i 0 ≡ getD (joint l t) i 0
-  unfolding joint
-  byte-left i h = sym (List·getD-append t l 0 i h)
-
-  pub byte-right : (i r : ℕ) → length t ≤ i → r ≡ getD l (i - length t) 0 → r ≡ getD (joint l t) i 0
-  unfolding joint
-  byte-right i r h e = e ∙ sym (past-seam t l i h)
-
-  pub joined-size : (w k s r : ℕ) → k ≡ min (w % 64) 40 → s ≡ min (w / 256) (length t + length l) → r ≡ min k (length t + length l - s)
-      → r ≡ length (token-of (joint l t) w)
-  joined-size w k s r e f g = omega (arith, token-length (joint l t) w, joint-length l t)
-
--- a name of n bytes and the bytes b
-module _ (a b : List ℕ) (n : ℕ) (e : n ≡ length a) where
-  pub called-not : (n ≡ length b → ⊥) → false ≡ same a b
-  called-not h = same-lengths a b (λ q. h (e ∙ q))
-
-  module _ (i : ℕ) (f : n ≡ length b) where
-    pub called-off : (p : ℕ) → i < n → p ≡ getD a i 0 → (p ≡ getD b i 0 → ⊥) → same (drop i a) (drop i b) ≡ false
-    called-off p h x z = same-off a b i (omega arith) (omega arith) (λ q. z (x ∙ q))
-
-    pub called-on : (p : ℕ) → i < n → p ≡ getD a i 0 → p ≡ getD b i 0 → same (drop i a) (drop i b) ≡ same (drop (i + 1) a) (drop (i + 1) b)
-    called-on p h x z = same-on a b i (omega arith) (omega arith) (sym x ∙ z)
-
-    pub called-end : n ≤ i → same (drop i a) (drop i b) ≡ true
-    called-end h = same-end a b i (omega arith) (omega arith)
 
 -- the same names are level
 pub level-told : (x y : List ℕ) (s : Bool) → s ≡ same x y → s ≡ true → 1 ≡ compared x y
 unfolding compared pick
 level-told x y s e h = rw (← e, h)
-
--- two names, of n bytes the first: p and q are their bytes at i
-module _ (a b : List ℕ) (n m : ℕ) (e : n ≡ length a) (f : m ≡ length b) where
-  pub across-not : (n ≡ m → ⊥) → false ≡ same a b
-  across-not h = same-lengths a b (λ q. h (e ∙ q ∙ sym f))
-
-  module _ (i p q : ℕ) (z : n ≡ m) (h : i < n) (x : p ≡ getD a i 0) (y : q ≡ getD b i 0) where
-    pub across-off : (p ≡ q → ⊥) → same (drop i a) (drop i b) ≡ false
-    across-off w = same-off a b i (omega arith) (omega arith) (λ k. w (x ∙ k ∙ sym y))
-
-    pub across-on : p ≡ q → same (drop i a) (drop i b) ≡ same (drop (i + 1) a) (drop (i + 1) b)
-    across-on w = same-on a b i (omega arith) (omega arith) (sym x ∙ w ∙ y)
-
-  pub across-end : (i : ℕ) → n ≡ m → n ≤ i → same (drop i a) (drop i b) ≡ true
-  across-end i z h = same-end a b i (omega arith) (omega arith)
 
 -- ---- where they stand
 
@@ -215,4 +170,4 @@ pub alone-compared : (t : List ℕ) (a b r : ℕ)
 alone-compared t a b r h = rw (alone t t) at h
 
 -- what the answers for these functions hand to `search`
-pub ruleset cases = (byte-left, byte-right, joined-size, called-not, called-off, called-on, called-end, room-there, room-not, rooms-both, rooms-not, behind-both, behind-not, first-within, second-within, first-behind, behind-fits, moved-fits, second-behind, here-seen, here-same, there-seen, there-same, elsewhere-compared, elsewhere-same, level-told, across-not, across-off, across-on, across-end, same-words, not-after-told, told, needs)
+pub ruleset cases = (room-there, room-not, rooms-both, rooms-not, behind-both, behind-not, first-within, second-within, first-behind, behind-fits, moved-fits, second-behind, here-seen, here-same, there-seen, there-same, elsewhere-compared, elsewhere-same, level-told, same-words, not-after-told, told, needs)

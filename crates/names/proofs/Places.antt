@@ -11,7 +11,8 @@ use borrow.Author.Needs.{needs}
 use borrow.Author.Tests.{leb-true, leb-false, lt-ltb, le-ltb}
 use Rattle.meaning.specs.Lists.{pick}
 use Rattle.meaning.specs.Names.{same}
-use Rattle.names.specs.Word.{are-plain, token-of, name-of, plain-name, token-length}
+use Rattle.names.specs.Word.{are-plain, token-of, name-of, plain-name}
+use Rattle.spelling.specs.Word.{token-length}
 use Rattle.runs.specs.Runs.{Seen}
 use Rattle.names.proofs.Compared.{same-words}
 

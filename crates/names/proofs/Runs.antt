@@ -7,7 +7,7 @@ use native.Mathlib.Numerals.{add-one}
 use native.Mathlib.Nat.{add-zero, not-suc-le-zero}
 use native.Mathlib.Omega.{arith}
 use lib.Dec.{eqb}
-use lib.ListN.{length, getD, drop, drop-of-length-le, length-drop, List·getD-eq-default}
+use lib.ListN.{length, getD, drop, drop-of-length-le, length-drop}
 use lib.Seq.{drop-cons, drop-drop, getD-drop}
 use mir.Syntax.{w64}
 use mir.Val.{Fits}
@@ -71,9 +71,6 @@ front s i = getD-drop i s 0 0 ∙ ap (λ (k : ℕ). getD s k 0) (add-zero i)
 
 pub second : (s : List ℕ) (i : ℕ) → getD (drop i s) 1 0 ≡ getD s (i + 1) 0
 second s i = getD-drop i s 1 0
-
-pub past-end : (s : List ℕ) (i : ℕ) → length s ≤ i → 0 ≡ getD s i 0
-past-end s i h = sym (List·getD-eq-default s 0 h)
 
 -- ---- identifiers: i is a place within one, j the place past the hyphens there, b the byte at j
 

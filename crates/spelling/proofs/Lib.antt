@@ -1,0 +1,5 @@
+pub mod Auto
+pub mod Bytes
+pub mod Same
+pub mod Forms
+pub mod Joined

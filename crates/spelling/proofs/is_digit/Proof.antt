@@ -1,0 +1,13 @@
+-- `spelling::is_digit` meets its contract.
+-- Assumes nothing.
+use Rattle.spelling.proofs.Bytes.{cases}
+use Rattle.spelling.proofs.is_digit.Statement.{statement}
+use Rattle.spelling.proofs.is_digit.Tie as tie
+
+pub is-digit-spec : {M : Type 1} → statement M
+is-digit-spec =
+    tie.close
+    (tie.spec
+    (λ c. search cases)  -- returns
+    (λ c. search cases)  -- returns-2
+    )

@@ -1,0 +1,13 @@
+-- `spelling::leading` meets its contract.
+-- Assumes nothing.
+use Rattle.spelling.proofs.Forms.{cases}
+use Rattle.spelling.proofs.leading.Statement.{statement}
+use Rattle.spelling.proofs.leading.Tie as tie
+
+pub leading-spec : {M : Type 1} → statement M
+leading-spec =
+    tie.close
+    (tie.spec
+    (λ c. search cases)  -- returns
+    (λ c. search cases)  -- returns-2
+    )
