@@ -1,23 +1,20 @@
 -- What the program prints (meaning/specs/Answer.antt), whatever working memory and output are lent; and the same of an answer as the code has it.
 use mathlib.Core.Path.{_≡_, refl, sym, _∙_}
 use Prim.Native.Nat.{ℕ, _+_, _≤_}
-use mathlib.Core.Bool.{Bool, true, false}
+use mathlib.Core.Bool.{Bool, true}
 use mathlib.Core.List.{List, [], _++_}
 use lib.Dec.{eqb, ltb}
-use lib.ListN.{length, take, drop}
+use lib.ListN.{length, take}
 use Rattle.meaning.specs.Lists.{pick}
 use Rattle.meaning.specs.Names as Names
-use Rattle.meaning.specs.Names.{bytes, slice}
+use Rattle.meaning.specs.Names.{bytes}
 use Rattle.meaning.specs.Numbers.{text-size, memory-size, program-output, accepted, over-size, lent-short}
 use Rattle.meaning.specs.Written.{decimal}
-use Rattle.meaning.specs.Texts.{two-texts}
 use Rattle.meaning.specs.Answer as Meaning
 use Rattle.pen.specs.Pen.{pen, written}
 use Rattle.asf.specs.declared.answers.Name.{Name}
 use Rattle.asf.specs.declared.answers.Answer.{Answer}
 use Rattle.asf.specs.Answers.{told}
-use Rattle.responding.specs.declared.Framing.{Framing}
-use Rattle.responding.specs.declared.Framing.the-variants.{Alone, TooLong, Both}
 
 unfoldable pub asfnorm-with : (memory-lent output-lent : ℕ) → List ℕ → List ℕ
 asfnorm-with memory-lent output-lent input = Meaning.printed (Meaning.answer-to memory-lent output-lent input)
@@ -47,21 +44,6 @@ respond-coincide input work out page m n w o p w′ o′ p′ h g =
     (h .printed ∙ sym (g .printed), (h .memory ∙ sym (g .memory), h .output ∙ sym (g .output)))
 
 -- ---- what follows the first line
-
-pub record BothFramed (rest : List ℕ) (from to : ℕ) : Type 0 where
-  pub short : Meaning.library-too-long rest ≡ false
-  pub texts : Meaning.texts-in rest ≡ two-texts (slice rest from to) (drop to rest)
-  pub forward : from ≤ to
-  pub within : to ≤ length rest
-
-pub record AloneFramed (rest : List ℕ) : Type 0 where
-  pub short : Meaning.library-too-long rest ≡ false
-  pub texts : Meaning.texts-in rest ≡ two-texts [] rest
-
-abbrev pub Framed : List ℕ → Framing → Type 0
-Framed rest Alone = AloneFramed rest
-Framed rest TooLong = Meaning.library-too-long rest ≡ true
-Framed rest (Both from to) = BothFramed rest from to
 
 -- before all else the working memory may be too short
 unfoldable pub with-memory : ℕ → Names.Name → Meaning.Answer → Meaning.Answer

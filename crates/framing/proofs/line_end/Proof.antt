@@ -1,13 +1,13 @@
--- `responding::line_end` meets its contract.
+-- `framing::line_end` meets its contract.
 -- Assumes nothing.
 use mathlib.Core.Path.{_≡_}
 use Prim.Native.Nat.{_-_}
 use lib.ListN.{length}
 use Rattle.meaning.specs.Tokens.{run-end}
 use Rattle.meaning.specs.Answer.{in-line}
-use Rattle.responding.proofs.Cases.{cases}
-use Rattle.responding.proofs.line_end.Statement.{statement}
-use Rattle.responding.proofs.line_end.Tie as tie
+use Rattle.framing.proofs.Cases.{cases}
+use Rattle.framing.proofs.line_end.Statement.{statement}
+use Rattle.framing.proofs.line_end.Tie as tie
 
 abbrev Inv-loop : tie.InvT-loop
 Inv-loop input start i₀ i = run-end in-line input start ≡ run-end in-line input i

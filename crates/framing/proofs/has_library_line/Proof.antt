@@ -1,9 +1,9 @@
--- `responding::has_library_line` meets its contract.
+-- `framing::has_library_line` meets its contract.
 -- Assumes nothing.
-use Rattle.responding.proofs.Cases.{cases}
+use Rattle.framing.proofs.Cases.{cases}
 use borrow.Author.Needs.{needs}
-use Rattle.responding.proofs.has_library_line.Statement.{statement}
-use Rattle.responding.proofs.has_library_line.Tie as tie
+use Rattle.framing.proofs.has_library_line.Statement.{statement}
+use Rattle.framing.proofs.has_library_line.Tie as tie
 
 pub has-library-line-spec : {M : Type 1} → statement M
 has-library-line-spec =

@@ -1,9 +1,9 @@
--- `responding::is_decimal` meets its contract.
+-- `framing::is_decimal` meets its contract.
 -- Assumes nothing.
-use Rattle.responding.proofs.Cases.{cases}
+use Rattle.framing.proofs.Cases.{cases}
 use borrow.Author.Needs.{needs}
-use Rattle.responding.proofs.is_decimal.Statement.{statement}
-use Rattle.responding.proofs.is_decimal.Tie as tie
+use Rattle.framing.proofs.is_decimal.Statement.{statement}
+use Rattle.framing.proofs.is_decimal.Tie as tie
 
 pub is-decimal-spec : {M : Type 1} → statement M
 is-decimal-spec =

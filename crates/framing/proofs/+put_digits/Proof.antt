@@ -1,15 +1,15 @@
--- `responding::put_digits` meets its contract. The digits that are left fall.
+-- `framing::put_digits` meets its contract. The digits that are left fall.
 -- Assumes nothing.
-use Rattle.responding.proofs.Cases.{cases}
+use Rattle.framing.proofs.Cases.{cases}
 use Prim.Native.Nat.{ℕ, _<_}
 use borrow.Fn.Kinds.{In}
 use borrow.Fn.PlainCycle.{Measures, is, falls, and}
-use Rattle.responding.proofs.put_digits.Reads as put-digits
-use Rattle.responding.proofs.put_digits.Kinds as put-digits-kinds
-use Rattle.responding.proofs.+put_digits.Lts-put_digits as put-digits-lts
+use Rattle.framing.proofs.put_digits.Reads as put-digits
+use Rattle.framing.proofs.put_digits.Kinds as put-digits-kinds
+use Rattle.framing.proofs.+put_digits.Lts-put_digits as put-digits-lts
 use Rattle.pen.proofs.put.Reads as put-reads
-use Rattle.responding.proofs.+put_digits.{statement}
-use Rattle.responding.proofs.+put_digits.Tie.{close}
+use Rattle.framing.proofs.+put_digits.{statement}
+use Rattle.framing.proofs.+put_digits.Tie.{close}
 
 abbrev μ-put-digits : Measures 1 put-digits-kinds.ps ℕ
 μ-put-digits κs a = a .1 .1 .1 .1 .0

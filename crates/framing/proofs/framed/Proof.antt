@@ -1,9 +1,9 @@
--- `responding::framed` meets its contract.
+-- `framing::framed` meets its contract.
 -- Assumes nothing.
-use Rattle.responding.proofs.Cases.{cases}
+use Rattle.framing.proofs.Cases.{cases}
 use borrow.Author.Needs.{needs}
-use Rattle.responding.proofs.framed.Statement.{statement}
-use Rattle.responding.proofs.framed.Tie as tie
+use Rattle.framing.proofs.framed.Statement.{statement}
+use Rattle.framing.proofs.framed.Tie as tie
 
 pub framed-spec : {M : Type 1} → statement M
 framed-spec =

@@ -1,10 +1,10 @@
--- `responding::said_by` meets its contract.
+-- `framing::said_by` meets its contract.
 -- Assumes nothing.
 use Prim.Native.Nat.{_-_}
 use lib.ListN.{length}
-use Rattle.responding.proofs.Cases.{cases, Saying}
-use Rattle.responding.proofs.said_by.Statement.{statement}
-use Rattle.responding.proofs.said_by.Tie as tie
+use Rattle.framing.proofs.Cases.{cases, Saying}
+use Rattle.framing.proofs.said_by.Statement.{statement}
+use Rattle.framing.proofs.said_by.Tie as tie
 
 abbrev Inv-loop : tie.InvT-loop
 Inv-loop written n₀ i₀ n i = Saying written i n

@@ -1,9 +1,9 @@
--- `responding::has_request` meets its contract.
+-- `framing::has_request` meets its contract.
 -- Assumes nothing.
-use Rattle.responding.proofs.Cases.{cases}
+use Rattle.framing.proofs.Cases.{cases}
 use borrow.Author.Needs.{needs}
-use Rattle.responding.proofs.has_request.Statement.{statement}
-use Rattle.responding.proofs.has_request.Tie as tie
+use Rattle.framing.proofs.has_request.Statement.{statement}
+use Rattle.framing.proofs.has_request.Tie as tie
 
 pub has-request-spec : {M : Type 1} → statement M
 has-request-spec =
