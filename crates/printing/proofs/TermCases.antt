@@ -1,12 +1,12 @@
 -- One law for each way through the code that writes terms and equations, in the code's terms.
-use mathlib.Core.Path.{_≡_, refl, ap, _∙_}
-use mathlib.Core.List.{List, [], _∷_, _++_}
+use mathlib.Core.Path.{_≡_, refl, sym, ap, _∙_}
+use mathlib.Core.List.{List, [], _∷_, _++_, append-assoc}
 use Prim.Native.Nat.{ℕ, zero, suc, _+_, _-_, _*_, _/_, _%_, _<_, _≤_}
 use native.Mathlib.Numerals.{sub-one}
 use native.Mathlib.Omega.{arith}
 use borrow.Author.Needs.{needs}
 use borrow.Author.Tests.{eq-eqb, ne-eqb, lt-ltb, le-ltb}
-use lib.ListN.{length, getD}
+use lib.ListN.{length, getD, List·getD-eq-default}
 use Rattle.meaning.specs.Lists.{pick}
 use Rattle.meaning.specs.Names.{bytes}
 use Rattle.meaning.specs.Written.{numbered}
@@ -15,7 +15,11 @@ use Rattle.forms.specs.declared.EquationRow.{EquationRow}
 use Rattle.pen.specs.Pen.{Pen, pen, written}
 use Rattle.pen.proofs.Laws.{then}
 use Rattle.printing.specs.declared.Printed.{Printed}
-use Rattle.printing.specs.Terms.{Spelt, node-text, listed, term-by, term-at, sides-at, when-at, rule-at, equation-at, Shown}
+use Rattle.printing.specs.Terms.{Spelt, node-text, item-at, opened, listed, term-by, term-at, sides-at, when-at, rule-at, equation-at, Shown}
+
+-- past the end is no name
+pub name-none : (w : List ℕ) (b r : ℕ) → length w ≤ b → 0 ≡ getD w (b + r * 16 + 1) 0
+name-none w b r h = sym (List·getD-eq-default w 0 {n = b + r * 16 + 1} (omega arith))
 
 -- the item at a node
 module _ (l : ℕ) (text w : List ℕ) (b v : ℕ) (p q : Pen) where
@@ -66,46 +70,65 @@ module _ (l : ℕ) (one : ℕ → Spelt) (at : ℕ) (o₀ : List ℕ) (k i : ℕ
             }));
       }
 
-module _ (l : ℕ) (text w : List ℕ) (b d at : ℕ) (o : List ℕ) where
-  -- terms
-  pub term-deep : (i : ℕ) → d ≡ 0 → Shown l at (term-at text w b d i) o (record { at = at; next = i }) o
-  unfolding term-at written
-  term-deep i z = rw z (record { node = refl; content = refl })
+-- terms
+module _ (text w : List ℕ) (b : ℕ) where
+  -- only a node has arguments
+  node-there : (i : ℕ) → (getD w i 0 % 16 ≡ 0 → ⊥) → i < length w
+  node-there i e = go w i e
+    where
+      go : (w : List ℕ) (i : ℕ) → (getD w i 0 % 16 ≡ 0 → ⊥) → i < length w
+      go [] i e = absurd (e refl)
+      go (x ∷ xs) zero e = omega arith
+      go (x ∷ xs) (suc i) e = let h = go xs i e in omega arith
+
+  pub item-next : (i : ℕ) → (getD w i 0 % 16 ≡ 0 → ⊥) → item-at text w b i .next ≡ i + 1
+  unfolding item-at pick
+  item-next i e = rw (lt-ltb i (length w) (node-there i e))
 
   -- the arguments stand one less deep
-  term-any : (i : ℕ) → (d ≡ 0 → ⊥) → term-at text w b d i ≡ term-by text w b (listed (term-at text w b (d - 1))) i
+  term-any : (d i : ℕ) → (d ≡ 0 → ⊥) → term-at text w b d i ≡ term-by text w b (listed (term-at text w b (d - 1))) i
   unfolding term-at
-  term-any i z = go d z
-    where
-      go : (d : ℕ) → (d ≡ 0 → ⊥) → term-at text w b d i ≡ term-by text w b (listed (term-at text w b (d - 1))) i
-      go zero z = absurd (z refl)
-      go (suc d) z = rw sub-one
+  term-any zero i z = absurd (z refl)
+  term-any (suc d) i z = rw sub-one
 
-  pub term-past : (i : ℕ) → (d ≡ 0 → ⊥) → length w ≤ i → Shown l at (term-at text w b d i) o (record { at = at; next = i }) o
-  unfolding term-by written pick
-  term-past i z h = rw (term-any i z, le-ltb i (length w) h) (record { node = refl; content = refl })
+  pub term-leaf : (d i : ℕ) → (d ≡ 0 → ⊥) → getD w i 0 % 16 ≡ 0 → item-at text w b i ≡ term-at text w b d i
+  unfolding term-by item-at pick
+  term-leaf d i z e = rw (term-any d i z, eq-eqb (getD w i 0 % 16) 0 e)
 
-  -- v is the node, t is where the name ends
-  module _ (i v : ℕ) (h : i < length w) (z : d ≡ 0 → ⊥) (f : v ≡ getD w i 0) (t : ℕ) (o₁ : List ℕ) (g : pen t o₁ ≡ written l (node-text text w b v) (pen at o)) where
-    pub term-name : v % 16 ≡ 0 → Shown l at (term-at text w b d i) o (record { at = t; next = i + 1 }) o₁
-    unfolding term-by pick
-    term-name e = rw (term-any i z, lt-ltb i (length w) h, ← f, eq-eqb (v % 16) 0 e) (record { node = refl; content = g })
+  module _ (l at i : ℕ) (o : List ℕ) where
+    pub item-there : (v t : ℕ) (o′ : List ℕ) → i < length w → v ≡ getD w i 0 → pen t o′ ≡ written l (node-text text w b v) (pen at o)
+        → Shown l at (item-at text w b i) o (record { at = t; next = i + 1 }) o′
+    unfolding item-at pick
+    item-there v t o′ h f g = rw (lt-ltb i (length w) h, ← f) (record { node = refl; content = g })
 
-    pub term-applied : (u x : ℕ) (r : Printed) (o₂ o₃ o₄ : List ℕ) → (v % 16 ≡ 0 → ⊥) → pen u o₂ ≡ written l (40 ∷ []) (pen t o₁)
-        → Shown l u (listed (term-at text w b (d - 1)) (v % 16) (i + 1)) o₂ r o₃ → pen x o₄ ≡ written l (41 ∷ []) (pen (r .at) o₃)
-        → Shown l at (term-at text w b d i) o (record { at = x; next = r .next }) o₄
-    unfolding term-by pick
-    term-applied u x r o₂ o₃ o₄ e a c k =
-        let inner = listed (term-at text w b (d - 1)) (v % 16) (i + 1) .bytes in
-        rw (term-any i z, lt-ltb i (length w) h, ← f, ne-eqb (v % 16) 0 e)
+    pub item-past : length w ≤ i → Shown l at (item-at text w b i) o (record { at = at; next = i }) o
+    unfolding item-at written pick
+    item-past h = rw (le-ltb i (length w) h) (record { node = refl; content = refl })
+
+    pub term-deep : (d : ℕ) → d ≡ 0 → Shown l at (term-at text w b d i) o (record { at = at; next = i }) o
+    unfolding term-at written
+    term-deep d z = rw z (record { node = refl; content = refl })
+
+    pub term-applied : (d u x : ℕ) (r : Printed) (o₁ o₂ o₃ : List ℕ) → (d ≡ 0 → ⊥) → (getD w i 0 % 16 ≡ 0 → ⊥)
+        → pen u o₁ ≡ written l (opened (item-at text w b i) .bytes) (pen at o)
+        → Shown l u (listed (term-at text w b (d - 1)) (getD w i 0 % 16) (i + 1)) o₁ r o₂ → pen x o₃ ≡ written l (41 ∷ []) (pen (r .at) o₂)
+        → Shown l at (term-at text w b d i) o (record { at = x; next = r .next }) o₃
+    unfolding term-by item-at opened pick
+    term-applied d u x r o₁ o₂ o₃ z e a c k =
+        let there = lt-ltb i (length w) (node-there i e) in
+        let name = node-text text w b (getD w i 0) in
+        let inner = listed (term-at text w b (d - 1)) (getD w i 0 % 16) (i + 1) .bytes in
+        let f : pen u o₁ ≡ written l (name ++ (40 ∷ [])) (pen at o) = rw there at a in
+        rw (term-any d i z, there, ne-eqb (getD w i 0 % 16) 0 e)
         (record {
           node = c .node;
           content =
-              then l (node-text text w b v) (40 ∷ (inner ++ (41 ∷ []))) (pen at o) (pen t o₁) (pen x o₄) g
-              (then l (40 ∷ []) (inner ++ (41 ∷ [])) (pen t o₁) (pen u o₂) (pen x o₄) a
-              (then l inner (41 ∷ []) (pen u o₂) (pen (r .at) o₃) (pen x o₄) (c .content) k));
+              then l (name ++ (40 ∷ [])) (inner ++ (41 ∷ [])) (pen at o) (pen u o₁) (pen x o₃) f
+              (then l inner (41 ∷ []) (pen u o₁) (pen (r .at) o₂) (pen x o₃) (c .content) k)
+              ∙ ap (λ (bs : List ℕ). written l bs (pen at o)) (append-assoc name (40 ∷ []) (inner ++ (41 ∷ [])));
         })
 
+module _ (l : ℕ) (text w : List ℕ) (b d at : ℕ) (o : List ℕ) where
   -- two terms
   pub sides-done : (i : ℕ) (r q : Printed) (t : ℕ) (o₁ o₂ o₃ : List ℕ) → Shown l at (term-at text w b d i) o r o₁ → pen t o₂ ≡ written l (61 ∷ []) (pen (r .at) o₁)
       → Shown l t (term-at text w b d (r .next)) o₂ q o₃ → Shown l at (sides-at text w b d i) o q o₃
@@ -145,4 +168,4 @@ equation-done l text w b n row p a c e q f g h k =
     let name = name-of text (row .tag) in
     then l (bytes "[") (name ++ (bytes "] " ++ rule)) p a q f (then l name (bytes "] " ++ rule) a c q g (then l (bytes "] ") rule c e q h k))
 
-pub ruleset terms = (item-visible, item-hidden, listing-first, listing-none, listing-last, listing-again, term-deep, term-past, term-name, term-applied, sides-done, when-none, when-some, rule-done, equation-done, needs)
+pub ruleset terms = (name-none, item-visible, item-hidden, item-there, item-past, listing-first, listing-none, listing-last, listing-again, sides-done, when-none, when-some, rule-done, equation-done, needs)

@@ -2,7 +2,7 @@
 -- arguments; nodes stand in prefix order. The visible items stand from place b of the memory w on.
 use mathlib.Core.Path.{_≡_}
 use Prim.Native.Nat.{ℕ, zero, suc, _+_, _*_, _/_, _%_}
-use mathlib.Core.List.{List, [], _++_}
+use mathlib.Core.List.{List, [], _∷_, _++_}
 use lib.Dec.{eqb, ltb}
 use lib.ListN.{length, getD}
 use Rattle.meaning.specs.Lists.{pick}
@@ -25,6 +25,18 @@ pub record Spelt : Type 0 where
 
 abbrev pub spelt : List ℕ → ℕ → Spelt
 spelt bs n = record { bytes = bs; next = n }
+
+-- the item at node i, and the node behind it; nothing where no node is
+unfoldable pub item-at : List ℕ → List ℕ → ℕ → ℕ → Spelt
+item-at text w b i = let item = spelt (node-text text w b (getD w i 0)) (i + 1) in pick (ltb i (length w)) item (spelt [] i)
+
+-- a byte before node i
+unfoldable pub alone : ℕ → ℕ → Spelt
+alone b i = spelt (b ∷ []) i
+
+-- with the bracket before its arguments
+unfoldable pub opened : Spelt → Spelt
+opened s = spelt (s .bytes ++ bytes "(") (s .next)
 
 -- n of them from node i on, each spelt by `one`, with commas between
 unfoldable pub listed : (ℕ → Spelt) → ℕ → ℕ → Spelt
@@ -72,3 +84,13 @@ equation-at text w b a r =
 pub record Shown (limit at : ℕ) (s : Spelt) (o : List ℕ) (r : Printed) (o′ : List ℕ) : Type 0 where
   pub node : r .next ≡ s .next
   pub content : pen (r .at) o′ ≡ written limit (s .bytes) (pen at o)
+
+-- the next place of the output and the next node, of four places: those two, the limit and where the visible rows are
+abbrev pub reached : List ℕ → Printed
+reached p = record { at = getD p 0 0; next = getD p 1 0 }
+
+-- s was written at the places p: they became p′, the output o became o′
+pub record Placed (s : Spelt) (p o p′ o′ : List ℕ) : Type 0 where
+  pub limit : getD p′ 2 0 ≡ getD p 2 0
+  pub visible : getD p′ 3 0 ≡ getD p 3 0
+  pub shown : Shown (getD p 2 0) (getD p 0 0) s o (reached p′) o′

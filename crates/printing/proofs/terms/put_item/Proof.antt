@@ -9,11 +9,7 @@ pub put-item-spec : {M : Type 1} → statement M
 put-item-spec =
     tie.close
     (tie.spec
-    (λ c. search needs)  -- cast-row
-    (λ c. search needs)  -- mul-word-at
-    (λ c. search needs)  -- add-word-at
-    (λ c. search needs)  -- add-word-at-2
-    (λ c κs. search needs)  -- word-at-requires
+    (λ c κs. search needs)  -- name-word-requires
     (λ c κs. search needs)  -- put-name-requires
     (λ c. search needs)  -- same-length
     (λ c. search terms)  -- returns
