@@ -1,11 +1,13 @@
 -- The cases of terms, one for each way through the code: f, q and u come of callees.
-use mathlib.Core.Path.{_≡_, refl, ap, _∙_}
+use mathlib.Core.Path.{_≡_, refl, sym, ap, _∙_}
 use mathlib.Core.Bool.{Bool, true, false}
-use mathlib.Core.List.{List, []}
-use Prim.Native.Nat.{ℕ, zero, suc, _+_, _-_, _<_, _≤_}
+use mathlib.Core.List.{List, [], _∷_}
+use Prim.Native.Nat.{ℕ, zero, suc, _+_, _-_, _%_, _<_, _≤_}
 use native.Mathlib.Numerals.{sub-one, add-one}
 use native.Mathlib.Omega.{arith}
-use lib.Dec.{leb}
+use mir.Syntax.{w8}
+use mir.Val.{Fits}
+use lib.Dec.{eqb, leb}
 use lib.ListN.{length, getD, set, length-set}
 use borrow.Author.Needs.{needs}
 use borrow.Author.Tests.{eq-eqb, ne-eqb, le-leb, lt-leb, le-ltb, lt-ltb}
@@ -16,12 +18,14 @@ use Rattle.meaning.specs.Grammar.{is, begins-term}
 use Rattle.entries.specs.declared.Place.{Place}
 use Rattle.entries.specs.declared.Reading.{Reading}
 use Rattle.entries.specs.declared.Reading.the-variants.{Done, Refused}
-use Rattle.tape.specs.Tape.{close-role}
-use Rattle.entries.specs.Model.{Out, out, place, Writer, onward, _>>_, stay, refuse, unexpected, if-next, mark, pushed, inserted, with-entries, no-nodes, counted, expect, name, separated, many, node-role, term-name, primary-by, prefixed, joins, operand, operands, term-by, in-brackets, primary, term}
+use Rattle.tape.specs.Tape.{close-role, prefix-role}
+use Rattle.entries.specs.Model.{Out, out, place, Writer, onward, _>>_, stay, refuse, unexpected, if-next, step, mark, as-entry, pushed, inserted, with-entries, no-nodes, counted, expect, name, separated, many, node-role, term-name, term-operator, primary-by, prefixed, joins, operand, operands, term-by, in-brackets, primary, term}
 use Rattle.entries.specs.Steps.{still, Quiet, next-passes, next-role, entries-of}
+use Rattle.terms.specs.Kept.{kept}
+use Rattle.terms.specs.Parts.{operator-in, applied}
 use Rattle.entries.proofs.Laws.{laws, then, then-still, quietly, stays, next-yes, next-no, refuse-quiet, expect-quiet}
 use Rattle.entries.proofs.Cases.{refused-onward, refused-still, short-yes, short-no, word-times, word-plus}
-use Rattle.entries.proofs.Lists.{Comes, many-again}
+use Rattle.entries.proofs.Lists.{Comes, separated-again, many-again}
 
 -- what a name is, by the token after it
 module _ (s : List ℕ) (t u : Token) (g : u ≡ token-at s (t .end)) where
@@ -41,15 +45,6 @@ role-none s r k q e = rw e
 pub role-next : (s : List ℕ) (r : Reading) (p : Place) (n : ℕ) → r ≡ Done p → n ≡ node-role s (p .token) → n ≡ next-role s r
 unfolding next-role
 role-next s r p n e h = rw (e, h)
-
--- how many entries there are
-pub entries-none : (r : Reading) (k q : ℕ) → r ≡ Refused k q → 0 ≡ entries-of r
-unfolding entries-of
-entries-none r k q e = rw e
-
-pub entries-some : (r : Reading) (p : Place) → r ≡ Done p → p .entries ≡ entries-of r
-unfolding entries-of
-entries-some r p e = rw e
 
 -- one node more
 module _ (r : Reading) (p : Place) (e : r ≡ Done p) where
@@ -167,6 +162,93 @@ bracketed s r a q c t u w g h k =
     then-still r a t (out c u) (expect s 40) (w >> expect s 41) (expect-quiet s 40) g
     (then a q t u (out c u) w (expect s 41) h (quietly q c u (expect s 41) (expect-quiet s 41) k))
 
+-- ---- where reading is, as six words
+
+pub kept-done : (w : List ℕ) → getD w 0 0 ≡ 0
+    → Done (place (record { kind = getD w 1 0 % 256; start = getD w 2 0; end = getD w 3 0 }) (getD w 4 0) (getD w 5 0)) ≡ kept w
+unfolding kept pick
+kept-done w e = rw (eq-eqb (getD w 0 0) 0 e)
+
+pub kept-refused : (w : List ℕ) → (getD w 0 0 ≡ 0 → ⊥) → Refused ((getD w 0 0 - 1) % 256) (getD w 2 0) ≡ kept w
+unfolding kept pick
+kept-refused w e = rw (ne-eqb (getD w 0 0) 0 e)
+
+-- how many entries there are
+pub entries-some : (w : List ℕ) → getD w 0 0 ≡ 0 → getD w 5 0 ≡ entries-of (kept w)
+unfolding entries-of kept pick
+entries-some w e = rw (eq-eqb (getD w 0 0) 0 e)
+
+pub entries-none : (w : List ℕ) → (getD w 0 0 ≡ 0 → ⊥) → 0 ≡ entries-of (kept w)
+unfolding entries-of kept pick
+entries-none w e = rw (ne-eqb (getD w 0 0) 0 e)
+
+pub words-refused : (r : Reading) (k q : ℕ) → r ≡ Refused k q → Fits w8 k → kept ((k + 1) ∷ 0 ∷ q ∷ 0 ∷ 0 ∷ 0 ∷ []) ≡ r
+unfolding kept pick
+words-refused r k q e f = rw e go
+  where
+    some : k + 1 ≡ 0 → ⊥
+    some = λ z. omega (arith, z)
+
+    back : (k + 1 - 1) % 256 ≡ k
+    back = omega (arith, f .fits)
+
+    go : pick (eqb (k + 1) 0) (Done (place (record { kind = 0; start = q; end = 0 }) 0 0)) (Refused ((k + 1 - 1) % 256) q) ≡ Refused k q
+    go = rw (ne-eqb (k + 1) 0 some, back)
+
+pub words-done : (r : Reading) (p : Place) → r ≡ Done p → Fits w8 (p .token .kind)
+    → kept (0 ∷ p .token .kind ∷ p .token .start ∷ p .token .end ∷ p .nodes ∷ p .entries ∷ []) ≡ r
+unfolding kept pick
+words-done r p e f = rw e go
+  where
+    back : p .token .kind % 256 ≡ p .token .kind
+    back = omega (arith, f .fits)
+
+    go : Done (place (record { kind = p .token .kind % 256; start = p .token .start; end = p .token .end }) (p .nodes) (p .entries)) ≡ Done p
+    go = rw back
+
+-- what is learnt of the answer a that the words say is learnt of what they say, q; m is what comes of it, and v what is kept then
+module _ (a q : Reading) (e : a ≡ q) where
+  pub kept-passes : (test : ℕ → Bool) (b : Bool) → b ≡ next-passes test a → b ≡ next-passes test q
+  kept-passes test b h = rw e at h
+
+  pub kept-still : (f : Writer) (m v : Reading) → m ≡ still f a → v ≡ m → v ≡ still f q
+  kept-still f m v g h = h ∙ (rw e at g)
+
+  pub kept-onward : (f : Writer) (m v : Reading) (t u : List ℕ) → out m u ≡ onward a t f → v ≡ m → out v u ≡ onward q t f
+  kept-onward f m v t u g h = rw h (rw e at g)
+
+  -- an operator: b says whether it stands between two operands
+  module _ (s : List ℕ) (n : ℕ) (b : Bool) (m v : Reading) (t u : List ℕ) where
+    pub operator-between : b ≡ true → out m u ≡ onward a t (joins s n) → v ≡ m → out v u ≡ onward q t (operator-in s n b)
+    unfolding operator-in pick
+    operator-between y g h = rw y (kept-onward (joins s n) m v t u g h)
+
+    pub operator-before : b ≡ false → out m u ≡ onward a t (prefixed s) → v ≡ m → out v u ≡ onward q t (operator-in s n b)
+    unfolding operator-in pick
+    operator-before y g h = rw y (kept-onward (prefixed s) m v t u g h)
+
+pub operator-none : (s : List ℕ) (n : ℕ) (b c : Bool) (r : Reading) (t : List ℕ) → b ≡ false → c ≡ next-passes (is 5) r → c ≡ false
+    → out r t ≡ onward r t (operator-in s n b)
+unfolding operator-in prefixed pick
+operator-none s n b c r t y e z =
+    rw y (next-no (is 5) (term-operator s 1 (as-entry prefix-role)) stay r c e t (out r t) z (stays r t))
+
+-- a comma that is next is passed over
+passed-over : (s : List ℕ) (k : ℕ) (b : Bool) (r a : Reading) → b ≡ next-passes (is k) r → b ≡ true → a ≡ still (expect s k) r → a ≡ still (step s) r
+unfolding still onward expect if-next next-passes pick
+passed-over s k b (Refused n q) a e y h = h
+passed-over s k b (Done p) a e y h = go (is k (p .token .kind)) (sym e ∙ y) h
+  where
+    go : (c : Bool) → c ≡ true → a ≡ pick c (step s p []) (unexpected p []) .answer → a ≡ step s p [] .answer
+    go c z h = rw z at h
+
+pub arguments-again : (w : Writer) (r₀ : Reading) (t₀ : List ℕ) (s : List ℕ) (l : ℕ) (begins : ℕ → Bool) (item : Writer) (r : Reading) (t : List ℕ)
+    → Comes w (separated s l 44 begins item) r₀ t₀ r t → 0 < l → (q : Reading) (u : List ℕ) → out q u ≡ onward r t item
+    → (b : Bool) → b ≡ next-passes (is 44) q → (a : Reading) → b ≡ true → a ≡ still (expect s 44) q → length u ≡ length t
+    → Comes w (separated s (l - 1) 44 begins item) r₀ t₀ a u
+arguments-again w r₀ t₀ s l begins item r t v z q u h b e a y g k =
+    separated-again w r₀ t₀ s l begins item r t 44 v z q u h b e a y (passed-over s 44 b q a e y g) k
+
 -- ---- terms
 
 -- a rule that remembers how many entries there are
@@ -177,9 +259,9 @@ remembers-entries (Done p) t o n f e h = rw e at h
 
 module _ (s : List ℕ) (d n : ℕ) (r q : Reading) (t u : List ℕ) where
   -- q and u come of the prefix operator, a and v of the first primary
-  pub term-read : (o : Out) (a : Reading) (v : List ℕ) → n ≡ entries-of r → out q u ≡ onward r t (prefixed s) → out a v ≡ onward q u (primary s d)
-      → o ≡ onward a v (operands s n (primary s d)) → o ≡ onward r t (term s d)
-  unfolding term term-by
+  pub term-read : (o : Out) (a : Reading) (v : List ℕ) → n ≡ entries-of r → out q u ≡ onward r t (operator-in s n false)
+      → out a v ≡ onward q u (primary s d) → o ≡ onward a v (operands s n (primary s d)) → o ≡ onward r t (term s d)
+  unfolding term term-by operator-in pick
   term-read o a v e g h k =
       let rest : ℕ → Writer = λ m. operands s m (primary s d) in
       remembers-entries r t o n (λ m. prefixed s >> (primary s d >> rest m)) e
@@ -188,9 +270,9 @@ module _ (s : List ℕ) (d n : ℕ) (r q : Reading) (t u : List ℕ) where
   -- one turn: q and u come of joining, a and v of the primary behind the operator
   pub term-again : (w : Writer) (r₀ : Reading) (t₀ : List ℕ) (l : ℕ) (b : Bool) (a : Reading) (v : List ℕ)
       → Comes w (many s l (is 5) (operand s n (primary s d))) r₀ t₀ r t → b ≡ next-passes (is 5) r → 0 < l → b ≡ true
-      → out q u ≡ onward r t (joins s n) → out a v ≡ onward q u (primary s d) → length u ≡ length t → length v ≡ length u
+      → out q u ≡ onward r t (operator-in s n true) → out a v ≡ onward q u (primary s d) → length u ≡ length t → length v ≡ length u
       → Comes w (many s (l - 1) (is 5) (operand s n (primary s d))) r₀ t₀ a v
-  unfolding operand
+  unfolding operand operator-in pick
   term-again w r₀ t₀ l b a v c e z y g h i j =
       many-again w r₀ t₀ s l (is 5) (operand s n (primary s d)) r t c b e a v z y
       (then r q t u (out a v) (joins s n) (primary s d) g h) (j ∙ i)
@@ -198,14 +280,14 @@ module _ (s : List ℕ) (d n : ℕ) (r q : Reading) (t u : List ℕ) where
 -- what begins at an open bracket, where d more may be open: arguments, or a bracketed term
 arguments-in : List ℕ → ℕ → Writer
 arguments-in s zero = refuse 4
-arguments-in s (suc d) = in-brackets s (separated s 8 44 begins-term (term s d)) >> mark close-role
+arguments-in s (suc d) = applied s d
 
 bracketed-in : List ℕ → ℕ → Writer
 bracketed-in s zero = refuse 4
 bracketed-in s (suc d) = in-brackets s (term s d)
 
 primary-any : (s : List ℕ) (d : ℕ) → primary s d ≡ primary-by s (arguments-in s d) (bracketed-in s d)
-unfolding primary term arguments-in bracketed-in
+unfolding primary term arguments-in applied bracketed-in
 primary-any s zero = refl
 primary-any s (suc d) = refl
 
@@ -215,7 +297,7 @@ module _ (s : List ℕ) (d : ℕ) (r : Reading) (t : List ℕ) (b : Bool) (e : b
   unfolding primary-by
   primary-bracket o y h = rw (primary-any s d) (next-yes (is 40) (bracketed-in s d) (term-name s >> if-next (is 40) (arguments-in s d) stay) r b e t o y h)
 
-  pub primary-deep : (q : Reading) → b ≡ true → d ≡ 0 → q ≡ still (refuse 4) r → out q t ≡ onward r t (primary s d)
+  primary-deep : (q : Reading) → b ≡ true → d ≡ 0 → q ≡ still (refuse 4) r → out q t ≡ onward r t (primary s d)
   unfolding bracketed-in
   primary-deep q y z h = primary-bracket (out q t) y (rw z (quietly r q t (refuse 4) (refuse-quiet 4) h))
 
@@ -239,25 +321,42 @@ module _ (s : List ℕ) (d : ℕ) (r : Reading) (t : List ℕ) (b : Bool) (e : b
     pub primary-alone : c ≡ false → out f v ≡ onward r t (primary s d)
     primary-alone y = primary-named (out f v) (next-no (is 40) (arguments-in s d) stay f c k v (out f v) y (stays f v))
 
-    pub primary-deep-too : (q : Reading) → c ≡ true → d ≡ 0 → q ≡ still (refuse 4) f → out q v ≡ onward r t (primary s d)
+    primary-deep-too : (q : Reading) → c ≡ true → d ≡ 0 → q ≡ still (refuse 4) f → out q v ≡ onward r t (primary s d)
     unfolding arguments-in
     primary-deep-too q y z g =
         primary-named (out q v)
         (next-yes (is 40) (arguments-in s d) stay f c k v (out q v) y (rw z (quietly f q v (refuse 4) (refuse-quiet 4) g)))
 
-    pub primary-applied : (a q i : Reading) (u : List ℕ) (o : Out) → c ≡ true → (d ≡ 0 → ⊥) → a ≡ still (expect s 40) f
-        → out q u ≡ onward a v (separated s 8 44 begins-term (term s (d - 1))) → i ≡ still (expect s 41) q → o ≡ onward i u (mark 22)
-        → o ≡ onward r t (primary s d)
+    pub primary-applied : (o : Out) → c ≡ true → (d ≡ 0 → ⊥) → o ≡ onward f v (applied s (d - 1)) → o ≡ onward r t (primary s d)
     unfolding arguments-in
-    primary-applied a q i u o y z g w j m = primary-named o (next-yes (is 40) (arguments-in s d) stay f c k v o y (go d z w))
+    primary-applied o y z w = primary-named o (next-yes (is 40) (arguments-in s d) stay f c k v o y (go d z w))
       where
-        go : (d : ℕ) → (d ≡ 0 → ⊥) → out q u ≡ onward a v (separated s 8 44 begins-term (term s (d - 1))) → o ≡ onward f v (arguments-in s d)
+        go : (d : ℕ) → (d ≡ 0 → ⊥) → o ≡ onward f v (applied s (d - 1)) → o ≡ onward f v (arguments-in s d)
         go zero z w = absurd (z refl)
-        go (suc d) z w =
-            let items = separated s 8 44 begins-term (term s d) in
-            then f i v u o (in-brackets s items) (mark close-role) (bracketed s f a q i v u items g (rw sub-one at w) j) m
+        go (suc d) z w = rw sub-one at w
+
+-- the arguments of a name: q and u come of those within the brackets
+pub applied-read : (s : List ℕ) (d : ℕ) (r a q i : Reading) (t u : List ℕ) (o : Out) → a ≡ still (expect s 40) r
+    → out q u ≡ onward a t (separated s 8 44 begins-term (term s d)) → i ≡ still (expect s 41) q → o ≡ onward i u (mark 22)
+    → o ≡ onward r t (applied s d)
+unfolding applied
+applied-read s d r a q i t u o g h j m =
+    let items = separated s 8 44 begins-term (term s d) in
+    then r i t u o (in-brackets s items) (mark close-role) (bracketed s r a q i t u items g h j) m
+
+-- where no bracket may be open
+pub flat-deep : (s : List ℕ) (r : Reading) (t : List ℕ) (b : Bool) (q : Reading) → b ≡ next-passes (is 40) r → b ≡ true → q ≡ still (refuse 4) r
+    → out q t ≡ onward r t (primary s 0)
+flat-deep s r t b q e y h = primary-deep s 0 r t b e q y refl h
+
+pub flat-deep-too : (s : List ℕ) (r f q : Reading) (t v : List ℕ) (b c : Bool) → b ≡ next-passes (is 40) r → b ≡ false → out f v ≡ onward r t (term-name s)
+    → c ≡ next-passes (is 40) f → c ≡ true → q ≡ still (refuse 4) f → out q v ≡ onward r t (primary s 0)
+flat-deep-too s r f q t v b c e n h k y g = primary-deep-too s 0 r t b e n f v h c k q y refl g
+
+pub primary-flat : (s : List ℕ) (d : ℕ) (r : Reading) (t : List ℕ) (o : Out) → d ≡ 0 → o ≡ onward r t (primary s 0) → o ≡ onward r t (primary s d)
+primary-flat s d r t o z h = rw z h
 
 -- what a name or an operator in a term hands to `search`, and what the rest does
 pub ruleset nodes = (counted-then, counted-same, name-counted, name-bad, short-yes, short-no, word-times, word-plus, laws, needs)
 
-pub ruleset cases = (nodes-none, nodes-quiet, refused-still, role-head, role-alone, role-none, role-next, entries-none, entries-some, counted-full, counted-more, push-begins, push-again, push-ends, inserted-in, inserted-out, refused-onward, term-read, primary-deep, primary-inner, primary-alone, primary-deep-too, primary-applied, needs)
+pub ruleset cases = (nodes-none, nodes-quiet, refused-still, role-head, role-alone, role-none, role-next, counted-full, counted-more, push-begins, push-again, push-ends, inserted-in, inserted-out, refused-onward, needs)

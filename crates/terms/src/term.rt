@@ -1,12 +1,19 @@
 // Terms: primaries and the operators that join them. A primary is a name, a name with one to eight arguments, or a term in brackets. Terms and
 // argument lists call each other, with the depth falling.
+use super::kept::begins;
+use super::kept::entries_of;
+use super::kept::follows;
+use super::kept::keep;
+use super::kept::kept;
+use super::kept::not_here;
+use super::kept::over;
+use super::kept::pass;
+use super::kept::words;
 use entries::Place;
 use entries::Reading;
 use entries::forms;
 use entries::numbers;
 use entries::roles;
-use entries::steps::begins_term;
-use entries::steps::expect;
 use entries::steps::mark;
 use entries::steps::next_in;
 use entries::steps::next_is;
@@ -22,8 +29,11 @@ ghost use Rattle.meaning.specs.Names.{byte};
 ghost use Rattle.meaning.specs.Grammar.{begins-term};
 ghost use Prim.Native.Nat.{_-_, _≤_};
 ghost use lib.ListN.{length};
-ghost use Rattle.entries.specs.Model.{out, onward, stay, pushed, inserted, node-role, counted, term-name, prefixed, joins, operands, separated, term, primary};
-ghost use Rattle.entries.specs.Steps.{still, next-role, entries-of};
+ghost use Rattle.entries.specs.Model.{out, onward, stay, mark, pushed, inserted, node-role, counted, term-name, prefixed, joins, operands, separated, term, primary};
+ghost use Rattle.entries.specs.Steps.{still, next-role};
+ghost use Rattle.tape.specs.Tape.{close-role};
+ghost use Rattle.terms.specs.Kept.{kept};
+ghost use Rattle.terms.specs.Parts.{operator-in, applied};
 
 // What a name in a term is, by the token after it.
 fn node_role(text: &[u8], t: Token) -> u8
@@ -148,89 +158,150 @@ fn join(text: &[u8], tape: &mut [u32], at: Reading, start: usize) -> Reading
     unexpected(at)
 }
 
-// How many entries there are.
-fn entries_of(at: Reading) -> usize
-    ensures { λ r. ⌜ r ≡ entries-of at ⌝ }
+// A name in a term, from the words on.
+fn pass_name(text: &&[u8], tape: &mut [u32], state: &mut [usize; 6])
+    ensures { λ r. ⌜ out (kept (now (state .exit))) (now (tape .exit)) ≡ onward (kept (now (state .entry))) (now (tape .entry)) (term-name (now (now (text .entry)))) ⌝ }
 {
-    match at {
-        Reading::Refused { number, place } => 0,
-        Reading::Done(p) => p.entries,
+    let at = kept(state);
+    let next = term_name(*text, tape, at);
+    keep(state, next);
+}
+
+// The end of arguments.
+fn close(tape: &mut [u32], state: &mut [usize; 6])
+    ensures { λ r. ⌜ out (kept (now (state .exit))) (now (tape .exit)) ≡ onward (kept (now (state .entry))) (now (tape .entry)) (mark close-role) ⌝ }
+{
+    let at = kept(state);
+    let next = mark(tape, at, roles::CLOSE);
+    keep(state, next);
+}
+
+// The operator that is next, as an infix one that joins the entries from `start` on, or as a prefix one, if it is there.
+fn pass_operator(
+    text: &&[u8],
+    tape: &mut [u32],
+    state: &mut [usize; 6],
+    start: usize,
+    between: bool,
+)
+    ensures { λ r. ⌜ out (kept (now (state .exit))) (now (tape .exit)) ≡ onward (kept (now (state .entry))) (now (tape .entry)) (operator-in (now (now (text .entry))) start between) ⌝ }
+{
+    if between {
+        let left = kept(state);
+        let joined = join(*text, tape, left, start);
+        keep(state, joined);
+        return;
+    }
+    if follows(state, tokens::OPERATOR) {
+        let at = kept(state);
+        let next = read_prefix(*text, tape, at);
+        keep(state, next);
+        return;
+    }
+}
+
+// A name alone: no bracket may be open.
+fn read_flat(text: &&[u8], tape: &mut [u32], state: &mut [usize; 6])
+    ensures { λ r. ⌜ out (kept (now (state .exit))) (now (tape .exit)) ≡ onward (kept (now (state .entry))) (now (tape .entry)) (primary (now (now (text .entry))) 0) ⌝ }
+{
+    if follows(state, b'(') {
+        over(state);
+        return;
+    }
+    pass_name(text, tape, state);
+    if follows(state, b'(') {
+        over(state);
+        return;
     }
 }
 
 // A term in which `depth` more brackets may be open: a primary, perhaps after a prefix operator, and what infix operators join to it.
-pub fn read_term(text: &[u8], tape: &mut [u32], at: Reading, depth: usize) -> Reading
-    ensures { λ r. ⌜ out r (now (tape .exit)) ≡ onward at (now (tape .entry)) (term (now (text .entry)) depth) ⌝ }
+fn read_deep(text: &&[u8], tape: &mut [u32], state: &mut [usize; 6], depth: usize)
+    ensures { λ r. ⌜ out (kept (now (state .exit))) (now (tape .exit)) ≡ onward (kept (now (state .entry))) (now (tape .entry)) (term (now (now (text .entry))) depth) ⌝ }
 {
-    let a = read_prefix(text, tape, at);
-    let b = read_primary(text, tape, a, depth);
-    let start = entries_of(at);
-    read_operands(text, tape, b, start, depth)
+    let start = entries_of(state);
+    pass_operator(text, tape, state, start, false);
+    read_primary(text, tape, state, depth);
+    read_operands(text, tape, state, start, depth);
 }
 
 // Operators, each with the primary that it joins to the entries from `start` on.
-fn read_operands(text: &[u8], tape: &mut [u32], at: Reading, start: usize, depth: usize) -> Reading
-    ensures { λ r. ⌜ out r (now (tape .exit)) ≡ onward at (now (tape .entry)) (operands (now (text .entry)) start (primary (now (text .entry)) depth)) ⌝ }
+fn read_operands(text: &&[u8], tape: &mut [u32], state: &mut [usize; 6], start: usize, depth: usize)
+    ensures { λ r. ⌜ out (kept (now (state .exit))) (now (tape .exit)) ≡ onward (kept (now (state .entry))) (now (tape .entry)) (operands (now (now (text .entry))) start (primary (now (now (text .entry))) depth)) ⌝ }
 {
-    let mut here = at;
     let mut left: usize = numbers::NODE_LIMIT;
     while 0 < left {
-        if next_is(here, tokens::OPERATOR) {
-            let joined = join(text, tape, here, start);
-            here = read_primary(text, tape, joined, depth);
+        if follows(state, tokens::OPERATOR) {
+            pass_operator(text, tape, state, start, true);
+            read_primary(text, tape, state, depth);
             left -= 1;
         } else {
-            return here;
+            return;
         }
     }
-    if next_is(here, tokens::OPERATOR) {
-        return refuse(here, numbers::OVER_SIZE);
+    if follows(state, tokens::OPERATOR) {
+        over(state);
+        return;
     }
-    here
 }
 
 // A name, a name with arguments, or a term in brackets.
-fn read_primary(text: &[u8], tape: &mut [u32], at: Reading, depth: usize) -> Reading
-    ensures { λ r. ⌜ out r (now (tape .exit)) ≡ onward at (now (tape .entry)) (primary (now (text .entry)) depth) ⌝ }
+fn read_primary(text: &&[u8], tape: &mut [u32], state: &mut [usize; 6], depth: usize)
+    ensures { λ r. ⌜ out (kept (now (state .exit))) (now (tape .exit)) ≡ onward (kept (now (state .entry))) (now (tape .entry)) (primary (now (now (text .entry))) depth) ⌝ }
 {
-    if next_is(at, b'(') {
-        if depth == 0 {
-            return refuse(at, numbers::OVER_SIZE);
-        }
-        let a = expect(text, at, b'(');
-        let b = read_term(text, tape, a, depth - 1);
-        return expect(text, b, b')');
+    if depth == 0 {
+        read_flat(text, tape, state);
+        return;
     }
-    let f = term_name(text, tape, at);
-    if next_is(f, b'(') {
-        if depth == 0 {
-            return refuse(f, numbers::OVER_SIZE);
-        }
-        let c = expect(text, f, b'(');
-        let d = read_arguments(text, tape, c, depth - 1, numbers::ARGUMENT_LIMIT);
-        let e = expect(text, d, b')');
-        return mark(tape, e, roles::CLOSE);
+    if follows(state, b'(') {
+        pass(text, state, b'(');
+        read_deep(text, tape, state, depth - 1);
+        pass(text, state, b')');
+        return;
     }
-    f
+    pass_name(text, tape, state);
+    if follows(state, b'(') {
+        read_applied(text, tape, state, depth - 1);
+        return;
+    }
+}
+
+// The arguments of a name, in their brackets.
+fn read_applied(text: &&[u8], tape: &mut [u32], state: &mut [usize; 6], depth: usize)
+    ensures { λ r. ⌜ out (kept (now (state .exit))) (now (tape .exit)) ≡ onward (kept (now (state .entry))) (now (tape .entry)) (applied (now (now (text .entry))) depth) ⌝ }
+{
+    pass(text, state, b'(');
+    read_arguments(text, tape, state, depth, numbers::ARGUMENT_LIMIT);
+    pass(text, state, b')');
+    close(tape, state);
 }
 
 // Arguments, of which `left` more may come.
-fn read_arguments(text: &[u8], tape: &mut [u32], at: Reading, depth: usize, left: usize) -> Reading
-    ensures { λ r. ⌜ out r (now (tape .exit)) ≡ onward at (now (tape .entry)) (separated (now (text .entry)) left (byte ",") begins-term (term (now (text .entry)) depth)) ⌝ }
+fn read_arguments(text: &&[u8], tape: &mut [u32], state: &mut [usize; 6], depth: usize, left: usize)
+    ensures { λ r. ⌜ out (kept (now (state .exit))) (now (tape .exit)) ≡ onward (kept (now (state .entry))) (now (tape .entry)) (separated (now (now (text .entry))) left (byte ",") begins-term (term (now (now (text .entry))) depth)) ⌝ }
 {
-    let mut here = at;
     let mut rest = left;
     while 0 < rest {
-        let read = read_term(text, tape, here, depth);
-        if next_is(read, b',') {
-            here = step(text, read);
+        read_deep(text, tape, state, depth);
+        if follows(state, b',') {
+            pass(text, state, b',');
             rest -= 1;
         } else {
-            return read;
+            return;
         }
     }
-    if begins_term(here) {
-        return refuse(here, numbers::OVER_SIZE);
+    if begins(state) {
+        over(state);
+        return;
     }
-    unexpected(here)
+    not_here(state);
+}
+
+// A term in which `depth` more brackets may be open.
+pub fn read_term(text: &[u8], tape: &mut [u32], at: Reading, depth: usize) -> Reading
+    ensures { λ r. ⌜ out r (now (tape .exit)) ≡ onward at (now (tape .entry)) (term (now (text .entry)) depth) ⌝ }
+{
+    let mut state = words(at);
+    read_deep(&text, tape, &mut state, depth);
+    kept(&state)
 }
