@@ -1,6 +1,4 @@
 -- One law for each way through the typer of terms, in the code's terms.
-use mir.Syntax.{w64}
-use mir.Val.{Fits}
 use mathlib.Core.Path.{_≡_, refl, sym, ap, _∙_}
 use mathlib.Core.Bool.{Bool, true, false, false≢true}
 use mathlib.Core.List.{List, map}
@@ -97,11 +95,11 @@ module _ (role : ℕ) where
     unfolding closers-of pick
     closers-none = rw (ne-eqb role 21 h)
 
-  pub arguments-few : (a : ℕ) → a ≡ arguments-of role → 0 + a ≤ 9
+  pub arguments-few : (a : ℕ) → a ≡ arguments-of role → a ≤ 9
   unfolding arguments-of pick
   arguments-few a e = rw e (go (eqb role 21) (eqb role 25) (eqb role 26))
     where
-      go : (x y z : Bool) → 0 + pick x 9 (pick y 1 (pick z 2 0)) ≤ 9
+      go : (x y z : Bool) → pick x 9 (pick y 1 (pick z 2 0)) ≤ 9
       go true y z = omega arith
       go false true z = omega arith
       go false false true = omega arith
@@ -125,14 +123,14 @@ module _ (tape : List ℕ) (c left i : ℕ) where
   ends-closed role e h = rw (ne-eqb c 0 h, e)
 
 -- what closes them is on the tape
-pub end-fits : (k : Known) (w : List ℕ) (c left i : ℕ) (b : Bool) → b ≡ ends-at (tape-in k w) c left i → b ≡ true → c ≤ 1 → length w < 2 ^ 64 → i < 2 ^ 64 → Fits w64 (i + c)
+pub end-fits : (k : Known) (w : List ℕ) (c left i : ℕ) (b : Bool) → b ≡ ends-at (tape-in k w) c left i → b ≡ true → c ≤ 1 → length w < 2 ^ 64 → (c ≡ 0 → ⊥) → i + c < 2 ^ 64
 unfolding ends-at pick
-end-fits k w zero left i b e t h g f = record { fits = omega arith }
+end-fits k w zero left i b e t h g f = absurd (f refl)
 end-fits k w (suc (suc c)) left i b e t h g f = absurd (omega arith)
 end-fits k w (suc zero) left i b e t h g f = go (ltb i (length (tape-in k w))) refl
   where
-    go : (x : Bool) → ltb i (length (tape-in k w)) ≡ x → Fits w64 (i + 1)
-    go true d = let l = ltb-true i (length (tape-in k w)) d in record { fits = omega (arith, length-take (k .tape - 0) (drop 0 w), length-drop 0 w) }
+    go : (x : Bool) → ltb i (length (tape-in k w)) ≡ x → i + 1 < 2 ^ 64
+    go true d = let l = ltb-true i (length (tape-in k w)) d in omega (arith, length-take (k .tape - 0) (drop 0 w), length-drop 0 w)
     go false d =
         let z = List·getD-eq-default (tape-in k w) 0 (ltb-false i (length (tape-in k w)) d) in
         absurd (false≢true (rw z at (sym e ∙ t)))
@@ -170,24 +168,22 @@ module _ (text : List ℕ) (k : Known) (d head place c i q n : ℕ) (sorts w : L
 pub record Arguing (text : List ℕ) (k : Known) (d head place c left₀ i₀ q₀ n₀ : ℕ) (sorts₀ w₀ : List ℕ) (left i q n : ℕ) (sorts w : List ℕ) : Type 0 where
   pub size : length w ≡ length w₀
   pub few : n + left ≤ 9
-  pub fits : i < 2 ^ 64
   pub rest : args-at text k d head place c left₀ i₀ q₀ n₀ sorts₀ w₀ ≡ args-at text k d head place c left i q n sorts w
 
 module _ (text : List ℕ) (k : Known) (d head place c left₀ i₀ q₀ n₀ : ℕ) (sorts₀ w₀ : List ℕ) where
-  pub args-start : n₀ + left₀ ≤ 9 → i₀ < 2 ^ 64 → Arguing text k d head place c left₀ i₀ q₀ n₀ sorts₀ w₀ left₀ i₀ q₀ n₀ sorts₀ w₀
-  args-start h f = record { size = refl; few = h; fits = f; rest = refl }
+  pub args-start : n₀ + left₀ ≤ 9 → Arguing text k d head place c left₀ i₀ q₀ n₀ sorts₀ w₀ left₀ i₀ q₀ n₀ sorts₀ w₀
+  args-start h = record { size = refl; few = h; rest = refl }
 
   module _ (left i q n : ℕ) (sorts w : List ℕ) (inv : Arguing text k d head place c left₀ i₀ q₀ n₀ sorts₀ w₀ left i q n sorts w) where
     pub args-end : (o : Out) → o ≡ args-at text k d head place c left i q n sorts w → o ≡ args-at text k d head place c left₀ i₀ q₀ n₀ sorts₀ w₀
     args-end o e = e ∙ sym (inv .rest)
 
     pub args-again : (b : Bool) (r : Answer) (u : List ℕ) (s next free : ℕ) (more : List ℕ) → b ≡ ends-at (tape-in k w) c left i → b ≡ false → (left ≡ 0 → ⊥)
-        → out r u ≡ term-at text k d i q w → r ≡ Sorted s next free → length u ≡ length w → more ≡ set sorts n s → next < 2 ^ 64
+        → out r u ≡ term-at text k d i q w → r ≡ Sorted s next free → length u ≡ length w → more ≡ set sorts n s
         → Arguing text k d head place c left₀ i₀ q₀ n₀ sorts₀ w₀ (left - 1) next free (n + 1) more u
-    args-again b r u s next free more e z y f g l m p = record {
+    args-again b r u s next free more e z y f g l m = record {
       size = l ∙ inv .size;
       few = omega (arith, inv .few);
-      fits = p;
       rest = inv .rest ∙ args-more text k d head place c i q n sorts w left b e z r u f y s next free more g m;
     }
 
@@ -232,4 +228,4 @@ module _ (text : List ℕ) (k : Known) (d i q : ℕ) (w : List ℕ) where
           term-other p = rw (term-any z, lt-ltb i (k .tape) h, lt-ltb q (length w) g, ← e, ne-eqb role 20 x, ← y, eq-eqb a 0 p)
 
 -- what the answers of this crate hand to `search`
-pub ruleset cases = (node-visible, node-hidden, settle-done, row-of-variable, row-of-function, alone-variable, alone-constant, applied-found, applied-ill, arguments-head, arguments-prefix, arguments-infix, arguments-none, arguments-few, closers-head, closers-none, closers-few, ends-counted, ends-closed, args-done, args-many, args-ill, args-start, args-again, args-end, term-deep, term-past, term-full, term-alone, term-args, term-other, needs)
+pub ruleset cases = (node-visible, node-hidden, settle-done, row-of-variable, row-of-function, alone-variable, alone-constant, applied-found, applied-ill, arguments-head, arguments-prefix, arguments-infix, arguments-none, closers-head, closers-none, ends-counted, ends-closed, needs)

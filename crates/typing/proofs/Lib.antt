@@ -1,3 +1,4 @@
 pub mod Seeks
 pub mod Cases
+pub mod Deep
 pub mod Passes

@@ -1,6 +1,7 @@
 -- Typing in memory, as the code goes: the entries of a term from i on, and its nodes from place q on. A node is written behind its
 -- arguments' nodes, at the place kept for it in front of them.
-use Prim.Native.Nat.{ℕ, zero, suc, _+_, _-_, _*_}
+use Prim.Native.Nat.{ℕ, zero, suc, _+_, _-_, _*_, _<_, _≤_}
+use mathlib.Core.Path.{_≡_}
 use mathlib.Core.Bool.{Bool}
 use mathlib.Core.List.{List, map}
 use lib.Dec.{eqb, ltb}
@@ -107,3 +108,33 @@ term-at text k (suc depth) i q w =
 
 abbrev pub args-at : List ℕ → Known → ℕ → ℕ → ℕ → ℕ → ℕ → ℕ → ℕ → ℕ → List ℕ → List ℕ → Out
 args-at text k depth head place closers left i q n sorts w = args-by k (term-at text k depth) (applied-at text k head place) closers left i q n sorts w
+
+-- ---- what a level of a term is given and gives back: words
+
+-- what is known, of five words, of which four are no longer than a word of memory
+unfoldable pub known-of : List ℕ → Known
+known-of k = record { tape = getD k 0 0; base = getD k 1 0; count = getD k 2 0; visible = getD k 3 0; hidden = getD k 4 0 }
+
+pub record Words (k : List ℕ) : Type 0 where
+  pub base : getD k 1 0 < 4294967296
+  pub count : getD k 2 0 ≤ 65536
+  pub visible : getD k 3 0 < 4294967296
+  pub hidden : getD k 4 0 ≤ 65536
+
+-- an answer of a number, which is one more than the sort, and of the two places; 0 is none
+unfoldable pub answered : ℕ → ℕ → ℕ → Answer
+answered zero next free = Ill
+answered (suc s) next free = Sorted s next free
+
+pub record Told (a : Answer) (r : ℕ) (p : List ℕ) : Type 0 where
+  pub same : answered r (getD p 0 0) (getD p 1 0) ≡ a
+  pub fits : r ≤ 4294967296
+
+-- what comes out, so told
+pub record Reached (o : Out) (r : ℕ) (p w : List ℕ) : Type 0 where
+  pub told : Told (o .answer) r p
+  pub memory : w ≡ o .memory
+
+-- the name at i, alone or with arguments of the first n sorts
+unfoldable pub item-at : List ℕ → Known → Bool → ℕ → ℕ → ℕ → List ℕ → ℕ → ℕ → List ℕ → Out
+item-at text k alone i q n sorts next free w = pick alone (alone-at text k i q w) (applied-at text k i q n sorts next free w)

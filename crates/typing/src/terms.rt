@@ -8,10 +8,10 @@ use tables::entries::put_word;
 use tables::entries::role_at;
 use tables::rows::read_row;
 ghost use mathlib.Core.Path.{_≡_};
-ghost use Prim.Native.Nat.{_+_, _≤_, _<_};
-ghost use lib.ListN.{length};
+ghost use Prim.Native.Nat.{_+_, _^_, _≤_, _<_};
+ghost use lib.ListN.{length, getD};
 ghost use Rattle.names.specs.Joint.{joint};
-ghost use Rattle.typing.specs.Typing.{out, node-word, settled, variable-row, function-row, alone-at, applied-at, arguments-of, closers-of, ends-at, args-at, term-at};
+ghost use Rattle.typing.specs.Typing.{out, node-word, settled, variable-row, function-row, alone-at, applied-at, arguments-of, closers-of, ends-at, no-sorts, args-at, term-at, known-of, Words, Told, Reached, item-at};
 
 // The node of a row and a number of arguments.
 fn node_word(k: Known, row: u32, n: usize) -> u32
@@ -146,6 +146,211 @@ fn closers_of(role: u32) -> usize
     0
 }
 
+// The words of what is known: tape, base, count, visible and hidden.
+fn known_words(k: Known) -> [usize; 5]
+    ensures { λ r. ⌜ known-of r ≡ k ⌝ }
+{
+    let tape = k.tape;
+    let base = k.base;
+    let count = k.count;
+    let visible = k.visible;
+    let hidden = k.hidden;
+    [
+        tape,
+        base as usize,
+        count as usize,
+        visible as usize,
+        hidden as usize,
+    ]
+}
+
+// What is known, of its words.
+fn known_of(k: &[usize; 5]) -> Known
+    requires { ⌜ Words (now k) ⌝ }
+    ensures { λ r. ⌜ r ≡ known-of (now (k .entry)) ⌝ }
+{
+    Known {
+        tape: k[0],
+        base: k[1] as u32,
+        count: k[2] as u32,
+        visible: k[3] as u32,
+        hidden: k[4] as u32,
+    }
+}
+
+// The answer as a number, one more than the sort, with its places; 0 where the term is ill typed.
+fn tell(a: Answer, places: &mut [usize; 2]) -> usize
+    ensures { λ r. ⌜ Told a r (now (places .exit)) ⌝ }
+{
+    let Answer::Sorted { sort, next, free } = a else {
+        return 0;
+    };
+    *places = [next, free];
+    sort as usize + 1
+}
+
+// The name at i with arguments of the first n sorts, or alone; its node is written at q.
+fn type_item(
+    library: &&[u8],
+    text: &&[u8],
+    work: &mut [u32],
+    k: &[usize; 5],
+    places: &mut [usize; 2],
+    i: usize,
+    q: usize,
+    alone: bool,
+    sorts: &[u32; 9],
+    n: usize,
+) -> usize
+    requires { ⌜ (getD (now k) 0 0 ≤ length (now work)) × Words (now k) × (n ≤ 9) × (i < getD (now k) 0 0) × (q < length (now work)) ⌝ }
+    ensures { λ r. ⌜ Reached (item-at (joint (now (now (library .entry))) (now (now (text .entry)))) (known-of (now (k .entry))) alone i q n (now (sorts .entry)) (getD (now (places .entry)) 0 0) (getD (now (places .entry)) 1 0) (now (work .entry))) r (now (places .exit)) (now (work .exit)) ⌝ }
+{
+    let known = known_of(k);
+    if alone {
+        let a = type_alone(*library, *text, work, known, i, q);
+        return tell(a, places);
+    }
+    let a = type_applied(
+        *library,
+        *text,
+        work,
+        known,
+        i,
+        q,
+        n,
+        *sorts,
+        places[0],
+        places[1],
+    );
+    tell(a, places)
+}
+
+// The name at the place, alone.
+fn type_leaf(
+    library: &&[u8],
+    text: &&[u8],
+    work: &mut [u32],
+    k: &[usize; 5],
+    places: &mut [usize; 2],
+) -> usize
+    requires { ⌜ (getD (now k) 0 0 ≤ length (now work)) × Words (now k) × (getD (now places) 0 0 < getD (now k) 0 0) × (getD (now places) 1 0 < length (now work)) ⌝ }
+    ensures { λ r. ⌜ Reached (alone-at (joint (now (now (library .entry))) (now (now (text .entry)))) (known-of (now (k .entry))) (getD (now (places .entry)) 0 0) (getD (now (places .entry)) 1 0) (now (work .entry))) r (now (places .exit)) (now (work .exit)) ⌝ }
+{
+    let none = [0; 9];
+    let i = places[0];
+    let q = places[1];
+    type_item(library, text, work, k, places, i, q, true, &none, 0)
+}
+
+// The term at the place, down to a depth; its nodes are written from the second place on.
+fn type_deep(
+    library: &&[u8],
+    text: &&[u8],
+    work: &mut [u32],
+    k: &[usize; 5],
+    places: &mut [usize; 2],
+    depth: usize,
+) -> usize
+    requires { ⌜ (getD (now k) 0 0 ≤ length (now work)) × Words (now k) ⌝ }
+    ensures { λ r. ⌜ Reached (term-at (joint (now (now (library .entry))) (now (now (text .entry)))) (known-of (now (k .entry))) depth (getD (now (places .entry)) 0 0) (getD (now (places .entry)) 1 0) (now (work .entry))) r (now (places .exit)) (now (work .exit)) ⌝ }
+{
+    if depth == 0 {
+        return 0;
+    }
+    let t = k[0];
+    let i = places[0];
+    let q = places[1];
+    if i < t {
+        if q < work.len() {
+            let role = role_at(&work[0..t], i);
+            if role == 20 {
+                return type_leaf(library, text, work, k, places);
+            }
+            let a = arguments_of(role);
+            if a == 0 {
+                return 0;
+            }
+            let c = closers_of(role);
+            return type_args(library, text, work, k, places, depth - 1, c, a);
+        }
+        return 0;
+    }
+    0
+}
+
+// Do the arguments end before i, of which `left` more may come?
+fn ends_at(tape: &[u32], closers: usize, left: usize, i: usize) -> bool
+    ensures { λ r. ⌜ r ≡ ends-at (now (tape .entry)) closers left i ⌝ }
+{
+    if closers == 0 {
+        return left == 0;
+    }
+    role_at(tape, i) == 22
+}
+
+// The entry behind those that close the arguments, from i on.
+fn behind(i: usize, closers: usize) -> usize
+    requires { ⌜ ((closers ≡ 0 → ⊥) → i + closers < 2 ^ 64) ⌝ }
+    ensures { λ r. ⌜ r ≡ i + closers ⌝ }
+{
+    if closers == 0 {
+        return i;
+    }
+    i + closers
+}
+
+// The arguments of the name at the place, at most `left` and closed by so many entries.
+fn type_args(
+    library: &&[u8],
+    text: &&[u8],
+    work: &mut [u32],
+    k: &[usize; 5],
+    places: &mut [usize; 2],
+    depth: usize,
+    closers: usize,
+    left: usize,
+) -> usize
+    requires { ⌜ (getD (now k) 0 0 ≤ length (now work)) × Words (now k) × (getD (now places) 0 0 < getD (now k) 0 0) × (getD (now places) 1 0 < length (now work)) × (closers ≤ 1) × (left ≤ 9) ⌝ }
+    ensures { λ r. ⌜ Reached (args-at (joint (now (now (library .entry))) (now (now (text .entry)))) (known-of (now (k .entry))) depth (getD (now (places .entry)) 0 0) (getD (now (places .entry)) 1 0) closers left ((getD (now (places .entry)) 0 0) + 1) ((getD (now (places .entry)) 1 0) + 1) 0 no-sorts (now (work .entry))) r (now (places .exit)) (now (work .exit)) ⌝ }
+{
+    let t = k[0];
+    let head = places[0];
+    let place = places[1];
+    *places = [head + 1, place + 1];
+    let mut rest = left;
+    let mut count = 0;
+    let mut known = [0; 9];
+    loop {
+        let at = places[0];
+        if ends_at(&work[0..t], closers, rest, at) {
+            let free = places[1];
+            *places = [behind(at, closers), free];
+            return type_item(
+                library,
+                text,
+                work,
+                k,
+                places,
+                head,
+                place,
+                false,
+                &known,
+                count,
+            );
+        }
+        if rest == 0 {
+            return 0;
+        }
+        let sort = type_deep(library, text, work, k, places, depth);
+        if sort == 0 {
+            return 0;
+        }
+        known[count] = (sort - 1) as u32;
+        count += 1;
+        rest -= 1;
+    }
+}
+
 // The term at i, down to a depth; its nodes are written from q on.
 pub fn type_term(
     library: &[u8],
@@ -159,98 +364,15 @@ pub fn type_term(
     requires { ⌜ (k .tape ≤ length (now work)) × (k .count ≤ 65536) × (k .hidden ≤ 65536) ⌝ }
     ensures { λ r. ⌜ out r (now (work .exit)) ≡ term-at (joint (now (library .entry)) (now (text .entry))) k depth i q (now (work .entry)) ⌝ }
 {
-    if depth == 0 {
+    let words = known_words(k);
+    let mut places = [i, q];
+    let sort = type_deep(&library, &text, work, &words, &mut places, depth);
+    if sort == 0 {
         return Answer::Ill;
     }
-    let t = k.tape;
-    if i < t {
-        if q < work.len() {
-            let role = role_at(&work[0..t], i);
-            if role == 20 {
-                return type_alone(library, text, work, k, i, q);
-            }
-            let a = arguments_of(role);
-            if a == 0 {
-                return Answer::Ill;
-            }
-            let c = closers_of(role);
-            return type_args(
-                library,
-                text,
-                work,
-                k,
-                depth - 1,
-                i,
-                q,
-                c,
-                a,
-                i + 1,
-                q + 1,
-                0,
-                [0; 9],
-            );
-        }
-        return Answer::Ill;
-    }
-    Answer::Ill
-}
-
-// Do the arguments end before i, of which `left` more may come?
-fn ends_at(tape: &[u32], closers: usize, left: usize, i: usize) -> bool
-    ensures { λ r. ⌜ r ≡ ends-at (now (tape .entry)) closers left i ⌝ }
-{
-    if closers == 0 {
-        return left == 0;
-    }
-    role_at(tape, i) == 22
-}
-
-// The arguments of the name at `head`, closed by so many entries: at most `left` more from i on, and n sorts of those before.
-fn type_args(
-    library: &[u8],
-    text: &[u8],
-    work: &mut [u32],
-    k: Known,
-    depth: usize,
-    head: usize,
-    place: usize,
-    closers: usize,
-    left: usize,
-    i: usize,
-    q: usize,
-    n: usize,
-    sorts: [u32; 9],
-) -> Answer
-    requires { ⌜ (k .tape ≤ length (now work)) × (k .count ≤ 65536) × (k .hidden ≤ 65536) × (closers ≤ 1) × (n + left ≤ 9) ⌝ }
-    ensures { λ r. ⌜ out r (now (work .exit)) ≡ args-at (joint (now (library .entry)) (now (text .entry))) k depth head place closers left i q n sorts (now (work .entry)) ⌝ }
-{
-    let t = k.tape;
-    let mut rest = left;
-    let mut at = i;
-    let mut free = q;
-    let mut count = n;
-    let mut known = sorts;
-    loop {
-        if ends_at(&work[0..t], closers, rest, at) {
-            let end = at + closers;
-            return type_applied(library, text, work, k, head, place, count, known, end, free);
-        }
-        if rest == 0 {
-            return Answer::Ill;
-        }
-        let a = type_term(library, text, work, k, at, free, depth);
-        let Answer::Sorted {
-            sort,
-            next,
-            free: behind,
-        } = a
-        else {
-            return Answer::Ill;
-        };
-        known[count] = sort;
-        count += 1;
-        at = next;
-        free = behind;
-        rest -= 1;
+    Answer::Sorted {
+        sort: (sort - 1) as u32,
+        next: places[0],
+        free: places[1],
     }
 }
