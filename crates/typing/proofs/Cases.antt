@@ -11,9 +11,8 @@ use lib.Dec.{eqb, ltb}
 use lib.ListN.{length, getD, set, take, drop, length-take, length-drop, List·getD-eq-default}
 use Rattle.meaning.specs.Lists.{pick, before}
 use Rattle.names.specs.Word.{name-of}
-use Rattle.tables.specs.declared.Row.{Row}
 use Rattle.tables.specs.Entries.{role-at, word-at}
-use Rattle.tables.specs.Rows.{sort-of, row-at}
+use Rattle.tables.specs.Rows.{sort-of, words-from, row-at}
 use Rattle.typing.specs.declared.Known.{Known}
 use Rattle.typing.specs.declared.Answer.{Answer}
 use Rattle.typing.specs.declared.Answer.the-variants.{Sorted, Ill}
@@ -31,10 +30,12 @@ module _ (k : Known) (row n : ℕ) where
   unfolding node-word pick
   node-hidden h = rw (le-ltb row (k .visible) h)
 
-  pub settle-done : (q next free : ℕ) (w u : List ℕ) (y : Row) (v : ℕ) → y ≡ row-at w (k .base + row * 16) → v ≡ node-word k row n → u ≡ set w q v
-      → out (Sorted (getD (y .sorts) 8 0) next free) u ≡ settled k q row n next free w
-  unfolding settled
-  settle-done q next free w u y v e f g = rw (← e, ← f, g)
+  pub settle-done : (q next free : ℕ) (w u : List ℕ) (s v : ℕ) → s ≡ getD w (k .base + row * 16 + 14) 0 → v ≡ node-word k row n → u ≡ set w q v
+      → out (Sorted s next free) u ≡ settled k q row n next free w
+  unfolding settled row-at words-from
+  settle-done q next free w u s v e f g =
+      let place : k .base + row * 16 + 14 ≡ suc (suc (suc (suc (suc (suc (suc (suc (k .base + row * 16 + 6)))))))) = omega arith in
+      rw (← f, g, e, place)
 
 -- ---- a name: a is its word, v and f are the rows found
 

@@ -117,8 +117,9 @@ module _ (text tape w : List ℕ) (a b i v : ℕ) (c : Bool) (e : v ≡ getD w (
   pub variable-off : c ≡ false → false ≡ variable-called (name-of text a) (item-of text tape row)
   variable-off h = variable-other text tape a row c called h
 
-  pub variable-there : (y : Row) → y ≡ row → c ≡ true → eqb (y .kind) 1 ≡ variable-called (name-of text a) (item-of text tape row)
-  variable-there y g h = rw g (variable-told text tape a row c called h)
+  pub variable-there : (kind : ℕ) → kind ≡ getD w (b + i * 16 + 2) 0 → c ≡ true → eqb kind 1 ≡ variable-called (name-of text a) (item-of text tape row)
+  unfolding row-at
+  variable-there kind g h = rw g (variable-told text tape a row c called h)
 
   module _ (sorts : List ℕ) (n : ℕ) where
     abbrev such-there : Bool

@@ -23,7 +23,7 @@ fn row_name(work: &[u32], b: u32, i: u32) -> u32
     word_at(work, b as usize + i as usize * 16 + 1)
 }
 
-// Is row i of those from b on a variable called w? Its name decides most: the row is read only where it is w.
+// Is row i of those from b on a variable called w? Its name decides most: the kind is read only where it is w.
 fn is_such_variable(
     library: &[u8],
     text: &[u8],
@@ -37,9 +37,7 @@ fn is_such_variable(
     ensures { λ r. ⌜ r ≡ variable-called (name-of (joint (now (library .entry)) (now (text .entry))) w) (item-of (joint (now (library .entry)) (now (text .entry))) (part (now (work .entry)) 0 t) (row-at (now (work .entry)) (b + i * 16))) ⌝ }
 {
     if same_word(library, text, w, row_name(work, b, i)) {
-        let row = read_row(work, b, i);
-        let kind = row.kind;
-        return kind == 1;
+        return word_at(work, b as usize + i as usize * 16 + 2) == 1;
     }
     false
 }

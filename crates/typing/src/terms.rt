@@ -6,7 +6,7 @@ use super::find::find_variable;
 use tables::entries::name_at;
 use tables::entries::put_word;
 use tables::entries::role_at;
-use tables::rows::read_row;
+use tables::entries::word_at;
 ghost use mathlib.Core.Path.{_≡_};
 ghost use Prim.Native.Nat.{_+_, _^_, _≤_, _<_};
 ghost use lib.ListN.{length, getD};
@@ -40,15 +40,10 @@ fn settle(
     ensures { λ r. ⌜ out r (now (work .exit)) ≡ settled k q row n next free (now (work .entry)) ⌝ }
 {
     let base = k.base;
-    let found = read_row(work, base, row);
-    let sorts = found.sorts;
+    let sort = word_at(work, base as usize + row as usize * 16 + 14);
     let v = node_word(k, row, n);
     put_word(work, q, v);
-    Answer::Sorted {
-        sort: sorts[8],
-        next,
-        free,
-    }
+    Answer::Sorted { sort, next, free }
 }
 
 // The row of the variable that the name at i is; `count` if it is none.

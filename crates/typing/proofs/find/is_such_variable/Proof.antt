@@ -11,7 +11,10 @@ is-such-variable-spec =
     (tie.spec
     (λ c κs. search needs)  -- row-name-requires
     (λ c κs. search needs)  -- same-word-requires
-    (λ c κs. search needs)  -- read-row-requires
+    (λ c. search needs)  -- mul-word-at
+    (λ c. search needs)  -- add-word-at
+    (λ c. search needs)  -- add-word-at-2
+    (λ c κs. search needs)  -- word-at-requires
     (λ c. search tests)  -- returns
     (λ c. search tests)  -- returns-2
     )

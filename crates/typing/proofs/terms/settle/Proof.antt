@@ -7,10 +7,13 @@ pub settle-spec : {M : Type 1} → statement M
 settle-spec =
     tie.close
     (tie.spec
-    (λ c κs. search needs)  -- read-row-requires
+    (λ c. search needs)  -- cast-word-at
+    (λ c. search needs)  -- mul-word-at
+    (λ c. search needs)  -- add-word-at
+    (λ c. search needs)  -- add-word-at-2
+    (λ c κs. search needs)  -- word-at-requires
     (λ c κs. search needs)  -- node-word-requires
     (λ c κs. search needs)  -- put-word-requires
-    (λ c. search needs)  -- array-read-t19
     (λ c. search needs)  -- same-length
     (λ c. search cases)  -- returns
     )
