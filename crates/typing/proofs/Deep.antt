@@ -104,6 +104,11 @@ pub leaf-told : (text : List ℕ) (k : Known) (i q n : ℕ) (sorts : List ℕ) (
 unfolding item-at pick
 leaf-told text k i q n sorts next free w r p u h = h
 
+pub named-told : (text : List ℕ) (k : Known) (i q n : ℕ) (sorts : List ℕ) (next free : ℕ) (w : List ℕ) (r : ℕ) (p u : List ℕ)
+    → Reached (item-at text k false i q n sorts next free w) r p u → Reached (applied-at text k i q n sorts next free w) r p u
+unfolding item-at pick
+named-told text k i q n sorts next free w r p u h = h
+
 -- ---- the arguments
 
 module _ (text k : List ℕ) (d head place c left₀ : ℕ) (w₀ : List ℕ) where
@@ -121,8 +126,8 @@ module _ (text k : List ℕ) (d head place c left₀ : ℕ) (w₀ : List ℕ) wh
     unfolding known-of
     deep-fits z h f g = end-fits (known-of k) w c left i b e z h (omega (arith, inv .size)) g
 
-    pub deep-done : (end r : ℕ) (p u : List ℕ) → b ≡ true → end ≡ i + c → Reached (item-at text (known-of k) false head place n sorts end q w) r p u → Reached wanted r p u
-    unfolding known-of item-at pick
+    pub deep-done : (end r : ℕ) (p u : List ℕ) → b ≡ true → end ≡ i + c → Reached (applied-at text (known-of k) head place n sorts end q w) r p u → Reached wanted r p u
+    unfolding known-of
     deep-done end r p u z f h =
         let o = applied-at text (known-of k) head place n sorts (i + c) q w in
         reached-as o wanted r p u
@@ -205,4 +210,4 @@ module _ (text k : List ℕ) (known : Known) (d i q : ℕ) (w : List ℕ) (r : �
   whole-sorted z = ap (λ (a : Answer). out a u) (sym (answered-sorted r (getD p 0 0) (getD p 1 0) z)) ∙ reached-out _ r p u h ∙ ap (λ (k : Known). term-at text k d i q w) e
 
 -- what the answers of a level hand to `search`
-pub ruleset deeper = (known-told, known-kept, known-tape, known-inside, known-count, known-hidden, words-tape, words-kept, tell-ill, tell-sorted, reached-word, item-alone, item-applied, leaf-told, arguments-few, closers-few, deep-open, deep-done, deep-many, deep-ill, deep-again, deep-none, deep-past, deep-full, deep-leaf, deep-args, deep-other, whole-ill, whole-sorted, needs)
+pub ruleset deeper = (known-told, known-kept, known-tape, known-inside, known-count, known-hidden, words-tape, words-kept, tell-ill, tell-sorted, reached-word, item-alone, item-applied, leaf-told, named-told, arguments-few, closers-few, deep-open, deep-done, deep-many, deep-ill, deep-again, deep-none, deep-past, deep-full, deep-leaf, deep-args, deep-other, whole-ill, whole-sorted, needs)

@@ -294,6 +294,39 @@ fn behind(i: usize, closers: usize) -> usize
     i + closers
 }
 
+// The name at i with arguments of the first n sorts. Apart, as `type_argument`: what a call is lent is then not kept beside the other's.
+fn type_named(
+    library: &&[u8],
+    text: &&[u8],
+    work: &mut [u32],
+    k: &[usize; 5],
+    places: &mut [usize; 2],
+    i: usize,
+    q: usize,
+    sorts: &[u32; 9],
+    n: usize,
+) -> usize
+    requires { ⌜ (getD (now k) 0 0 ≤ length (now work)) × Words (now k) × (n ≤ 9) × (i < getD (now k) 0 0) × (q < length (now work)) ⌝ }
+    ensures { λ r. ⌜ Reached (applied-at (joint (now (now (library .entry))) (now (now (text .entry)))) (known-of (now (k .entry))) i q n (now (sorts .entry)) (getD (now (places .entry)) 0 0) (getD (now (places .entry)) 1 0) (now (work .entry))) r (now (places .exit)) (now (work .exit)) ⌝ }
+{
+    type_item(library, text, work, k, places, i, q, false, sorts, n)
+}
+
+// The next argument.
+fn type_argument(
+    library: &&[u8],
+    text: &&[u8],
+    work: &mut [u32],
+    k: &[usize; 5],
+    places: &mut [usize; 2],
+    depth: usize,
+) -> usize
+    requires { ⌜ (getD (now k) 0 0 ≤ length (now work)) × Words (now k) ⌝ }
+    ensures { λ r. ⌜ Reached (term-at (joint (now (now (library .entry))) (now (now (text .entry)))) (known-of (now (k .entry))) depth (getD (now (places .entry)) 0 0) (getD (now (places .entry)) 1 0) (now (work .entry))) r (now (places .exit)) (now (work .exit)) ⌝ }
+{
+    type_deep(library, text, work, k, places, depth)
+}
+
 // The arguments of the name at the place, at most `left` and closed by so many entries.
 fn type_args(
     library: &&[u8],
@@ -320,23 +353,12 @@ fn type_args(
         if ends_at(&work[0..t], closers, rest, at) {
             let free = places[1];
             *places = [behind(at, closers), free];
-            return type_item(
-                library,
-                text,
-                work,
-                k,
-                places,
-                head,
-                place,
-                false,
-                &known,
-                count,
-            );
+            return type_named(library, text, work, k, places, head, place, &known, count);
         }
         if rest == 0 {
             return 0;
         }
-        let sort = type_deep(library, text, work, k, places, depth);
+        let sort = type_argument(library, text, work, k, places, depth);
         if sort == 0 {
             return 0;
         }
