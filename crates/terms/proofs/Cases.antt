@@ -22,10 +22,10 @@ use Rattle.tape.specs.Tape.{close-role, prefix-role}
 use Rattle.entries.specs.Model.{Out, out, place, Writer, onward, _>>_, stay, refuse, unexpected, if-next, step, mark, as-entry, pushed, inserted, with-entries, no-nodes, counted, expect, name, separated, many, node-role, term-name, term-operator, primary-by, prefixed, joins, operand, operands, term-by, in-brackets, primary, term}
 use Rattle.entries.specs.Steps.{still, Quiet, next-passes, next-role, entries-of}
 use Rattle.terms.specs.Kept.{kept}
-use Rattle.terms.specs.Parts.{operator-in, applied}
-use Rattle.entries.proofs.Laws.{laws, then, then-still, quietly, stays, next-yes, next-no, refuse-quiet, expect-quiet}
+use Rattle.terms.specs.Parts.{operator-in, operands-from, applied}
+use Rattle.entries.proofs.Laws.{laws, onward-then, then, then-still, quietly, stays, next-yes, next-no, refuse-quiet, expect-quiet}
 use Rattle.entries.proofs.Cases.{refused-onward, refused-still, short-yes, short-no, word-times, word-plus}
-use Rattle.entries.proofs.Lists.{Comes, separated-again, many-again}
+use Rattle.entries.proofs.Lists.{Comes, separated-again}
 
 -- what a name is, by the token after it
 module _ (s : List ℕ) (t u : Token) (g : u ≡ token-at s (t .end)) where
@@ -258,24 +258,58 @@ remembers-entries (Refused k p) t o n f e h = h
 remembers-entries (Done p) t o n f e h = rw e at h
 
 module _ (s : List ℕ) (d n : ℕ) (r q : Reading) (t u : List ℕ) where
-  -- q and u come of the prefix operator, a and v of the first primary
-  pub term-read : (o : Out) (a : Reading) (v : List ℕ) → n ≡ entries-of r → out q u ≡ onward r t (operator-in s n false)
-      → out a v ≡ onward q u (primary s d) → o ≡ onward a v (operands s n (primary s d)) → o ≡ onward r t (term s d)
-  unfolding term term-by operator-in pick
-  term-read o a v e g h k =
+  -- q and u come of the prefix operator
+  pub term-read : (o : Out) → n ≡ entries-of r → out q u ≡ onward r t (operator-in s n false)
+      → o ≡ onward q u (operands-from s n d) → o ≡ onward r t (term s d)
+  unfolding term term-by operator-in operands-from pick
+  term-read o e g h =
       let rest : ℕ → Writer = λ m. operands s m (primary s d) in
       remembers-entries r t o n (λ m. prefixed s >> (primary s d >> rest m)) e
-      (then r q t u o (prefixed s) (primary s d >> rest n) g (then q a u v o (primary s d) (rest n) h k))
+      (then r q t u o (prefixed s) (primary s d >> rest n) g h)
 
-  -- one turn: q and u come of joining, a and v of the primary behind the operator
-  pub term-again : (w : Writer) (r₀ : Reading) (t₀ : List ℕ) (l : ℕ) (b : Bool) (a : Reading) (v : List ℕ)
-      → Comes w (many s l (is 5) (operand s n (primary s d))) r₀ t₀ r t → b ≡ next-passes (is 5) r → 0 < l → b ≡ true
-      → out q u ≡ onward r t (operator-in s n true) → out a v ≡ onward q u (primary s d) → length u ≡ length t → length v ≡ length u
-      → Comes w (many s (l - 1) (is 5) (operand s n (primary s d))) r₀ t₀ a v
-  unfolding operand operator-in pick
-  term-again w r₀ t₀ l b a v c e z y g h i j =
-      many-again w r₀ t₀ s l (is 5) (operand s n (primary s d)) r t c b e a v z y
-      (then r q t u (out a v) (joins s n) (primary s d) g h) (j ∙ i)
+  -- one turn, where l more operators may come: q and u come of the primary
+  module _ (l : ℕ) (w : Writer) (r₀ : Reading) (t₀ : List ℕ) (b : Bool) (c : Comes w (primary s d >> many s l (is 5) (operand s n (primary s d))) r₀ t₀ r t)
+      (h : out q u ≡ onward r t (primary s d)) (e : b ≡ next-passes (is 5) q) where
+    -- a and x come of the operator
+    pub operands-again : (a : Reading) (x : List ℕ) → b ≡ true → (l ≡ 0 → ⊥) → out a x ≡ onward q u (operator-in s n true) → length u ≡ length t
+        → length x ≡ length u → Comes w (primary s d >> many s (l - 1) (is 5) (operand s n (primary s d))) r₀ t₀ a x
+    unfolding many operand operator-in pick
+    operands-again a x y z g i j = record { sized = j ∙ (i ∙ c .sized); comes = c .comes ∙ sym (go l z) }
+      where
+        go : (l : ℕ) → (l ≡ 0 → ⊥)
+            → onward a x (primary s d >> many s (l - 1) (is 5) (operand s n (primary s d))) ≡ onward r t (primary s d >> many s l (is 5) (operand s n (primary s d)))
+        go zero z = absurd (z refl)
+        go (suc k) z =
+            let rest : Writer = many s k (is 5) (operand s n (primary s d)) in
+            let o : Out = onward a x (primary s d >> rest) in
+            let p : Out = onward a x (primary s d) in
+            rw sub-one
+            (then r q t u o (primary s d) (many s (suc k) (is 5) (operand s n (primary s d))) h
+            (next-yes (is 5) (operand s n (primary s d) >> rest) stay q b e u o y
+            (then q (p .answer) u (p .tape) o (operand s n (primary s d)) rest (then q a u x p (joins s n) (primary s d) g refl)
+            (onward-then a x (primary s d) rest))))
+
+    pub operands-over : (a : Reading) → b ≡ true → l ≡ 0 → a ≡ still (refuse 4) q → out a u ≡ onward r₀ t₀ w
+    unfolding many
+    operands-over a y z g = go l z ∙ sym (c .comes)
+      where
+        go : (l : ℕ) → l ≡ 0 → out a u ≡ onward r t (primary s d >> many s l (is 5) (operand s n (primary s d)))
+        go l z =
+            rw z
+            (then r q t u (out a u) (primary s d) (many s 0 (is 5) (operand s n (primary s d))) h
+            (next-yes (is 5) (refuse 4) stay q b e u (out a u) y (quietly q a u (refuse 4) (refuse-quiet 4) g)))
+
+    pub operands-end : b ≡ false → out q u ≡ onward r₀ t₀ w
+    unfolding many
+    operands-end y = go l ∙ sym (c .comes)
+      where
+        go : (l : ℕ) → out q u ≡ onward r t (primary s d >> many s l (is 5) (operand s n (primary s d)))
+        go zero =
+            then r q t u (out q u) (primary s d) (many s zero (is 5) (operand s n (primary s d))) h
+            (next-no (is 5) (refuse 4) stay q b e u (out q u) y (stays q u))
+        go (suc k) =
+            then r q t u (out q u) (primary s d) (many s (suc k) (is 5) (operand s n (primary s d))) h
+            (next-no (is 5) (operand s n (primary s d) >> many s k (is 5) (operand s n (primary s d))) stay q b e u (out q u) y (stays q u))
 
 -- what begins at an open bracket, where d more may be open: arguments, or a bracketed term
 arguments-in : List ℕ → ℕ → Writer

@@ -29,11 +29,11 @@ ghost use Rattle.meaning.specs.Names.{byte};
 ghost use Rattle.meaning.specs.Grammar.{begins-term};
 ghost use Prim.Native.Nat.{_-_, _≤_};
 ghost use lib.ListN.{length};
-ghost use Rattle.entries.specs.Model.{out, onward, stay, mark, pushed, inserted, node-role, counted, term-name, prefixed, joins, operands, separated, term, primary};
+ghost use Rattle.entries.specs.Model.{out, onward, stay, mark, pushed, inserted, node-role, counted, term-name, prefixed, joins, separated, term, primary};
 ghost use Rattle.entries.specs.Steps.{still, next-role};
 ghost use Rattle.tape.specs.Tape.{close-role};
 ghost use Rattle.terms.specs.Kept.{kept};
-ghost use Rattle.terms.specs.Parts.{operator-in, applied};
+ghost use Rattle.terms.specs.Parts.{operator-in, operands-from, applied};
 
 // What a name in a term is, by the token after it.
 fn node_role(text: &[u8], t: Token) -> u8
@@ -176,7 +176,8 @@ fn close(tape: &mut [u32], state: &mut [usize; 6])
     keep(state, next);
 }
 
-// The operator that is next, as an infix one that joins the entries from `start` on, or as a prefix one, if it is there.
+// The operator that is next, as an infix one that joins the entries from `start` on, or as a prefix one, if it is there. One function for both, so
+// that what it takes on the stack is in no level of a term.
 fn pass_operator(
     text: &&[u8],
     tape: &mut [u32],
@@ -200,7 +201,7 @@ fn pass_operator(
     }
 }
 
-// A name alone: no bracket may be open.
+// A name alone, as no bracket may be open. It is apart from the primaries that may have some, so that a name is read in no level's frame.
 fn read_flat(text: &&[u8], tape: &mut [u32], state: &mut [usize; 6])
     ensures { λ r. ⌜ out (kept (now (state .exit))) (now (tape .exit)) ≡ onward (kept (now (state .entry))) (now (tape .entry)) (primary (now (now (text .entry))) 0) ⌝ }
 {
@@ -221,27 +222,26 @@ fn read_deep(text: &&[u8], tape: &mut [u32], state: &mut [usize; 6], depth: usiz
 {
     let start = entries_of(state);
     pass_operator(text, tape, state, start, false);
-    read_primary(text, tape, state, depth);
     read_operands(text, tape, state, start, depth);
 }
 
-// Operators, each with the primary that it joins to the entries from `start` on.
+// A primary, and operators, each with the primary that it joins to the entries from `start` on.
 fn read_operands(text: &&[u8], tape: &mut [u32], state: &mut [usize; 6], start: usize, depth: usize)
-    ensures { λ r. ⌜ out (kept (now (state .exit))) (now (tape .exit)) ≡ onward (kept (now (state .entry))) (now (tape .entry)) (operands (now (now (text .entry))) start (primary (now (now (text .entry))) depth)) ⌝ }
+    ensures { λ r. ⌜ out (kept (now (state .exit))) (now (tape .exit)) ≡ onward (kept (now (state .entry))) (now (tape .entry)) (operands-from (now (now (text .entry))) start depth) ⌝ }
 {
     let mut left: usize = numbers::NODE_LIMIT;
-    while 0 < left {
+    loop {
+        read_primary(text, tape, state, depth);
         if follows(state, tokens::OPERATOR) {
+            if left == 0 {
+                over(state);
+                return;
+            }
             pass_operator(text, tape, state, start, true);
-            read_primary(text, tape, state, depth);
             left -= 1;
         } else {
             return;
         }
-    }
-    if follows(state, tokens::OPERATOR) {
-        over(state);
-        return;
     }
 }
 

@@ -3,16 +3,17 @@
 -- a term below its arguments, those below their brackets, and what stands one bracket deeper below a primary. Each loop keeps what is to be read: what
 -- was at first comes to what is now.
 -- Assumes nothing.
-use Rattle.entries.specs.Model.{separated, many, operand, operands, primary, term}
+use Rattle.entries.specs.Model.{_>>_, separated, many, operand, operands, primary, term}
 use Rattle.meaning.specs.Names.{byte}
 use Rattle.meaning.specs.Grammar.{begins-term}
 use Rattle.meaning.specs.Tokens.{operator}
 use Rattle.terms.specs.Kept.{kept}
+use Rattle.terms.specs.Parts.{operands-from}
 use lib.Dec.{eqb}
 use denote.Ref.{now}
-use Rattle.entries.proofs.Lists.{Comes, loops, sized, separated-ends, separated-full, separated-bad, many-ends, many-full}
+use Rattle.entries.proofs.Lists.{Comes, begins-loop, sized, separated-ends, separated-full, separated-bad}
 use borrow.Author.Needs.{needs}
-use Rattle.terms.proofs.Cases.{arguments-again, term-read, term-again, primary-flat, primary-inner, primary-alone, primary-applied, applied-read}
+use Rattle.terms.proofs.Cases.{arguments-again, term-read, operands-again, operands-over, operands-end, primary-flat, primary-inner, primary-alone, primary-applied, applied-read}
 use Prim.Native.Nat.{ℕ, _+_, _*_, _<_}
 use borrow.Fn.Kinds.{In}
 use borrow.Fn.PlainCycle.{Measures, is, falls, and}
@@ -129,15 +130,15 @@ read-arguments-μ-loop text tape₀ state₀ depth left rest₀ tape state rest 
 
 abbrev read-operands-Inv-loop : read-operands-lts.InvT-loop
 read-operands-Inv-loop text tape₀ state₀ start depth left₀ tape state left =
-    Comes (many (now text) 64 (λ kind. eqb kind operator) (operand (now text) start (primary (now text) depth)))
-    (many (now text) left (λ kind. eqb kind operator) (operand (now text) start (primary (now text) depth)))
+    Comes (primary (now text) depth >> many (now text) 64 (λ kind. eqb kind operator) (operand (now text) start (primary (now text) depth)))
+    (primary (now text) depth >> many (now text) left (λ kind. eqb kind operator) (operand (now text) start (primary (now text) depth)))
     (kept state₀) tape₀ (kept state) tape
 
 abbrev read-operands-μ-loop : read-operands-lts.MeasureT-loop
 read-operands-μ-loop text tape₀ state₀ start depth left₀ tape state left = left
 
 pub +read-applied+read-arguments+read-deep+read-operands+read-primary-spec : {M : Type 1} → statement M
-unfolding operands
+unfolding operands operands-from
 +read-applied+read-arguments+read-deep+read-operands+read-primary-spec =
     close
     μ-read-applied
@@ -180,7 +181,7 @@ unfolding operands
     read-arguments.Post
     read-arguments-Inv-loop
     read-arguments-μ-loop
-    (λ c. search loops)  -- read-arguments-loop-holds
+    (λ c. search (begins-loop, needs))  -- read-arguments-loop-holds
     (λ c κs. search needs)  -- read-arguments-read-deep-requires
     (λ c κs. search needs)  -- read-arguments-follows-requires
     (λ c κs. search needs)  -- read-arguments-pass-requires
@@ -202,8 +203,6 @@ unfolding operands
       entries-of-reads.Learnt,
       pass-operator-reads.Asked,
       pass-operator-reads.Learnt,
-      read-primary-below t,
-      read-primary.Post,
       read-operands-below t,
       read-operands.Post,
     )
@@ -211,40 +210,36 @@ unfolding operands
     read-deep.Post
     (λ c κs. search needs)  -- read-deep-entries-of-requires
     (λ c κs. search needs)  -- read-deep-pass-operator-requires
-    (λ c κs. search needs)  -- read-deep-read-primary-requires
     (λ c κs. search needs)  -- read-deep-read-operands-requires
     (λ c. search needs)  -- read-deep-same-length
     (λ c. search (term-read, needs))  -- read-deep-returns
     )
     (λ t. read-operands-lts.spec (
-      follows-reads.Asked,
-      follows-reads.Learnt,
-      pass-operator-reads.Asked,
-      pass-operator-reads.Learnt,
       read-primary-below t,
       read-primary.Post,
+      follows-reads.Asked,
+      follows-reads.Learnt,
       over-reads.Asked,
       over-reads.Learnt,
+      pass-operator-reads.Asked,
+      pass-operator-reads.Learnt,
     )
     (read-operands-at t)
     read-operands.Post
     read-operands-Inv-loop
     read-operands-μ-loop
-    (λ c. search loops)  -- read-operands-loop-holds
-    (λ c κs. search needs)  -- read-operands-follows-requires
-    (λ c κs. search needs)  -- read-operands-pass-operator-requires
+    (λ c. search (begins-loop, needs))  -- read-operands-loop-holds
     (λ c κs. search needs)  -- read-operands-read-primary-requires
+    (λ c κs. search needs)  -- read-operands-follows-requires
+    (λ c κs. search needs)  -- read-operands-over-requires
+    (λ c. search (sized, needs))  -- read-operands-same-length
+    (λ c. search (operands-over, needs))  -- read-operands-returns
+    (λ c κs. search needs)  -- read-operands-pass-operator-requires
     (λ c. search needs)  -- read-operands-sub-left
     (λ c. search needs)  -- read-operands-loop-less
-    (λ c. search (term-again, needs))  -- read-operands-loop-again
-    (λ c. search (sized, needs))  -- read-operands-same-length
-    (λ c. search (many-ends, needs))  -- read-operands-returns
-    (λ c κs. search needs)  -- read-operands-follows-requires-2
-    (λ c κs. search needs)  -- read-operands-over-requires
+    (λ c. search (operands-again, needs))  -- read-operands-loop-again
     (λ c. search (sized, needs))  -- read-operands-same-length-2
-    (λ c. search (many-full, needs))  -- read-operands-returns-2
-    (λ c. search (sized, needs))  -- read-operands-same-length-3
-    (λ c. search (many-ends, needs))  -- read-operands-returns-3
+    (λ c. search (operands-end, needs))  -- read-operands-returns-2
     )
     λ t. read-primary-lts.spec (
       read-flat-reads.Asked,
