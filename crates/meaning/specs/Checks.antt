@@ -8,8 +8,8 @@ use lib.ListN.{length}
 use Rattle.meaning.specs.Lists.{pick, any, sum, agree}
 use Rattle.meaning.specs.Names.{Name, same, by-name}
 use Rattle.meaning.specs.Numbers.{parameter-room, item-room, equation-room, item-total, equation-total, node-total, clashing, overloading, bad-parameter, no-room}
-use Rattle.meaning.specs.Origins.{Section, export-section, hidden-section, parameter-section, same-origin, same-sort, ResolvedTerm, var, app, ResolvedTerms, none-left, _and-then_, ResolvedSides, ResolvedEquation, Shape, sort-shape, function-shape, variable-shape, same-shape, is-sort, is-function, Item}
-use Rattle.meaning.specs.Normal.{Visible, Normal}
+use Rattle.meaning.specs.Origins.{Section, export-section, hidden-section, parameter-section, same-origin, same-sort, ResolvedTerm, var, app, ResolvedTerms, none-left, _and-then_, ResolvedSides, ResolvedEquation, Shape, sort-shape, function-shape, variable-shape, same-shape, is-sort, is-function, Item, in-parameter}
+use Rattle.meaning.specs.Normal.{Slot, Visible, Normal}
 
 -- ---- outcomes
 
@@ -66,11 +66,6 @@ other-output (function-shape t) (variable-shape s) = false
 other-output (function-shape t) (function-shape u) = agree same-sort (t .inputs) (u .inputs) && not (same-sort (t .output) (u .output))
 
 -- functions of one parameter
-unfoldable pub in-parameter : Name → Section → Bool
-in-parameter p export-section = false
-in-parameter p hidden-section = false
-in-parameter p (parameter-section q) = same p q
-
 unfoldable pub in-one-parameter : Section → Section → Bool
 in-one-parameter export-section t = false
 in-one-parameter hidden-section t = false
@@ -82,13 +77,13 @@ both-in-one a b = is-function (a .shape) && is-function (b .shape) && in-one-par
 unfoldable pub overloaded : Item → Item → Bool
 overloaded a b = same (a .name) (b .name) && (other-output (a .shape) (b .shape) || both-in-one a b)
 
--- two parameters of one name 15, clash 10 (sorts first), overloading 11. Imported hidden items never clash: `own` are M's own hidden
--- items, and none before these are joined
+-- two parameters of one name that did not become one 15, clash 10 (sorts first), overloading 11. Imported hidden items never clash: `own` are
+-- M's own hidden items, and none before these are joined
 unfoldable pub consistent : Visible → List Item → Check
 consistent v own =
     let items = v .items ++ own in
     do
-      unless bad-parameter (least-at-odds (λ (p : Name). p) same (v .parameters))
+      unless bad-parameter (least-at-odds (λ (p : Slot). p .name) (λ p q. same (p .name) (q .name)) (v .parameters))
       unless clashing (least-at-odds (λ (i : Item). i .name) sorts-clash items)
       unless clashing (least-at-odds (λ (i : Item). i .name) functions-clash items)
       unless overloading (least-at-odds (λ (i : Item). i .name) overloaded items)
@@ -150,5 +145,5 @@ checked n = do
 
 -- opens every definition of this file
 unfoldable pub checks-opened : Unit {0}
-unfolding _>>=_ _>>_ unless at-odds least-at-odds other-origin sorts-clash functions-clash other-output in-parameter in-one-parameter both-in-one overloaded consistent term-nodes sides-nodes equation-nodes size add-sizes fits room total-room checked
+unfolding _>>=_ _>>_ unless at-odds least-at-odds other-origin sorts-clash functions-clash other-output in-one-parameter both-in-one overloaded consistent term-nodes sides-nodes equation-nodes size add-sizes fits room total-room checked
 checks-opened = tt

@@ -9,9 +9,9 @@ use Rattle.meaning.specs.Lists.{pick, keep, any, first}
 use Rattle.meaning.specs.Names.{Name, same, is-operator, is-infix, member, least}
 use Rattle.meaning.specs.Numbers.{bad-renaming, bad-parameter, bad-binding}
 use Rattle.meaning.specs.Syntax.{Pair}
-use Rattle.meaning.specs.Origins.{Origin, same-origin, Sort, visible-sort, hidden-sort, FunctionType, Shape, sort-shape, function-shape, variable-shape, same-shape, Item}
-use Rattle.meaning.specs.Normal.{Visible, Normal, names-in, sorts-among, sort-names, is-called, unite, move-type, move}
-use Rattle.meaning.specs.Checks.{Outcome, stop, _>>=_, _>>_, unless, in-parameter, checked}
+use Rattle.meaning.specs.Origins.{Origin, same-origin, Sort, visible-sort, hidden-sort, FunctionType, Shape, sort-shape, function-shape, variable-shape, same-shape, Item, in-parameter}
+use Rattle.meaning.specs.Normal.{Slot, Visible, Normal, names-in, sorts-among, sort-names, is-called, origin-of, slot-names, formals, unite, move-type, move}
+use Rattle.meaning.specs.Checks.{Outcome, stop, _>>=_, _>>_, unless, checked}
 
 -- ---- pairs
 
@@ -59,14 +59,6 @@ rename rs n = do
 
 -- ---- binding: sorts of a type that are not formal compare by name and origin, unavailable ones by name
 
--- where a visible sort comes from
-unfoldable pub origin-of-item : Option Item → Option Origin
-origin-of-item none = none
-origin-of-item (some i) = some (i .origin)
-
-unfoldable pub origin-of : Visible → Name → Option Origin
-origin-of v w = origin-of-item (first (is-called w) (sorts-among (v .items)))
-
 unfoldable pub same-origins : Option Origin → Option Origin → Bool
 same-origins none none = true
 same-origins none (some p) = false
@@ -76,10 +68,6 @@ same-origins (some o) (some p) = same-origin o p
 unfoldable pub is-among : List Name → Option Name → Bool
 is-among ws none = false
 is-among ws (some w) = member w ws
-
--- the items that stand in the parameter p
-unfoldable pub formals : Name → Visible → List Item
-formals p v = keep (λ (i : Item). in-parameter p (i .standing)) (v .items)
 
 -- `formal` are the items of a parameter of a module whose visible part is `whole`, bound by the pairs rs to a module whose visible part is
 -- `actual`
@@ -131,7 +119,7 @@ module _ (formal : List Item) (rs : List Pair) (whole actual : Visible) where
 -- the module without the parameter
 unfoldable pub without-visible : Name → Visible → Visible
 without-visible p v = record {
-  parameters = keep (λ (q : Name). not (same p q)) (v .parameters);
+  parameters = keep (λ (q : Slot). not (same p (q .name))) (v .parameters);
   items = keep (λ (i : Item). not (in-parameter p (i .standing))) (v .items);
 }
 
@@ -151,9 +139,9 @@ bound-to p rs n actual =
 
 -- the parameter must exist
 unfoldable pub bind : Name → List Pair → Normal → Normal → Outcome Normal
-bind p rs n actual = let r = bound-to p rs n actual in pick (member p (n .visible .parameters)) r (stop bad-parameter p)
+bind p rs n actual = let r = bound-to p rs n actual in pick (member p (slot-names (n .visible .parameters))) r (stop bad-parameter p)
 
 -- opens every definition of this file
 unfoldable pub clauses-opened : Unit {0}
-unfolding paired otherwise renaming arguments-fit may-name renames wrong-renaming rename origin-of-item origin-of same-origins is-among formals is-formal-sort new-sort new-function sort-right sorts-right shape-right pair-right wrong-pair unpaired without-visible without bound-to bind
+unfolding paired otherwise renaming arguments-fit may-name renames wrong-renaming rename same-origins is-among is-formal-sort new-sort new-function sort-right sorts-right shape-right pair-right wrong-pair unpaired without-visible without bound-to bind
 clauses-opened = tt

@@ -3,12 +3,12 @@ use Prim.Native.Nat.{ℕ}
 use mathlib.Core.Bool.{Bool, true, false, not, _&&_}
 use mathlib.Core.Option.{Option, none, some}
 use mathlib.Core.List.{List, [], _∷_, _++_, map}
-use Rattle.meaning.specs.Lists.{pick, each, agree, repeated}
+use Rattle.meaning.specs.Lists.{pick, each, agree, union, repeated}
 use Rattle.meaning.specs.Names.{Name, same, member}
 use Rattle.meaning.specs.Numbers.{named-absent, named-late, declared-twice, bad-variable}
 use Rattle.meaning.specs.Syntax.{Function, Signature, Parameter, Clause, renamed-by, bound-by, Import, Module, variables-of}
-use Rattle.meaning.specs.Origins.{ResolvedEquation}
-use Rattle.meaning.specs.Normal.{Visible, Hidden, Normal, empty, sort-names, unite-visible, unite-hidden, unite}
+use Rattle.meaning.specs.Origins.{ResolvedEquation, one-item}
+use Rattle.meaning.specs.Normal.{Visible, Hidden, Normal, empty, sort-names, unite-hidden, unite}
 use Rattle.meaning.specs.Written.{in-order}
 use Rattle.meaning.specs.Checks.{Outcome, fine, stop, _>>=_, _>>_, Check, unless, consistent, Size, size, add-sizes, room, total-room, checked}
 use Rattle.meaning.specs.Clauses.{rename, bind}
@@ -108,9 +108,11 @@ imported env is = expressions env is >>= λ ns. united empty ns
 unfoldable pub seen-sorts : Module → Visible → List Name
 seen-sorts m v = sort-names v ++ (each (λ (p : Parameter). p .signature .sorts) (m .parameters) ++ m .exports .sorts)
 
--- the visible part, with M's own joined
+-- the visible part, with M's own joined. No other module declares M's parameters, so that none of them is one that is imported
 unfoldable pub joined-visible : Module → Visible → Visible
-joined-visible m v = unite-visible v (own-visible m (seen-sorts m v))
+joined-visible m v =
+    let own = own-visible m (seen-sorts m v) in
+    record { parameters = v .parameters ++ own .parameters; items = union one-item (v .items) (own .items) }
 
 -- 15, 10, 11, 13, 12, of a visible part with M's own joined
 unfoldable pub own-checks : Module → List Name → Visible → Check

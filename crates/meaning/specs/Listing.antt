@@ -7,9 +7,8 @@ use lib.ListN.{length}
 use Rattle.meaning.specs.Lists.{pick, keep, each}
 use Rattle.meaning.specs.Names.{bytes, Name, same, member, words}
 use Rattle.meaning.specs.Origins.{Section, export-section, hidden-section, parameter-section, Origin, ResolvedEquation, Shape, sort-shape, function-shape, variable-shape, Item}
-use Rattle.meaning.specs.Normal.{Visible, Hidden, Normal}
+use Rattle.meaning.specs.Normal.{Visible, Hidden, Normal, slot-names, formals}
 use Rattle.meaning.specs.Written.{origin-text, numbered, shape-text, equation-text}
-use Rattle.meaning.specs.Clauses.{formals}
 
 -- ---- lines `key=value`, each ended by LF
 
@@ -60,7 +59,7 @@ parameter-lines v p = line "parameter" p ∷ each formal-lines (formals p v)
 
 unfoldable pub visible-lines : Visible → List Line
 visible-lines v =
-    each exported-lines (keep (λ (i : Item). is-exported (i .standing)) (v .items)) ++ each (parameter-lines v) (v .parameters)
+    each exported-lines (keep (λ (i : Item). is-exported (i .standing)) (v .items)) ++ each (parameter-lines v) (slot-names (v .parameters))
 
 -- hidden items, from number k on
 unfoldable pub hidden-item-lines : List Item → ℕ → List Item → List Line

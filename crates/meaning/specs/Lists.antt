@@ -65,6 +65,10 @@ agree e [] (y ∷ ys) = false
 agree e (x ∷ xs) [] = false
 agree e (x ∷ xs) (y ∷ ys) = let r = agree e xs ys in pick (e x y) r false
 
+-- each of xs agrees with one of ys
+unfoldable pub all-among : {A : Type 0} → (A → A → Bool) → List A → List A → Bool
+all-among e xs ys = not (any (λ x. not (any (e x) ys)) xs)
+
 -- xs, and then each of ys that is not there yet
 unfoldable pub union : {A : Type 0} → (A → A → Bool) → List A → List A → List A
 union e xs [] = xs
@@ -92,5 +96,5 @@ sorted le xs = sorted-onto le [] xs
 
 -- opens every definition of this file
 unfoldable pub lists-opened : Unit {0}
-unfolding pick keep any first before or-else first-some none-in each sum agree union repeated place-in sorted-onto
+unfolding pick keep any first before or-else first-some none-in each sum agree all-among union repeated place-in sorted-onto
 lists-opened = tt

@@ -1,14 +1,20 @@
 -- Normal forms (document 01, "Origins" and "Evaluating"; 004, section 4.1): a visible part, made of visible parts alone, and a hidden part;
 -- their union, and their translation by new names.
-use mathlib.Core.Bool.{Bool, true, false, _&&_}
+use mathlib.Core.Bool.{Bool, true, false, not, _&&_}
+use mathlib.Core.Option.{Option, none, some}
 use mathlib.Core.List.{List, [], _∷_, _++_, map}
-use Rattle.meaning.specs.Lists.{keep, union}
+use Rattle.meaning.specs.Lists.{keep, any, first, all-among, union}
 use Rattle.meaning.specs.Names.{Name, same}
-use Rattle.meaning.specs.Origins.{Sort, visible-sort, hidden-sort, FunctionType, Head, visible-head, hidden-head, ResolvedTerm, var, app, ResolvedTerms, none-left, _and-then_, ResolvedSides, ResolvedEquation, Shape, sort-shape, function-shape, variable-shape, is-sort, Item, one-item, one-equation}
+use Rattle.meaning.specs.Origins.{Origin, same-origin, Sort, visible-sort, hidden-sort, FunctionType, Head, visible-head, hidden-head, ResolvedTerm, var, app, ResolvedTerms, none-left, _and-then_, ResolvedSides, ResolvedEquation, Shape, sort-shape, function-shape, variable-shape, is-sort, Item, in-parameter, one-item, one-equation}
 
--- the parameters' names, and the visible items: exported or inherited, or standing in a parameter
+-- a parameter: its name, and the module that declares it. Its sorts and functions are the items that stand in it
+pub record Slot : Type 0 where
+  pub name : Name
+  pub home : Name
+
+-- the parameters, and the visible items: exported or inherited, or standing in a parameter
 pub record Visible : Type 0 where
-  pub parameters : List Name
+  pub parameters : List Slot
   pub items : List Item
 
 pub record Hidden : Type 0 where
@@ -42,10 +48,62 @@ sort-names v = names-in (sorts-among (v .items))
 unfoldable pub is-called : Name → Item → Bool
 is-called w i = same w (i .name)
 
--- ---- union: items and equations that are one become one; import keeps origins. Parameters of one name are for check 15
+-- where a visible sort comes from
+unfoldable pub origin-of-item : Option Item → Option Origin
+origin-of-item none = none
+origin-of-item (some i) = some (i .origin)
+
+unfoldable pub origin-of : Visible → Name → Option Origin
+origin-of v w = origin-of-item (first (is-called w) (sorts-among (v .items)))
+
+-- ---- parameters: their names, their items, and which are one (document 02, request Seven)
+
+unfoldable pub slot-names : List Slot → List Name
+slot-names ps = map (λ (p : Slot). p .name) ps
+
+-- the items that stand in the parameter p
+unfoldable pub formals : Name → Visible → List Item
+formals p v = keep (λ (i : Item). in-parameter p (i .standing)) (v .items)
+
+-- of one name, and declared in the same module
+unfoldable pub same-slot : Slot → Slot → Bool
+same-slot p q = same (p .name) (q .name) && same (p .home) (q .home)
+
+-- the sorts of a type, which have one name, have one origin where both show them; one that only one of the two shows agrees by its name
+unfoldable pub origins-agree : Option Origin → Option Origin → Bool
+origins-agree none p = true
+origins-agree (some o) none = true
+origins-agree (some o) (some p) = same-origin o p
+
+unfoldable pub sort-agrees : Visible → Visible → Sort → Bool
+sort-agrees a b (visible-sort s) = origins-agree (origin-of a s) (origin-of b s)
+sort-agrees a b (hidden-sort o) = true
+
+unfoldable pub shape-agrees : Visible → Visible → Shape → Bool
+shape-agrees a b sort-shape = true
+shape-agrees a b (function-shape t) = not (any (λ (s : Sort). not (sort-agrees a b s)) (t .output ∷ t .inputs))
+shape-agrees a b (variable-shape s) = true
+
+unfoldable pub types-agree : Name → Visible → Visible → Bool
+types-agree p a b = not (any (λ (i : Item). not (shape-agrees a b (i .shape))) (formals p a))
+
+-- the same sorts and functions with the same origins stand in p, in both, and the sorts of their types are the same
+unfoldable pub same-formals : Name → Visible → Visible → Bool
+same-formals p a b =
+    all-among one-item (formals p a) (formals p b) && all-among one-item (formals p b) (formals p a) && types-agree p a b
+
+-- the parameter q of b is one of a's
+unfoldable pub is-parameter-of : Visible → Visible → Slot → Bool
+is-parameter-of a b q = any (same-slot q) (a .parameters) && same-formals (q .name) a b
+
+-- ---- union: items and equations that are one become one, and so do parameters, as they stand before their items are united; import keeps
+-- origins. Parameters of one name that are not one are for check 15
 
 unfoldable pub unite-visible : Visible → Visible → Visible
-unite-visible a b = record { parameters = a .parameters ++ b .parameters; items = union one-item (a .items) (b .items) }
+unite-visible a b = record {
+  parameters = a .parameters ++ keep (λ (q : Slot). not (is-parameter-of a b q)) (b .parameters);
+  items = union one-item (a .items) (b .items);
+}
 
 unfoldable pub unite-hidden : Hidden → Hidden → Hidden
 unite-hidden a b = record { items = union one-item (a .items) (b .items); equations = union one-equation (a .equations) (b .equations) }
@@ -125,5 +183,5 @@ module _ (σ : Name → Name) (φ : Name → FunctionType → Name) where
 
 -- opens every definition of this file
 unfoldable pub normal-opened : Unit {0}
-unfolding nothing-visible nothing-hidden empty names-in sorts-among sort-names is-called unite-visible unite-hidden unite move-sort move-type move-shape move-name move-item move-hidden-item move-head move-term move-sides move-equation move-visible move-hidden move
+unfolding nothing-visible nothing-hidden empty names-in sorts-among sort-names is-called origin-of-item origin-of slot-names formals same-slot origins-agree sort-agrees shape-agrees types-agree same-formals is-parameter-of unite-visible unite-hidden unite move-sort move-type move-shape move-name move-item move-hidden-item move-head move-term move-sides move-equation move-visible move-hidden move
 normal-opened = tt

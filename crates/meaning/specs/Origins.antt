@@ -156,6 +156,12 @@ pub record Item : Type 0 where
   pub shape : Shape
   pub origin : Origin
 
+-- an item stands in the parameter p
+unfoldable pub in-parameter : Name → Section → Bool
+in-parameter p export-section = false
+in-parameter p hidden-section = false
+in-parameter p (parameter-section q) = same p q
+
 -- ---- which are one
 
 -- visible items: equal name (and type) and equal origin. Hidden sorts: equal origin; hidden functions and variables: equal origin and
@@ -173,5 +179,5 @@ one-equation a b =
 
 -- opens every definition of this file
 unfoldable pub origins-opened : Unit {0}
-unfolding same-section same-declared same-origin same-sort same-type same-head same-term same-sides same-shape is-sort is-function one-item one-equation
+unfolding same-section same-declared same-origin same-sort same-type same-head same-term same-sides same-shape is-sort is-function in-parameter one-item one-equation
 origins-opened = tt

@@ -8,7 +8,7 @@ use Rattle.meaning.specs.Names.{Name, member}
 use Rattle.meaning.specs.Numbers.{bad-sort}
 use Rattle.meaning.specs.Syntax.{Function, Signature, Parameter, Variable, Module, variables-of}
 use Rattle.meaning.specs.Origins.{Section, export-section, hidden-section, parameter-section, Declared, declared-sort, declared-function, declared-variable, Origin, Sort, visible-sort, hidden-sort, FunctionType, Shape, sort-shape, function-shape, variable-shape, Item}
-use Rattle.meaning.specs.Normal.{Visible, names-in}
+use Rattle.meaning.specs.Normal.{Slot, Visible, names-in}
 use Rattle.meaning.specs.Checks.{_>>=_, _>>_, Check, unless}
 
 -- ---- M's own items, where `sorts-seen` are the names of the visible sorts, M's own included
@@ -40,9 +40,12 @@ module _ (m : Module) (sorts-seen : List Name) where
   unfoldable pub own-section : Section → Signature → List Item
   own-section s g = map (own-sort s) (g .sorts) ++ map (own-function s) (g .functions)
 
+  unfoldable pub own-slot : Parameter → Slot
+  own-slot p = record { name = p .name; home = m .name }
+
   unfoldable pub own-visible : Visible
   own-visible = record {
-    parameters = map (λ (p : Parameter). p .name) (m .parameters);
+    parameters = map own-slot (m .parameters);
     items =
         each (λ (p : Parameter). own-section (parameter-section (p .name)) (p .signature)) (m .parameters)
         ++ own-section export-section (m .exports);
@@ -100,5 +103,5 @@ constants is = names-in (keep (λ (i : Item). is-constant (i .shape)) is)
 
 -- opens every definition of this file
 unfoldable pub own-opened : Unit {0}
-unfolding resolved function-type own-sort own-function own-section own-visible own-variable own-hidden-items lacking lacking-variable parameter-functions available-sorts wrong-variable is-constant constants
+unfolding resolved function-type own-sort own-function own-section own-slot own-visible own-variable own-hidden-items lacking lacking-variable parameter-functions available-sorts wrong-variable is-constant constants
 own-opened = tt

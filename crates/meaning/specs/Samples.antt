@@ -8,7 +8,7 @@ use lib.Dec.{ltb}
 use lib.ListN.{length}
 use Rattle.meaning.specs.Lists.{pick}
 use Rattle.meaning.specs.Names.{bytes, Name, bytes-not-after, not-after}
-use Rattle.meaning.specs.Numbers.{memory-size, no-token-there, not-allowed, clashing, bad-renaming, lent-short, bad-line}
+use Rattle.meaning.specs.Numbers.{memory-size, no-token-there, not-allowed, clashing, bad-renaming, bad-parameter, lent-short, bad-line}
 use Rattle.meaning.specs.Texts.{Texts, two-texts}
 use Rattle.meaning.specs.Answer.{listing, refusal, answer}
 use Rattle.meaning.specs.Reader.{a-line, at-end, refused-line, line-at}
@@ -166,3 +166,64 @@ operator-for-sort :
     ≡ refusal bad-renaming 2 (bytes "N") (bytes "A") 0
 unfolding all-opened
 operator-for-sort = refl
+
+-- ---- a parameter that arrives twice (document 02, request Seven)
+
+-- by two imports of one module it is one
+parameter-twice :
+    listing
+    (answer memory-size 999 (bytes "N") (two-texts [] (bytes "module L begin parameters P begin sorts X functions x : -> X end P end L module A begin imports L end A module B begin imports L end B module N begin imports A, B end N")))
+    ≡ bytes "module=N\nparameter=P\nparameter-sort=X\norigin=[L,parameter P,sort,X]\nparameter-function=x:->X\norigin=[L,parameter P,function,x:->X]\nend=N\n"
+unfolding all-opened
+parameter-twice = refl
+
+-- and by a binding, where the actual module brings it too
+parameter-bound :
+    listing
+    (answer memory-size 999 (bytes "N") (two-texts [] (bytes "module L begin parameters P begin sorts X end P end L module A begin exports begin sorts Y end imports L end A module B begin parameters Q begin sorts Z end Q imports L end B module N begin imports B { Q bound by [ Z -> Y ] to A } end N")))
+    ≡ bytes "module=N\nsort=Y\norigin=[A,export,sort,Y]\nparameter=P\nparameter-sort=X\norigin=[L,parameter P,sort,X]\nend=N\n"
+unfolding all-opened
+parameter-bound = refl
+
+-- renamed on one way only, it is two
+parameter-renamed :
+    answer memory-size 0 (bytes "N") (two-texts [] (bytes "module L begin parameters P begin sorts X end P end L module A begin imports L { renamed by [ X -> Y ] } end A module N begin imports A, L end N"))
+    ≡ refusal bad-parameter 3 (bytes "N") (bytes "P") 0
+unfolding all-opened
+parameter-renamed = refl
+
+-- bound on one way and open on the other, it is open
+parameter-open :
+    listing
+    (answer memory-size 999 (bytes "N") (two-texts [] (bytes "module L begin parameters P begin sorts X end P end L module C begin exports begin sorts Y end end C module A begin imports L { P bound by [ X -> Y ] to C } end A module N begin imports A, L end N")))
+    ≡ bytes "module=N\nsort=Y\norigin=[C,export,sort,Y]\nparameter=P\nparameter-sort=X\norigin=[L,parameter P,sort,X]\nend=N\n"
+unfolding all-opened
+parameter-open = refl
+
+-- a sort of its types has two origins
+parameter-sorts :
+    answer memory-size 0 (bytes "N") (two-texts [] (bytes "module L begin parameters P begin functions f : Z -> Z end P, Q begin sorts Z end Q end L module C begin exports begin sorts Y end end C module D begin exports begin sorts Y end end D module N begin imports L { Q bound by [ Z -> Y ] to C }, L { Q bound by [ Z -> Y ] to D } end N"))
+    ≡ refusal bad-parameter 4 (bytes "N") (bytes "P") 0
+unfolding all-opened
+parameter-sorts = refl
+
+-- without sorts and functions, the module that declares it tells
+parameter-empty :
+    listing
+    (answer memory-size 99 (bytes "N") (two-texts [] (bytes "module L begin parameters P begin end P end L module A begin imports L end A module N begin imports A, L end N")))
+    ≡ bytes "module=N\nparameter=P\nend=N\n"
+unfolding all-opened
+parameter-empty = refl
+
+parameters-empty :
+    answer memory-size 0 (bytes "N") (two-texts [] (bytes "module L begin parameters P begin end P end L module A begin parameters P begin end P end A module N begin imports A, L end N"))
+    ≡ refusal bad-parameter 3 (bytes "N") (bytes "P") 0
+unfolding all-opened
+parameters-empty = refl
+
+-- M's own is never an imported one
+parameter-own :
+    answer memory-size 0 (bytes "N") (two-texts [] (bytes "module L begin parameters P begin sorts X end P end L module N begin parameters P begin sorts X end P imports L end N"))
+    ≡ refusal bad-parameter 2 (bytes "N") (bytes "P") 0
+unfolding all-opened
+parameter-own = refl

@@ -9,10 +9,10 @@ use Rattle.meaning.specs.Names.{Name, same, member}
 use Rattle.meaning.specs.Numbers.{bad-renaming, bad-parameter, bad-binding}
 use Rattle.meaning.specs.Syntax.{Pair, Clause, Import, Equation, Module, conditions-of, renamed-by, bound-by}
 use Rattle.meaning.specs.Origins.{ResolvedSides, Item}
-use Rattle.meaning.specs.Normal.{Visible, Normal, nothing-visible, empty, unite-visible, unite, move-visible, move}
+use Rattle.meaning.specs.Normal.{Visible, Normal, nothing-visible, empty, slot-names, formals, unite-visible, unite, move-visible, move}
 use Rattle.meaning.specs.Written.{visible-in-order, in-order}
 use Rattle.meaning.specs.Checks.{_>>=_, _>>_, Outcome, Check, unless, consistent, Size, room, total-room, checked, fine, stop}
-use Rattle.meaning.specs.Clauses.{renaming, wrong-renaming, rename, formals, new-sort, new-function, wrong-pair, unpaired, without-visible, without, bound-to, bind}
+use Rattle.meaning.specs.Clauses.{renaming, wrong-renaming, rename, new-sort, new-function, wrong-pair, unpaired, without-visible, without, bound-to, bind}
 use Rattle.meaning.specs.Typing.{made-equation, typed-sides, typed-conditions, typed-equations}
 use Rattle.meaning.specs.Evaluate.{Evaluated, named-by, names-right, declared-once, normal-of, clause, clauses, expressions, united, imported, seen-sorts, joined-visible, own-checks, own-equations, joined-own, evaluate}
 use Rattle.meaning.specs.Mirror.{Mirrors, mirror-then, mirror-room, mirror-pick, mirror-bind, mirror-told, told, told-bind}
@@ -36,7 +36,7 @@ bound-visibly p rs v actual =
       checked-visibly (unite-visible (move-visible (new-sort formal rs v actual) (new-function formal rs v actual) (without-visible p v)) actual)
 
 unfoldable pub bind-visibly : Name → List Pair → Visible → Visible → Outcome Visible
-bind-visibly p rs v actual = let r = bound-visibly p rs v actual in pick (member p (v .parameters)) r (stop bad-parameter p)
+bind-visibly p rs v actual = let r = bound-visibly p rs v actual in pick (member p (slot-names (v .parameters))) r (stop bad-parameter p)
 
 -- what is seen of a module that was evaluated
 pub record Seen : Type 0 where
@@ -107,7 +107,7 @@ bound-mirrors p rs n actual = mirror-then visible-half _ _ _ (mirror-then visibl
 bind-mirrors : (p : Name) (rs : List Pair) (n actual : Normal)
     → Mirrors visible-half (bind p rs n actual) (bind-visibly p rs (n .visible) (actual .visible))
 unfolding bind bind-visibly
-bind-mirrors p rs n actual = mirror-pick visible-half (member p (n .visible .parameters)) _ _ _ _ (bound-mirrors p rs n actual)
+bind-mirrors p rs n actual = mirror-pick visible-half (member p (slot-names (n .visible .parameters))) _ _ _ _ (bound-mirrors p rs n actual)
 
 pick-visible : (b : Bool) (x y : Normal) (v : Visible) → v ≡ y .visible → pick b (x .visible) v ≡ (pick b x y) .visible
 unfolding pick

@@ -7,7 +7,7 @@ use lib.ListN.{length}
 use Rattle.meaning.specs.Lists.{pick, before, sorted}
 use Rattle.meaning.specs.Names.{bytes, Name, same, bytes-not-after, not-after, by-name, by-bytes, by-two}
 use Rattle.meaning.specs.Origins.{Section, export-section, hidden-section, parameter-section, Declared, declared-sort, declared-function, declared-variable, Origin, same-origin, Sort, visible-sort, hidden-sort, FunctionType, Head, visible-head, hidden-head, ResolvedTerm, var, app, ResolvedTerms, none-left, _and-then_, ResolvedSides, ResolvedEquation, Shape, sort-shape, function-shape, variable-shape, same-shape, Item}
-use Rattle.meaning.specs.Normal.{Visible, Hidden, Normal, sorts-among}
+use Rattle.meaning.specs.Normal.{Slot, Visible, Hidden, Normal, sorts-among}
 
 -- ---- numbers
 
@@ -133,7 +133,7 @@ visible-order a b =
 
 -- and so do parameters
 unfoldable pub visible-in-order : Visible → Visible
-visible-in-order v = record { parameters = by-name (λ (p : Name). p) (v .parameters); items = sorted visible-order (v .items) }
+visible-in-order v = record { parameters = by-name (λ (p : Slot). p .name) (v .parameters); items = sorted visible-order (v .items) }
 
 -- hidden ones ascend by the bytes of their origin, then type, in which `sorts` are the hidden sorts in order
 unfoldable pub hidden-order : List Item → Item → Item → Bool
