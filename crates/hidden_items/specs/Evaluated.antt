@@ -8,7 +8,7 @@ use Rattle.meaning.specs.Names.{Name, same, member}
 use Rattle.meaning.specs.Numbers.{bad-parameter, asked-absent}
 use Rattle.meaning.specs.Syntax.{Pair, Clause, renamed-by, bound-by, Import, Module}
 use Rattle.meaning.specs.Origins.{ResolvedEquation}
-use Rattle.meaning.specs.Normal.{Visible, Normal, empty, unite-hidden, unite}
+use Rattle.meaning.specs.Normal.{Visible, Normal, empty, unite-hidden, unite, slot-names}
 use Rattle.meaning.specs.Checks.{Outcome, fine, stop, _>>=_, _>>_, Size, checked}
 use Rattle.meaning.specs.Clauses.{rename, without, bound-to, bind}
 use Rattle.meaning.specs.Own.{own-hidden-items}
@@ -58,7 +58,7 @@ bound-to-sound p rs n actual h k =
 pub bound-sound : (p : Name) (rs : List Pair) (n actual : Normal) → HiddenSound n → HiddenSound actual → Comes HiddenSound (bind p rs n actual)
 unfolding bind
 bound-sound p rs n actual h k =
-    by-cases (Comes HiddenSound) (member p (n .visible .parameters)) (bound-to p rs n actual) (stop bad-parameter p)
+    by-cases (Comes HiddenSound) (member p (slot-names (n .visible .parameters))) (bound-to p rs n actual) (stop bad-parameter p)
     (λ e. bound-to-sound p rs n actual h k) (λ e. tt)
 
 abbrev pub SoundEnvironment : List Evaluated → Type 0

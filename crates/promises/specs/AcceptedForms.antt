@@ -1,22 +1,20 @@
 -- Accepted normal forms: an equation can be told from its line, a form from its items and equations in whatever order, and the visible part
--- from its exported items and those of each parameter.
+-- from its exported items and those of each parameter, which also tell the module that declares it.
 use mathlib.Core.Path.{_≡_, refl, sym, ap, ap₂, subst, _∙_}
 use Prim.Native.Nat.{ℕ}
 use mathlib.Core.Bool.{Bool, true, false, false≢true}
 use mathlib.Core.List.{List, [], _∷_, _++_, map, List·Memᴰ, List·Memᴰ·head, List·Memᴰ·tail, List·Permᴰ·trans, Permᴰ·refl, Permᴰ·symm}
-use Rattle.meaning.specs.Lists.{keep, any, each}
+use Rattle.meaning.specs.Lists.{pick, keep, any, none-in, each}
 use Rattle.meaning.specs.Names.{Name, same}
-use Rattle.meaning.specs.Origins.{Section, export-section, hidden-section, parameter-section, Item, ResolvedEquation}
-use Rattle.meaning.specs.Normal.{Visible, Normal}
-use Rattle.meaning.specs.Checks.{in-parameter}
-use Rattle.meaning.specs.Clauses.{formals}
+use Rattle.meaning.specs.Origins.{Section, export-section, hidden-section, parameter-section, Item, ResolvedEquation, in-parameter}
+use Rattle.meaning.specs.Normal.{Slot, Visible, Normal, slot-names, formals}
 use Rattle.meaning.specs.Written.{equation-text, equation-order, visible-order, visible-in-order, hidden-order, hidden-in-order, in-order}
 use Rattle.meaning.specs.Listing.{is-exported}
 use Rattle.meaning.specs.OrderLaws.{Every, Pairwise, Rearranged, rearranged-member, same-equal, same-self, sorted-rearranged}
 use Rattle.promises.specs.ListingLaws.{Plain, PlainEquation, every-so, first-of, not-empty, rest-of}
-use Rattle.promises.specs.SameListing.{EquationsTold, SameNormal, VisibleTold, items-in-order, one-order, sorts-in-order, visible-one}
-use Rattle.promises.specs.Told.{SameListed, SoundVisible, StandsIn, exported-of}
-use Rattle.promises.specs.Sound.{any-passes, every-member, member-map-to}
+use Rattle.promises.specs.SameListing.{EquationsTold, SameNormal, VisibleTold, items-in-order, kept-member, one-order, sorts-in-order, visible-items-one}
+use Rattle.promises.specs.Told.{SameListed, SoundVisible, Stands, StandsIn, every-named, exported-of}
+use Rattle.promises.specs.Sound.{any-passes, every-member, member-map-to, once-told}
 use Rattle.promises.specs.Parts.{Apart, parted}
 use Rattle.promises.specs.WellTyped.{TypedEquation}
 use Rattle.promises.specs.TermsTold.{content, told-equation}
@@ -145,28 +143,34 @@ places-apart ps h = (all ps, insides-apart ps h)
     all [] = tt
     all (q ∷ qs) = (λ i e. exported-apart q (i .standing) e, all qs)
 
-stands-somewhere : (ps : List Name) (i : Item) → StandsIn ps (i .standing) → any (λ (t : Item → Bool). t i) (places ps) ≡ true
-unfolding places exported inside is-exported in-parameter
+stands-somewhere : (ps : List Slot) (i : Item) → Stands ps i → any (λ (t : Item → Bool). t i) (places (slot-names ps)) ≡ true
+unfolding places exported inside is-exported in-parameter slot-names
 stands-somewhere ps i h = go (i .standing) refl h
   where
-    passes : (t : Item → Bool) → List·Memᴰ t (places ps) → t i ≡ true → any (λ (u : Item → Bool). u i) (places ps) ≡ true
-    passes = any-passes (λ (u : Item → Bool). u i) (places ps)
+    passes : (t : Item → Bool) → List·Memᴰ t (places (slot-names ps)) → t i ≡ true → any (λ (u : Item → Bool). u i) (places (slot-names ps)) ≡ true
+    passes = any-passes (λ (u : Item → Bool). u i) (places (slot-names ps))
 
-    go : (s : Section) → i .standing ≡ s → StandsIn ps s → any (λ (t : Item → Bool). t i) (places ps) ≡ true
+    go : (s : Section) → i .standing ≡ s → StandsIn ps (i .origin .home) s → any (λ (t : Item → Bool). t i) (places (slot-names ps)) ≡ true
     go export-section q h = passes exported (List·Memᴰ·head refl) (ap is-exported q)
     go hidden-section q h = absurd h
-    go (parameter-section p) q h = passes (inside p) (List·Memᴰ·tail (member-map-to inside h)) (ap (in-parameter p) q ∙ same-self p)
+    go (parameter-section p) q h =
+        passes (inside p) (List·Memᴰ·tail (member-map-to inside (member-map-to (λ (r : Slot). r .name) h))) (ap (in-parameter p) q ∙ same-self p)
 
 parts : Visible → List Name → List Item
 parts v ps = each (λ (t : Item → Bool). keep t (v .items)) (places ps)
 
-items-parted : (v : Visible) → Every (λ i. StandsIn (v .parameters) (i .standing)) (v .items) → Pairwise (λ p q. same p q ≡ false) (v .parameters)
-    → Rearranged (v .items) (parts v (v .parameters))
+names-once : (ps : List Slot) → Pairwise (λ p q. same (p .name) (q .name) ≡ false) ps → Pairwise (λ p q. same p q ≡ false) (slot-names ps)
+unfolding slot-names
+names-once [] h = tt
+names-once (p ∷ ps) h = (every-named (λ q. same (p .name) q ≡ false) ps (h .0), names-once ps (h .1))
+
+items-parted : (v : Visible) → Every (Stands (v .parameters)) (v .items) → Pairwise (λ p q. same (p .name) (q .name) ≡ false) (v .parameters)
+    → Rearranged (v .items) (parts v (slot-names (v .parameters)))
 unfolding parts
 items-parted v stand once =
-    parted (places (v .parameters)) (v .items)
-    (every-so (λ i. StandsIn (v .parameters) (i .standing)) _ (v .items) (stands-somewhere (v .parameters)) stand)
-    (places-apart (v .parameters) once)
+    let ps = slot-names (v .parameters) in
+    parted (places ps) (v .items) (every-so (Stands (v .parameters)) _ (v .items) (stands-somewhere (v .parameters)) stand)
+    (places-apart ps (names-once (v .parameters) once))
 
 parts-one : (v v′ : Visible) (ps : List Name) → exported-of v ≡ exported-of v′ → Every (λ p. formals p v ≡ formals p v′) ps → parts v ps ≡ parts v′ ps
 unfolding parts places exported inside formals each
@@ -177,23 +181,74 @@ parts-one v v′ ps e h = ap₂ _++_ e (later ps h)
     later [] k = refl
     later (q ∷ qs) k = ap₂ _++_ (k .0) (later qs (k .1))
 
+-- the items of a parameter come from the module that declares it
+pub formal-home : (k : Normal) → Accepted k → (p : Slot) → List·Memᴰ p (k .visible .parameters) → (i : Item) → List·Memᴰ i (formals (p .name) (k .visible))
+    → p .home ≡ i .origin .home
+unfolding formals in-parameter
+formal-home k a p m i l =
+    let r = kept-member (λ (j : Item). in-parameter (p .name) (j .standing)) (k .visible .items) l in
+    go (i .standing) (r .1) (every-member (Stands (k .visible .parameters)) (k .visible .items) (a .whole .sound .standing) i (r .0))
+  where
+    go : (s : Section) → in-parameter (p .name) s ≡ true → StandsIn (k .visible .parameters) (i .origin .home) s → p .home ≡ i .origin .home
+    go export-section e h = absurd (false≢true e)
+    go hidden-section e h = absurd h
+    go (parameter-section q) e h =
+        ap (λ (x : Slot). x .home) (once-told (k .visible .parameters) (a .parameters) p _ m h (same-equal (p .name) q e))
+
+-- a parameter as far as a listing tells it: where no item tells the module that declares it, without that
+unfoldable pub told-slot : Visible → Slot → Slot
+told-slot v p = pick (none-in (formals (p .name) v)) (record { name = p .name; home = [] }) p
+
+told-alike : (is : List Item) (p q : Slot) → p .name ≡ q .name → ((i : Item) → List·Memᴰ i is → p .home ≡ i .origin .home)
+    → ((i : Item) → List·Memᴰ i is → q .home ≡ i .origin .home)
+    → pick (none-in is) (record { name = p .name; home = [] }) p ≡ pick (none-in is) (record { name = q .name; home = [] }) q
+unfolding pick none-in
+told-alike [] p q e h h′ = λ x. record { name = e x; home = [] }
+told-alike (i ∷ is) p q e h h′ =
+    let homes = h i (List·Memᴰ·head refl) ∙ sym (h′ i (List·Memᴰ·head refl)) in λ x. record { name = e x; home = homes x }
+
 module _ (asked asked′ : Name) (k k′ : Normal) (a : Accepted k) (a′ : Accepted k′) (s : SameListed asked asked′ k k′) where
   items-rearranged : Rearranged (k .visible .items) (k′ .visible .items)
   items-rearranged =
       let here = items-parted (k .visible) (a .whole .sound .standing) (a .parameters) in
       let there = items-parted (k′ .visible) (a′ .whole .sound .standing) (a′ .parameters) in
-      let same-parts = parts-one (k .visible) (k′ .visible) (k .visible .parameters) (s .exported) (s .inside) in
+      let same-parts = parts-one (k .visible) (k′ .visible) (slot-names (k .visible .parameters)) (s .exported) (s .inside) in
       let q = same-parts ∙ ap (parts (k′ .visible)) (s .parameters) in
       List·Permᴰ·trans (subst (Rearranged (k .visible .items)) q here) (Permᴰ·symm there)
 
-  -- two accepted forms with one listing have one visible part
-  pub one-visible : k .visible ≡ k′ .visible
+  -- two accepted forms with one listing have the same visible items
+  pub one-visible : k .visible .items ≡ k′ .visible .items
   unfolding in-order
   one-visible =
-      let still = ap (λ (n : Normal). n .visible) (accepted-one-order k k a (same-itself k)) in
-      let still′ = ap (λ (n : Normal). n .visible) (accepted-one-order k′ k′ a′ (same-itself k′)) in
-      let parameters = subst (Rearranged (k .visible .parameters)) (s .parameters) (Permᴰ·refl (k .visible .parameters)) in
-      still ∙ visible-one (k .visible) (k′ .visible) parameters items-rearranged (told-in-order k a) ∙ sym still′
+      let still = ap (λ (n : Normal). n .visible .items) (accepted-one-order k k a (same-itself k)) in
+      let still′ = ap (λ (n : Normal). n .visible .items) (accepted-one-order k′ k′ a′ (same-itself k′)) in
+      still ∙ visible-items-one (k .visible) (k′ .visible) items-rearranged (told-in-order k a) ∙ sym still′
+
+  one-formals : (w : Name) → formals w (k′ .visible) ≡ formals w (k .visible)
+  unfolding formals
+  one-formals w = ap (keep (λ (i : Item). in-parameter w (i .standing))) (sym one-visible)
+
+  one-slot : (p q : Slot) → List·Memᴰ p (k .visible .parameters) → List·Memᴰ q (k′ .visible .parameters) → p .name ≡ q .name
+      → told-slot (k .visible) p ≡ told-slot (k′ .visible) q
+  unfolding told-slot
+  one-slot p q m m′ e =
+      let items = ap (λ w. formals w (k′ .visible)) (sym e) ∙ one-formals (p .name) in
+      rw items (told-alike (formals (p .name) (k .visible)) p q e (formal-home k a p m) (λ i l. formal-home k′ a′ q m′ i (rw items l)))
+
+  -- the same parameters, but for the module of one without items
+  pub one-parameters : map (told-slot (k .visible)) (k .visible .parameters) ≡ map (told-slot (k′ .visible)) (k′ .visible .parameters)
+  unfolding slot-names
+  one-parameters = go (k .visible .parameters) (k′ .visible .parameters) (λ p m. m) (λ p m. m) (s .parameters)
+    where
+      go : (ps qs : List Slot) → ((p : Slot) → List·Memᴰ p ps → List·Memᴰ p (k .visible .parameters))
+          → ((q : Slot) → List·Memᴰ q qs → List·Memᴰ q (k′ .visible .parameters)) → slot-names ps ≡ slot-names qs
+          → map (told-slot (k .visible)) ps ≡ map (told-slot (k′ .visible)) qs
+      go [] [] h h′ e = refl
+      go [] (q ∷ qs) h h′ e = not-empty e
+      go (p ∷ ps) [] h h′ e = not-empty (sym e)
+      go (p ∷ ps) (q ∷ qs) h h′ e =
+          ap₂ _∷_ (one-slot p q (h p (List·Memᴰ·head refl)) (h′ q (List·Memᴰ·head refl)) (first-of e))
+          (go ps qs (λ r m. h r (List·Memᴰ·tail m)) (λ r m. h′ r (List·Memᴰ·tail m)) (rest-of e))
 
   -- and equations that say the same, in the same order
   pub one-content : map content (k .hidden .equations) ≡ map content (k′ .hidden .equations)
@@ -201,7 +256,7 @@ module _ (asked asked′ : Name) (k k′ : Normal) (a : Accepted k) (a′ : Acce
       let es = k .hidden .equations in
       let fs = k′ .hidden .equations in
       let over : List Item → List Item → Type 0 = λ vs is. Every (TypedEquation vs is) fs in
-      let typed = subst (λ (v : Visible). over (v .items) (k′ .hidden .items)) (sym one-visible) (a′ .whole .typed) in
+      let typed = subst (λ (vs : List Item). over vs (k′ .hidden .items)) (sym one-visible) (a′ .whole .typed) in
       let written : List Item → List (List ℕ) = λ is. map (equation-text is) fs in
       lines-told k a es fs (a .whole .sound .equations) (a′ .whole .sound .equations) (a .whole .typed)
       (subst (over (k .visible .items)) (sym (s .hidden)) typed) (s .equations ∙ ap written (sym (s .hidden)))

@@ -44,3 +44,5 @@ pub mod Library
 -- no import goes in a circle: 20 is no number
 pub mod ReadNumbers
 pub mod NoCycle
+-- a module's own parameters are new
+pub mod Homes

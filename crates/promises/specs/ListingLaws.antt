@@ -15,6 +15,7 @@ use Rattle.meaning.specs.Names.{bytes, byte, Name, same}
 use Rattle.meaning.specs.Tokens.{is-in, is-symbol, is-word}
 use Rattle.meaning.specs.Written.{digits, decimal, numbered, sort-text, function-type-text, shape-text, shape-rank, argument-text, head-text, variable-text, term-text, term-texts, sides-text, conditions-text, equation-text, between-marks, type-text, section-text, declared-text, origin-text}
 use Rattle.meaning.specs.Origins.{Section, export-section, hidden-section, parameter-section, Declared, declared-sort, declared-function, declared-variable, Origin, same-section, same-declared, same-origin, Sort, visible-sort, hidden-sort, same-sort, FunctionType, same-type, Shape, sort-shape, function-shape, variable-shape, same-shape, Item, one-item, Head, visible-head, hidden-head, ResolvedTerm, var, app, ResolvedTerms, none-left, _and-then_, ResolvedSides, ResolvedEquation}
+use Rattle.meaning.specs.Normal.{Slot, same-slot}
 use Rattle.meaning.specs.Listing.{Line, line-text, lines-text}
 use Rattle.meaning.specs.OrderLaws.{Every, same-self, same-equal}
 
@@ -448,7 +449,7 @@ sort-equal (visible-sort a) (hidden-sort p) e = absurd (false≢true e)
 sort-equal (hidden-sort o) (visible-sort b) e = absurd (false≢true e)
 sort-equal (hidden-sort o) (hidden-sort p) e = ap hidden-sort (origin-equal o p e)
 
-type-equal : (t u : FunctionType) → same-type t u ≡ true → t ≡ u
+pub type-equal : (t u : FunctionType) → same-type t u ≡ true → t ≡ u
 unfolding same-type
 type-equal t u e =
     let r = both-true _ _ e in
@@ -479,6 +480,14 @@ item-equal a b e =
     let shapes = shape-equal (a .shape) (b .shape) (s .1) in
     let origins = origin-equal (a .origin) (b .origin) (r .1) in
     λ x. record { standing = standings x; name = names x; shape = shapes x; origin = origins x }
+
+pub slot-equal : (p q : Slot) → same-slot p q ≡ true → p ≡ q
+unfolding same-slot
+slot-equal p q e =
+    let r = both-true _ _ e in
+    let names = same-equal (p .name) (q .name) (r .0) in
+    let homes = same-equal (p .home) (q .home) (r .1) in
+    λ x. record { name = names x; home = homes x }
 
 -- ---- sorts and types of items, where `hidden` are the hidden items in order
 

@@ -1,5 +1,6 @@
 -- One listing for each accepted normal form: neither depends on the order in which things were found, and from the listing the normal form
--- can be told, but for the module and the position of an equation, which are not written: `not-told`.
+-- can be told, but for the module and the position of an equation, and the module of a parameter without items, which are not written:
+-- `not-told`, `home-not-told`.
 use mathlib.Core.Path.{_≡_, refl, sym, ap, _∙_}
 use Prim.Native.Nat.{ℕ}
 use mathlib.Core.List.{List, [], _∷_, _++_, map}
@@ -7,7 +8,7 @@ use Rattle.meaning.specs.Laws.{by-cases}
 use Rattle.meaning.specs.Names.{bytes, Name}
 use Rattle.meaning.specs.Origins.{ResolvedEquation}
 use Rattle.meaning.specs.Syntax.{Module}
-use Rattle.meaning.specs.Normal.{Normal}
+use Rattle.meaning.specs.Normal.{Slot, Normal}
 use Rattle.meaning.specs.Written.{in-order}
 use Rattle.meaning.specs.Listing.{lines-text, listing-lines}
 use Rattle.meaning.specs.Numbers.{memory-size, program-output}
@@ -20,7 +21,7 @@ use Rattle.promises.specs.SameListing.{SameNormal, one-listing}
 use Rattle.promises.specs.WellTyped.{WellTyped}
 use Rattle.promises.specs.TermsTold.{content}
 use Rattle.promises.specs.SoundEvaluation.{Accepted, AcceptedCall, one-normal-form}
-use Rattle.promises.specs.AcceptedForms.{accepted-one-order, found-same, one-content, one-visible, same-itself, same-then}
+use Rattle.promises.specs.AcceptedForms.{accepted-one-order, found-same, one-content, one-parameters, one-visible, same-itself, same-then, told-slot}
 use Rattle.promises.specs.PlainText.{accepted-texts}
 
 -- ---- the two halves of "one listing", for whatever is accepted
@@ -50,10 +51,12 @@ accepted-call asked n a = accepted-texts (a .texts) asked (a .modules-read) (a .
 pub accepted-well-typed : (asked : Name) (n : Normal) → AcceptedTexts asked n → WellTyped n
 accepted-well-typed asked n a = accepted-call asked n a .normal .whole .typed
 
--- the same visible part, hidden items, and equations but for their modules and positions: tags, terms and types are the same, in the same order
+-- the same parameters but for the modules of those without items, visible items, hidden items, and equations but for their modules and
+-- positions: tags, terms and types are the same, in the same order
 pub record SameForm (m m′ : Name) (n n′ : Normal) : Type 0 where
   pub asked : m ≡ m′
-  pub visible : n .visible ≡ n′ .visible
+  pub parameters : map (told-slot (n .visible)) (n .visible .parameters) ≡ map (told-slot (n′ .visible)) (n′ .visible .parameters)
+  pub visible : n .visible .items ≡ n′ .visible .items
   pub hidden : n .hidden .items ≡ n′ .hidden .items
   pub equations : map content (n .hidden .equations) ≡ map content (n′ .hidden .equations)
 
@@ -66,6 +69,7 @@ accepted-told asked asked′ n n′ t t′ e =
     let s = one-normal-form asked asked′ n n′ a a′ e in
     record {
       asked = s .asked;
+      parameters = one-parameters asked asked′ n n′ (a .normal) (a′ .normal) s;
       visible = one-visible asked asked′ n n′ (a .normal) (a′ .normal) s;
       hidden = s .hidden;
       equations = one-content asked asked′ n n′ (a .normal) (a′ .normal) s;
@@ -128,25 +132,48 @@ other-pair =
     ++ (bytes "module N1 begin imports M0 equations [e] a = a end N1\n"
     ++ (bytes "module N2 begin imports M0 equations [f] a = a [g] a = a end N2\n" ++ bytes "module M begin imports N1, N2 end M")))
 
-equations-in : Ended → List ResolvedEquation
-equations-in (normalised count n) = n .hidden .equations
-equations-in (refused-at number count m w) = []
+in-ended : {A : Type 0} → (Normal → List A) → Ended → List A
+in-ended f (normalised count n) = f n
+in-ended f (refused-at number count m w) = []
 
-equations-of : Reading → List ResolvedEquation
-equations-of (all-read ms) = equations-in (normalise (bytes "M") ms)
-equations-of (refused-in l number at) = []
+in-read : {A : Type 0} → (Normal → List A) → Reading → List A
+in-read f (all-read ms) = in-ended f (normalise (bytes "M") ms)
+in-read f (refused-in l number at) = []
 
 homes : Texts → List ℕ
-homes texts = map (λ (e : ResolvedEquation). e .home) (equations-of (read-texts texts))
+homes texts = in-read (λ n. map (λ (e : ResolvedEquation). e .home) (n .hidden .equations)) (read-texts texts)
 
 one-homes : homes one-pair ≡ 1 ∷ 1 ∷ 2 ∷ []
-unfolding all-opened homes equations-of equations-in one-pair
+unfolding all-opened homes in-read in-ended one-pair
 one-homes = refl
 
 other-homes : homes other-pair ≡ 1 ∷ 2 ∷ 2 ∷ []
-unfolding all-opened homes equations-of equations-in other-pair
+unfolding all-opened homes in-read in-ended other-pair
 other-homes = refl
 
 pub not-told : listing (answer memory-size program-output (bytes "M") one-pair) ≡ listing (answer memory-size program-output (bytes "M") other-pair)
 unfolding all-opened one-pair other-pair
 not-told = refl
+
+-- nor does it tell which module declares a parameter without items: P is A's in the one specification and B's in the other
+
+unfoldable pub a-parameter : Texts
+a-parameter = two-texts [] (bytes "module A begin parameters P begin end P end A module B begin end B module M begin imports A, B end M")
+
+unfoldable pub b-parameter : Texts
+b-parameter = two-texts [] (bytes "module A begin end A module B begin parameters P begin end P end B module M begin imports A, B end M")
+
+declaring : Texts → List Name
+declaring texts = in-read (λ n. map (λ (p : Slot). p .home) (n .visible .parameters)) (read-texts texts)
+
+a-declares : declaring a-parameter ≡ bytes "A" ∷ []
+unfolding all-opened declaring in-read in-ended a-parameter
+a-declares = refl
+
+b-declares : declaring b-parameter ≡ bytes "B" ∷ []
+unfolding all-opened declaring in-read in-ended b-parameter
+b-declares = refl
+
+pub home-not-told : listing (answer memory-size program-output (bytes "M") a-parameter) ≡ listing (answer memory-size program-output (bytes "M") b-parameter)
+unfolding all-opened a-parameter b-parameter
+home-not-told = refl

@@ -10,7 +10,7 @@ use Rattle.meaning.specs.Lists.{pick, each}
 use Rattle.meaning.specs.Names.{Name, member}
 use Rattle.meaning.specs.Numbers.{accepted, named-absent, named-late, no-room, lent-short}
 use Rattle.meaning.specs.Syntax.{Module}
-use Rattle.meaning.specs.Normal.{Visible, Normal, empty, unite-visible}
+use Rattle.meaning.specs.Normal.{Visible, Normal, empty}
 use Rattle.meaning.specs.Written.{visible-in-order}
 use Rattle.meaning.specs.Checks.{Outcome, Size, fine, stop}
 use Rattle.meaning.specs.Evaluate.{Evaluated, import-names, named-by, missing, too-late, names-right, evaluate}
@@ -20,7 +20,7 @@ use Rattle.meaning.specs.Listing.{line, lines-text, visible-lines, shown}
 use Rattle.meaning.specs.Answer.{Answer, listing, refusal, of-ended, of-read, within, answer}
 use Rattle.meaning.specs.Mirror.{Mirrors, fine-same, Together, one-mirror}
 use Rattle.meaning.specs.Visibly.{Seen, seen-of, imported-visibly, evaluate-visibly, visible-half, evaluate-mirrors}
-use Rattle.promises.specs.Public.{public-part, Shows, accepted-shows}
+use Rattle.promises.specs.Public.{public-part, with-own, Shows, accepted-shows}
 use Rattle.promises.specs.Lines.{listing-shown}
 use Rattle.promises.specs.VisiblePart.{visible-part}
 use Rattle.promises.specs.Tied.{ended-tied}
@@ -62,7 +62,7 @@ module _ (d e d′ e′ : List Name) (h h′ : ℕ) (t t′ : Size) (env env′ 
       (subst (λ o. Mirrors visible-half o other-visibly) q′ (evaluate-mirrors d′ e′ h′ t′ env′ m′)) in
       let v : b .imported ≡ b′ .imported =
       fine-same _ _ (sym (b .from-imports) ∙ (λ i. imported-visibly (seen i) (alike .imports i)) ∙ b′ .from-imports) in
-      b .whole ∙ (λ i. visible-in-order (unite-visible (v i) (public-part (alike .name i) (alike .exports i) (alike .parameters i)))) ∙ sym (b′ .whole)
+      b .whole ∙ (λ i. visible-in-order (with-own (v i) (public-part (alike .name i) (alike .exports i) (alike .parameters i)))) ∙ sym (b′ .whole)
 
   -- the same module has the same outcome, unless either is 18
   same-module : m ≡ m′ → names-right d e (named-by m) ≡ names-right d′ e′ (named-by m) → Together visible-half one other

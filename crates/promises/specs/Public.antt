@@ -5,15 +5,15 @@ use mathlib.Core.Bool.{Bool, true, false, not}
 use mathlib.Core.Option.{Option, none, some}
 use mathlib.Core.List.{List, [], _∷_, _++_, map}
 use native.Mathlib.Omega.{arith}
-use Rattle.meaning.specs.Lists.{pick, any, or-else, first-some, each}
+use Rattle.meaning.specs.Lists.{pick, any, or-else, first-some, each, union}
 use Rattle.meaning.specs.Names.{Name, member}
 use Rattle.meaning.specs.Numbers.{bad-sort}
 use Rattle.meaning.specs.Syntax.{Function, Signature, Parameter, Module}
-use Rattle.meaning.specs.Origins.{Section, Declared, Origin, Sort, Item, export-section, parameter-section, declared-sort, declared-function, visible-sort, sort-shape, function-shape}
-use Rattle.meaning.specs.Normal.{Visible, unite-visible}
+use Rattle.meaning.specs.Origins.{Section, Declared, Origin, Sort, Item, export-section, parameter-section, declared-sort, declared-function, visible-sort, sort-shape, function-shape, one-item}
+use Rattle.meaning.specs.Normal.{Visible}
 use Rattle.meaning.specs.Written.{visible-in-order}
 use Rattle.meaning.specs.Checks.{Check, fine}
-use Rattle.meaning.specs.Own.{resolved, function-type, own-sort, own-function, own-section, own-visible, lacking, parameter-functions, available-sorts}
+use Rattle.meaning.specs.Own.{resolved, function-type, own-sort, own-function, own-section, own-slot, own-visible, lacking, parameter-functions, available-sorts}
 use Rattle.meaning.specs.Evaluate.{seen-sorts, joined-visible, own-checks}
 use Rattle.meaning.specs.Mirror.{fine-same, then-fine, bind-fine, unless-fine}
 use Rattle.meaning.specs.Visibly.{Seen, imported-visibly, joined-visibly, evaluate-visibly}
@@ -39,11 +39,15 @@ public-section home s g = map (public-sort home s) (g .sorts) ++ map (public-fun
 
 abbrev pub public-part : Name → Signature → List Parameter → Visible
 public-part home exports parameters = record {
-  parameters = map (λ (p : Parameter). p .name) parameters;
+  parameters = map (λ (p : Parameter). record { name = p .name; home = home }) parameters;
   items =
       each (λ (p : Parameter). public-section home (parameter-section (p .name)) (p .signature)) parameters
       ++ public-section home export-section exports;
 }
+
+-- what is imported, with M's own joined
+abbrev pub with-own : Visible → Visible → Visible
+with-own v own = record { parameters = v .parameters ++ own .parameters; items = union one-item (v .items) (own .items) }
 
 -- ---- tests that fail, answers that there are not
 
@@ -127,12 +131,12 @@ module _ (m : Module) (seen : List Name) where
       (parameters-public ps (none-after (lacking seen) (p .signature .functions) (parameter-functions ps) e))
 
   own-public : available-sorts m seen ≡ fine tt → own-visible m seen ≡ public-part (m .name) (m .exports) (m .parameters)
-  unfolding available-sorts own-visible
+  unfolding available-sorts own-visible own-slot
   own-public e =
       let h = then-fine _ _ tt e in
       let k = then-fine _ _ tt (h .1) in
       λ i. record {
-        parameters = map (λ (p : Parameter). p .name) (m .parameters);
+        parameters = map (λ (p : Parameter). record { name = p .name; home = m .name }) (m .parameters);
         items =
             parameters-public (m .parameters) (unless-fine bad-sort _ (h .0)) i
             ++ section-public export-section (m .exports) (unless-fine bad-sort _ (k .0)) i;
@@ -144,17 +148,17 @@ module _ (m : Module) (seen : List Name) where
 pub record Shows (env : List Seen) (m : Module) (u : Visible) : Type 0 where
   pub imported : Visible
   pub from-imports : imported-visibly env (m .imports) ≡ fine imported
-  pub whole : u ≡ visible-in-order (unite-visible imported (public-part (m .name) (m .exports) (m .parameters)))
+  pub whole : u ≡ visible-in-order (with-own imported (public-part (m .name) (m .exports) (m .parameters)))
 
 joined-public : (m : Module) (v u : Visible) → joined-visibly m v ≡ fine u
-    → u ≡ visible-in-order (unite-visible v (public-part (m .name) (m .exports) (m .parameters)))
+    → u ≡ visible-in-order (with-own v (public-part (m .name) (m .exports) (m .parameters)))
 unfolding joined-visibly own-checks joined-visible
 joined-public m v u e =
     let h = then-fine _ _ u e in
     let k = then-fine _ _ tt (h .0) in
     let a = then-fine _ _ tt (k .1) in
     let r = then-fine _ _ u (h .1) in
-    sym (fine-same _ u (r .1)) ∙ ap (λ (o : Visible). visible-in-order (unite-visible v o)) (own-public m (seen-sorts m v) (a .0))
+    sym (fine-same _ u (r .1)) ∙ ap (λ (o : Visible). visible-in-order (with-own v o)) (own-public m (seen-sorts m v) (a .0))
 
 pub accepted-shows : (names : Check) (env : List Seen) (m : Module) (u : Visible) → evaluate-visibly names env m ≡ fine u → Shows env m u
 unfolding evaluate-visibly

@@ -7,7 +7,7 @@ use borrow.Author.Tests.{eqb-true}
 use Rattle.meaning.specs.Lists.{pick, keep, any, sorted}
 use Rattle.meaning.specs.Names.{Name, same, bytes-not-after, not-after, by-bytes}
 use Rattle.meaning.specs.Origins.{Shape, sort-shape, function-shape, variable-shape, is-sort, Item, ResolvedEquation}
-use Rattle.meaning.specs.Normal.{Visible, Normal, sorts-among}
+use Rattle.meaning.specs.Normal.{Slot, Visible, Normal, sorts-among}
 use Rattle.meaning.specs.Written.{origin-text, shape-text, equation-text, equation-order, shape-rank, standing-text, visible-order, visible-in-order, hidden-order, hidden-in-order, in-order}
 use Rattle.meaning.specs.Listing.{line, lines-text, equation-line, hidden-lines, listing-lines}
 use Rattle.meaning.specs.Grammar.{name, equation, is}
@@ -46,8 +46,13 @@ EquationsTold hidden es =
 abbrev pub sorts-in-order : List Item → List Item
 sorts-in-order is = by-bytes (λ (i : Item). origin-text (i .origin)) (sorts-among is)
 
--- parameters are their names; and of equations nothing is asked, since those that tie are written alike
+-- parameters of one name are one
+abbrev pub SlotsTold : List Slot → Type 0
+SlotsTold ps = (p q : Slot) → List·Memᴰ p ps → List·Memᴰ q ps → p .name ≡ q .name → p ≡ q
+
+-- of equations nothing is asked, since those that tie are written alike
 pub record ItemsTold (n : Normal) : Type 0 where
+  pub parameters : SlotsTold (n .visible .parameters)
   pub visible : VisibleTold (n .visible .items)
   pub hidden : HiddenTold (sorts-in-order (n .hidden .items)) (n .hidden .items)
 
@@ -61,16 +66,24 @@ visible-no-tie is told a b m k e f =
     let t = by-two-both not-after names-levelled (λ (i : Item). i .name) (λ (i : Item). shape-text [] (i .shape)) a b (s .1) (s .2) in
     told a b m k (same-equal _ _ (r .0)) (eqb-true _ _ (s .0)) (t .0) (t .1)
 
-pub visible-one : (v v′ : Visible) → Rearranged (v .parameters) (v′ .parameters) → Rearranged (v .items) (v′ .items) → VisibleTold (v .items)
-    → visible-in-order v ≡ visible-in-order v′
+pub visible-items-one : (v v′ : Visible) → Rearranged (v .items) (v′ .items) → VisibleTold (v .items)
+    → visible-in-order v .items ≡ visible-in-order v′ .items
 unfolding visible-in-order
-visible-one v v′ p d told =
-    rw (sorted-one names-ordered p (λ u w m k e f. not-after-antisymmetric u w e f), sorted-one visible-ordered d (visible-no-tie (v .items) told))
+visible-items-one v v′ d told = sorted-one visible-ordered d (visible-no-tie (v .items) told)
+
+visible-one : (v v′ : Visible) → Rearranged (v .parameters) (v′ .parameters) → Rearranged (v .items) (v′ .items) → SlotsTold (v .parameters)
+    → VisibleTold (v .items) → visible-in-order v ≡ visible-in-order v′
+unfolding visible-in-order
+visible-one v v′ p d slots told =
+    rw (
+      sorted-one (order-of names-ordered (λ (q : Slot). q .name)) p (λ u w m k e f. slots u w m k (not-after-antisymmetric (u .name) (w .name) e f)),
+      visible-items-one v v′ d told,
+    )
 
 -- ---- the hidden items
 
 module _ {A : Type 0} (p : A → Bool) where
-  keep-rearranged : {xs ys : List A} → Rearranged xs ys → Rearranged (keep p xs) (keep p ys)
+  pub keep-rearranged : {xs ys : List A} → Rearranged xs ys → Rearranged (keep p xs) (keep p ys)
   unfolding keep pick
   keep-rearranged List·Permᴰ·nil = List·Permᴰ·nil
   keep-rearranged (List·Permᴰ·cons {a = a} {l₁ = xs} {l₂ = ys} e d) = rw (← e) (go (p a) (keep-rearranged d))
@@ -185,7 +198,7 @@ module _ (n n′ : Normal) (s : SameNormal n n′) (t : ItemsTold n) where
   unfolding listing-lines in-order hidden-lines hidden-in-order
   one-listing asked =
       rw (
-        visible-one (n .visible) (n′ .visible) (s .parameters) (s .items) (t .visible),
+        visible-one (n .visible) (n′ .visible) (s .parameters) (s .items) (t .parameters) (t .visible),
         equation-lines-one (items-in-order (n .hidden .items)) (s .equations),
         hidden-items-one (n .hidden .items) (n′ .hidden .items) (s .hidden-items) (t .hidden),
       )
@@ -196,7 +209,7 @@ module _ (n n′ : Normal) (s : SameNormal n n′) (t : ItemsTold n) where
   unfolding in-order hidden-in-order
   one-order told =
       rw (
-        visible-one (n .visible) (n′ .visible) (s .parameters) (s .items) (t .visible),
+        visible-one (n .visible) (n′ .visible) (s .parameters) (s .items) (t .parameters) (t .visible),
         equations-one (items-in-order (n .hidden .items)) (s .equations) told,
         hidden-items-one (n .hidden .items) (n′ .hidden .items) (s .hidden-items) (t .hidden),
       )

@@ -5,7 +5,7 @@ use mathlib.Core.Logic.{_⊎_, inl, inr, ⊎-elim}
 use mathlib.Core.Option.{Option, none, some}
 use Prim.Native.Nat.{ℕ, suc, _+_, _^_, _≤_, _<_}
 use native.Mathlib.Omega.{arith}
-use mathlib.Core.Bool.{Bool, true, false, false≢true}
+use mathlib.Core.Bool.{Bool, true, false, not, false≢true}
 use mathlib.Core.List.{List, [], _∷_, _++_, map, List·Memᴰ, List·Memᴰ·head, List·Memᴰ·tail, List·Memᴰ·cases-cons, Memᴰ·append-left, Memᴰ·append-right}
 use lib.Dec.{lit<}
 use lib.ListN.{length}
@@ -15,13 +15,13 @@ use Rattle.meaning.specs.Lists.{pick, keep, any, union}
 use Rattle.meaning.specs.Names.{Name, same, bytes-not-after, not-after, by-name}
 use Rattle.meaning.specs.Origins.{Section, export-section, parameter-section, hidden-section, Origin, Sort, visible-sort, hidden-sort, Shape, sort-shape, function-shape, variable-shape, is-sort, is-function, FunctionType, one-item, one-equation, Head, visible-head, hidden-head, ResolvedTerm, var, app, ResolvedTerms, none-left, _and-then_, ResolvedSides, Item, ResolvedEquation}
 use Rattle.meaning.specs.Checks.{Outcome, fine, stop, _>>=_, _>>_, Check, unless, least-at-odds, other-origin, sorts-clash, functions-clash, consistent}
-use Rattle.meaning.specs.Normal.{move-sort, move-type, move-shape, move-name, move-item, move-hidden-item, move-head, move-term, move-terms, move-sides, move-equation, move-visible, move-hidden, move, unite, unite-visible, unite-hidden, Visible, Normal, sorts-among}
+use Rattle.meaning.specs.Normal.{Slot, same-slot, is-parameter-of, move-sort, move-type, move-shape, move-name, move-item, move-hidden-item, move-head, move-term, move-terms, move-sides, move-equation, move-visible, move-hidden, move, unite, unite-visible, unite-hidden, Visible, Normal, sorts-among}
 use Rattle.meaning.specs.Written.{origin-text, shape-rank, visible-in-order}
-use Rattle.promises.specs.ListingLaws.{Plain, told-origin, origins-of, SortIn, ShapeIn, told-shape, origin-equal, shape-self, item-equal, every-so, every-append, PlainHead, PlainTerm, PlainTerms, PlainSides, PlainEquation}
+use Rattle.promises.specs.ListingLaws.{Plain, both-true, told-origin, origins-of, SortIn, ShapeIn, told-shape, origin-equal, shape-self, item-equal, slot-equal, every-so, every-append, PlainHead, PlainTerm, PlainTerms, PlainSides, PlainEquation}
 use Rattle.meaning.specs.Grammar.{name, is}
 use Rattle.meaning.specs.OrderLaws.{Pairwise, sorted-rearranged, sorted-length, rearranged-member, any-none, none-at-odds, Every, same-self}
-use Rattle.promises.specs.SameListing.{HiddenTold, ItemsTold, VisibleTold, kept-member, sorts-in-order}
-use Rattle.promises.specs.Told.{Few, Sound, SoundHidden, SoundVisible, StandsIn, declared-name, item-of-origin, origin-of-item, shape-wider}
+use Rattle.promises.specs.SameListing.{HiddenTold, ItemsTold, SlotsTold, VisibleTold, kept-member, sorts-in-order}
+use Rattle.promises.specs.Told.{Few, every-keep, Sound, SoundHidden, SoundVisible, Stands, StandsIn, declared-name, item-of-origin, origin-of-item, shape-wider}
 
 -- ---- what is accepted is told: no two of its different items tie
 
@@ -70,9 +70,27 @@ unfolding shape-rank
 no-variable s r h e = omega (arith, rw e at h)
 
 -- after 15, parameters in order are of different names
-pub parameters-once : (v : Visible) (own : List Item) → consistent v own ≡ fine tt → Pairwise (λ p q. same p q ≡ false) (visible-in-order v .parameters)
+pub parameters-once : (v : Visible) (own : List Item) → consistent v own ≡ fine tt
+    → Pairwise (λ p q. same (p .name) (q .name) ≡ false) (visible-in-order v .parameters)
 unfolding consistent least-at-odds visible-in-order
-parameters-once v own c = none-at-odds (λ (p : Name). p) same (by-name (λ (p : Name). p) (v .parameters)) (unless-fine _ _ (then-fine _ _ c .0))
+parameters-once v own c =
+    none-at-odds (λ (p : Slot). p .name) (λ p q. same (p .name) (q .name)) (by-name (λ (p : Slot). p .name) (v .parameters))
+    (unless-fine _ _ (then-fine _ _ c .0))
+
+-- so the name tells the parameter
+pub once-told : (ps : List Slot) → Pairwise (λ p q. same (p .name) (q .name) ≡ false) ps → SlotsTold ps
+once-told ps h p q m k e =
+    ⊎-elim (λ r. r) (⊎-elim (λ r. absurd (other p q r e)) (λ r. absurd (other q p r (sym e))))
+    (pairwise-members (λ x y. same (x .name) (y .name) ≡ false) ps p q h m k)
+  where
+    other : (x y : Slot) → same (x .name) (y .name) ≡ false → x .name ≡ y .name → ⊥
+    other x y r e = false≢true (sym r ∙ ap (same (x .name)) (sym e) ∙ same-self (x .name))
+
+slots-told : (v : Visible) (own : List Item) → consistent v own ≡ fine tt → SlotsTold (v .parameters)
+unfolding visible-in-order
+slots-told v own c p q m k e =
+    let d = sorted-rearranged (λ (x y : Slot). not-after (x .name) (y .name)) (v .parameters) in
+    once-told _ (parameters-once v own c) p q (rearranged-member d m) (rearranged-member d k) e
 
 -- after 10, visible items of one kind, name and written type are one
 visible-told : (v : Visible) (own : List Item) → consistent v own ≡ fine tt → Every SoundVisible (v .items) → VisibleTold (v .items)
@@ -136,6 +154,7 @@ hidden-told is few sound a b m k rank origin text =
 -- a sound normal form that passes 15, 10 and 11 has one listing
 pub sound-told : (n : Normal) (own : List Item) → consistent (n .visible) own ≡ fine tt → Sound n → Few n → ItemsTold n
 sound-told n own c s few = record {
+  parameters = slots-told (n .visible) own c;
   visible = visible-told (n .visible) own c (s .visible);
   hidden = hidden-told (n .hidden .items) few (s .hidden);
 }
@@ -245,35 +264,58 @@ pub all-wider : (is js ks : List Item) → Covers is js → Every (SoundHidden i
 all-wider is js ks c h = every-so (SoundHidden is) (SoundHidden js) ks (hidden-wider is js c) h
 
 -- more parameters, more places to stand
-stands-wider : (ps qs : List Name) → ((p : Name) → List·Memᴰ p ps → List·Memᴰ p qs) → (s : Section) → StandsIn ps s → StandsIn qs s
-stands-wider ps qs w export-section h = tt
-stands-wider ps qs w hidden-section h = h
-stands-wider ps qs w (parameter-section p) h = w p h
+stands-wider : (ps qs : List Slot) → ((p : Slot) → List·Memᴰ p ps → List·Memᴰ p qs) → (home : Name) (s : Section) → StandsIn ps home s → StandsIn qs home s
+stands-wider ps qs w home export-section h = tt
+stands-wider ps qs w home hidden-section h = h
+stands-wider ps qs w home (parameter-section p) h = w _ h
 
-pub all-stand : (ps qs : List Name) (is : List Item) → ((p : Name) → List·Memᴰ p ps → List·Memᴰ p qs) → Every (λ i. StandsIn ps (i .standing)) is
-    → Every (λ i. StandsIn qs (i .standing)) is
-all-stand ps qs is w h =
-    every-so (λ i. StandsIn ps (i .standing)) (λ i. StandsIn qs (i .standing)) is (λ i k. stands-wider ps qs w (i .standing) k) h
+pub all-stand : (ps qs : List Slot) (is : List Item) → ((p : Slot) → List·Memᴰ p ps → List·Memᴰ p qs) → Every (Stands ps) is → Every (Stands qs) is
+all-stand ps qs is w h = every-so (Stands ps) (Stands qs) is (λ i k. stands-wider ps qs w (i .origin .home) (i .standing) k) h
+
+-- of b's parameters those are left out that a has
+united-right : (a b : Visible) (q : Slot) → List·Memᴰ q (b .parameters) → List·Memᴰ q (unite-visible a b .parameters)
+unfolding unite-visible is-parameter-of
+united-right a b q m = go (is-parameter-of a b q) refl
+  where
+    go : (t : Bool) → is-parameter-of a b q ≡ t → List·Memᴰ q (unite-visible a b .parameters)
+    go true e =
+        let r = any-found (same-slot q) (a .parameters) (both-true _ _ e .0) in
+        Memᴰ·append-left _ (subst (λ (p : Slot). List·Memᴰ p (a .parameters)) (sym (slot-equal q (r .0) (r .2))) (r .1))
+    go false e = Memᴰ·append-right (a .parameters) (member-keep (λ (p : Slot). not (is-parameter-of a b p)) (b .parameters) q m (ap not e))
+
+-- a and b together, where `more` are the parameters that b adds
+module _ (a b : Normal) (more : List Slot) where
+  unfoldable pub together : Normal
+  together = record {
+    visible = record { parameters = a .visible .parameters ++ more; items = union one-item (a .visible .items) (b .visible .items) };
+    hidden = unite-hidden (a .hidden) (b .hidden);
+  }
+
+  pub together-sound : Every (λ p. Plain (p .name)) more → ((p : Slot) → List·Memᴰ p (b .visible .parameters) → List·Memᴰ p (a .visible .parameters ++ more))
+      → Sound a → Sound b → Sound together
+  unfolding together unite-hidden
+  together-sound plain there s t =
+      let is = a .hidden .items in
+      let js = b .hidden .items in
+      let ks = union one-item is js in
+      let ps = a .visible .parameters ++ more in
+      record {
+        parameters = every-append (λ p. Plain (p .name)) (a .visible .parameters) more (s .parameters) plain;
+        standing =
+            every-union (Stands ps) one-item (a .visible .items) (b .visible .items)
+            (all-stand _ ps (a .visible .items) (λ p m. Memᴰ·append-left more m) (s .standing)) (all-stand _ ps (b .visible .items) there (t .standing));
+        visible = every-union SoundVisible one-item (a .visible .items) (b .visible .items) (s .visible) (t .visible);
+        hidden =
+            every-union (SoundHidden ks) one-item is js
+            (all-wider is ks is (λ o h. (h .0, union-left is js (h .0) (h .1), h .2, h .3)) (s .hidden))
+            (all-wider js ks js (λ o h. (h .0, union-right is js (h .0) (h .1), h .2, h .3)) (t .hidden));
+        equations = every-union PlainEquation one-equation (a .hidden .equations) (b .hidden .equations) (s .equations) (t .equations);
+      }
 
 pub unite-sound : (a b : Normal) → Sound a → Sound b → Sound (unite a b)
-unfolding unite unite-visible unite-hidden
+unfolding unite unite-visible together
 unite-sound a b s t =
-    let is = a .hidden .items in
-    let js = b .hidden .items in
-    let ks = union one-item is js in
-    record {
-      parameters = every-append Plain (a .visible .parameters) (b .visible .parameters) (s .parameters) (t .parameters);
-      standing =
-          every-union (λ i. StandsIn (a .visible .parameters ++ b .visible .parameters) (i .standing)) one-item (a .visible .items) (b .visible .items)
-          (all-stand _ _ (a .visible .items) (λ p m. Memᴰ·append-left (b .visible .parameters) m) (s .standing))
-          (all-stand _ _ (b .visible .items) (λ p m. Memᴰ·append-right (a .visible .parameters) m) (t .standing));
-      visible = every-union SoundVisible one-item (a .visible .items) (b .visible .items) (s .visible) (t .visible);
-      hidden =
-          every-union (SoundHidden ks) one-item is js
-          (all-wider is ks is (λ o h. (h .0, union-left is js (h .0) (h .1), h .2, h .3)) (s .hidden))
-          (all-wider js ks js (λ o h. (h .0, union-right is js (h .0) (h .1), h .2, h .3)) (t .hidden));
-      equations = every-union PlainEquation one-equation (a .hidden .equations) (b .hidden .equations) (s .equations) (t .equations);
-    }
+    together-sound a b _ (every-keep (λ p. Plain (p .name)) _ (b .visible .parameters) (t .parameters)) (united-right (a .visible) (b .visible)) s t
 
 -- ---- translation by new names that are plain
 
@@ -365,10 +407,9 @@ module _ (σ : Name → Name) (φ : Name → FunctionType → Name) (plain-σ : 
     conditions = every-map PlainSides PlainSides (move-sides σ φ) move-sides-plain (e .conditions) (h .conditions);
   }
 
-  moved-stand : (ps : List Name) (is : List Item) → Every (λ i. StandsIn ps (i .standing)) is
-      → Every (λ i. StandsIn ps (i .standing)) (map (move-item σ φ) is)
+  moved-stand : (ps : List Slot) (is : List Item) → Every (Stands ps) is → Every (Stands ps) (map (move-item σ φ) is)
   unfolding move-item
-  moved-stand ps is h = every-map (λ i. StandsIn ps (i .standing)) (λ i. StandsIn ps (i .standing)) (move-item σ φ) (λ i k. k) is h
+  moved-stand ps is h = every-map (Stands ps) (Stands ps) (move-item σ φ) (λ i k. k) is h
 
   pub move-sound : (n : Normal) → Sound n → Sound (move σ φ n)
   unfolding move move-visible move-hidden
@@ -379,7 +420,7 @@ module _ (σ : Name → Name) (φ : Name → FunctionType → Name) (plain-σ : 
       record {
         parameters = s .parameters;
         standing =
-            every-union (λ i. StandsIn (n .visible .parameters) (i .standing)) one-item [] (map (move-item σ φ) (n .visible .items)) tt
+            every-union (Stands (n .visible .parameters)) one-item [] (map (move-item σ φ) (n .visible .items)) tt
             (moved-stand (n .visible .parameters) (n .visible .items) (s .standing));
         visible =
             every-union SoundVisible one-item [] (map (move-item σ φ) (n .visible .items)) tt

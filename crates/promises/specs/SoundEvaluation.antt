@@ -5,21 +5,21 @@ use mathlib.Core.Option.{Option, none, some}
 use Prim.Native.Nat.{ℕ, _+_}
 use native.Mathlib.Omega.{arith}
 use mathlib.Core.Bool.{Bool, true, false, not, _&&_, false≢true}
-use mathlib.Core.List.{List, [], _∷_, _++_, map, List·Memᴰ, List·Memᴰ·head, List·Memᴰ·tail, Memᴰ·append-left, Permᴰ·symm}
+use mathlib.Core.List.{List, [], _∷_, _++_, map, List·Memᴰ, List·Memᴰ·head, List·Memᴰ·tail, Memᴰ·append-left, Memᴰ·append-right, Permᴰ·symm}
 use lib.Dec.{leb, lit<, lit≤}
 use lib.ListN.{length}
 use borrow.Author.Tests.{leb-true, not-false}
 use Rattle.meaning.specs.Laws.{by-cases}
 use Rattle.meaning.specs.Lists.{pick, keep, any, union, or-else, first-some, each, sorted-onto}
 use Rattle.meaning.specs.Names.{Name, same, member, not-after, by-name}
-use Rattle.meaning.specs.Origins.{Section, export-section, parameter-section, hidden-section, declared-sort, declared-function, is-sort, FunctionType, one-item, one-equation, Item, ResolvedEquation}
-use Rattle.meaning.specs.Checks.{Outcome, fine, stop, Size, size, fits, room, checked, in-parameter}
-use Rattle.meaning.specs.Own.{resolved, function-type, own-sort, own-function, own-section, own-visible, own-variable, own-hidden-items, lacking, parameter-functions, available-sorts}
+use Rattle.meaning.specs.Origins.{Section, export-section, parameter-section, hidden-section, declared-sort, declared-function, is-sort, FunctionType, one-item, one-equation, Item, ResolvedEquation, in-parameter}
+use Rattle.meaning.specs.Checks.{Outcome, fine, stop, Size, size, fits, room, checked}
+use Rattle.meaning.specs.Own.{resolved, function-type, own-sort, own-function, own-section, own-slot, own-visible, own-variable, own-hidden-items, lacking, parameter-functions, available-sorts}
 use Rattle.meaning.specs.Typing.{typed}
 use Rattle.meaning.specs.Syntax.{Function, Signature, Parameter, Variable, variables-of, Pair, Clause, renamed-by, bound-by, Import, Module}
 use Rattle.meaning.specs.Evaluate.{Evaluated, normal-of, clause, clauses, expressions, united, imported, seen-sorts, joined-visible, own-checks, own-equations, joined-hidden, joined-own, evaluate}
-use Rattle.meaning.specs.Clauses.{paired, otherwise, renaming, without-visible, without, rename, new-sort, new-function, bound-to, bind, formals}
-use Rattle.meaning.specs.Normal.{nothing-visible, nothing-hidden, empty, unite, unite-visible, unite-hidden, Normal, sorts-among}
+use Rattle.meaning.specs.Clauses.{paired, otherwise, renaming, without-visible, without, rename, new-sort, new-function, bound-to, bind}
+use Rattle.meaning.specs.Normal.{nothing-visible, nothing-hidden, empty, formals, unite-hidden, Slot, Normal, sorts-among}
 use Rattle.meaning.specs.Written.{equation-order, shape-rank, visible-order, visible-in-order, hidden-order, hidden-in-order, in-order}
 use Rattle.meaning.specs.Listing.{lines-text, listing-lines}
 use Rattle.promises.specs.ListingLaws.{Plain, PlainSection, PlainDeclared, SortIn, both-true, every-so, every-append, PlainEquation}
@@ -29,8 +29,8 @@ use Rattle.meaning.specs.Reached.{Placed, reached-among, reached, Ended, normal
 use Rattle.meaning.specs.OrderLaws.{rearranged-every, sorted-rearranged, sorted-length, rearranged-member, any-none, Every, Pairwise, same-equal}
 use Rattle.promises.specs.Parts.{every-kept}
 use Rattle.promises.specs.SameListing.{ItemsTold, items-in-order, sorts-in-order}
-use Rattle.promises.specs.Told.{Few, SameListed, Sound, SoundHidden, SoundVisible, StandsIn, declared-name, every-keep, told-by-bytes}
-use Rattle.promises.specs.Sound.{Gives, HasSort, all-stand, all-wider, every-map, every-member, every-union, gives-bound, gives-then, member-keep, member-map-to, move-sound, parameters-once, sort-had, sound-told, then-fine, union-left, union-right, unite-sound, unless-fine}
+use Rattle.promises.specs.Told.{Few, SameListed, Sound, SoundHidden, SoundVisible, Stands, StandsIn, declared-name, every-keep, told-by-bytes}
+use Rattle.promises.specs.Sound.{Gives, HasSort, all-stand, all-wider, every-map, every-member, every-union, gives-bound, gives-then, member-keep, member-map-to, move-sound, parameters-once, sort-had, sound-told, then-fine, together, together-sound, union-left, union-right, unite-sound, unless-fine}
 use Rattle.promises.specs.WellTyped.{TypedEquation, WellTyped, in-order-typed, move-typed, typed-wider, unite-typed}
 use Rattle.promises.specs.TypedBinding.{bound-typed}
 use Rattle.promises.specs.TypedOwn.{InReach, Made, equations-typed, made-plain}
@@ -54,30 +54,29 @@ renaming-plain (r ∷ rs) h w p =
     by-cases (λ (o : Option Name). Plain (otherwise w o)) _ _ _ (λ e. h .0) (λ e. renaming-plain rs (h .1) w p)
 
 -- what stands outside the parameter p stands where it did without it
-still-stands : (p : Name) (ps : List Name) (s : Section) → StandsIn ps s → not (in-parameter p s) ≡ true
-    → StandsIn (keep (λ (q : Name). not (same p q)) ps) s
+still-stands : (p : Name) (ps : List Slot) (home : Name) (s : Section) → StandsIn ps home s → not (in-parameter p s) ≡ true
+    → StandsIn (keep (λ (q : Slot). not (same p (q .name))) ps) home s
 unfolding in-parameter
-still-stands p ps export-section h e = tt
-still-stands p ps hidden-section h e = h
-still-stands p ps (parameter-section q) h e = member-keep (λ (r : Name). not (same p r)) ps q h e
+still-stands p ps home export-section h e = tt
+still-stands p ps home hidden-section h e = h
+still-stands p ps home (parameter-section q) h e = member-keep (λ (r : Slot). not (same p (r .name))) ps _ h e
 
 without-sound : (p : Name) (n : Normal) → Sound n → Sound (without p n)
 unfolding without without-visible
 without-sound p n s = record {
-  parameters = every-keep Plain (λ (q : Name). not (same p q)) (n .visible .parameters) (s .parameters);
+  parameters = every-keep (λ q. Plain (q .name)) _ (n .visible .parameters) (s .parameters);
   standing =
-      every-so (λ (i : Item). StandsIn (n .visible .parameters) (i .standing) × (not (in-parameter p (i .standing)) ≡ true))
-      (λ i. StandsIn (keep (λ (q : Name). not (same p q)) (n .visible .parameters)) (i .standing))
+      every-so (λ (i : Item). Stands (n .visible .parameters) i × (not (in-parameter p (i .standing)) ≡ true))
+      (Stands (keep (λ (q : Slot). not (same p (q .name))) (n .visible .parameters)))
       (keep (λ (i : Item). not (in-parameter p (i .standing))) (n .visible .items))
-      (λ i h. still-stands p (n .visible .parameters) (i .standing) (h .0) (h .1))
-      (every-kept (λ i. StandsIn (n .visible .parameters) (i .standing)) (λ (i : Item). not (in-parameter p (i .standing))) (n .visible .items)
-      (s .standing));
+      (λ i h. still-stands p (n .visible .parameters) (i .origin .home) (i .standing) (h .0) (h .1))
+      (every-kept (Stands (n .visible .parameters)) (λ (i : Item). not (in-parameter p (i .standing))) (n .visible .items) (s .standing));
   visible = every-keep SoundVisible (λ (i : Item). not (in-parameter p (i .standing))) (n .visible .items) (s .visible);
   hidden = s .hidden;
   equations = s .equations;
 }
 
-checked-gives : (P : Normal → Type 0) (n : Normal) → P n → Gives P (checked n)
+pub checked-gives : (P : Normal → Type 0) (n : Normal) → P n → Gives P (checked n)
 unfolding checked
 checked-gives P n h = gives-then P _ _ (λ e. gives-then P _ _ (λ f. h))
 
@@ -112,7 +111,7 @@ abbrev pub PlainClause : Clause → Type 0
 PlainClause (renamed-by rs) = PlainPairs rs
 PlainClause (bound-by p rs m) = PlainPairs rs
 
-empty-whole : Whole empty
+pub empty-whole : Whole empty
 unfolding empty nothing-visible nothing-hidden
 empty-whole = record { sound = record { parameters = tt; standing = tt; visible = tt; hidden = tt; equations = tt }; typed = tt }
 
@@ -126,12 +125,12 @@ normal-of-whole [] w h = empty-whole
 normal-of-whole (e ∷ es) w h = by-cases Whole _ _ _ (λ f. h .0) (λ f. normal-of-whole es w (h .1))
 
 module _ (env : List Evaluated) (whole : WholeEnv env) where
-  clause-whole : (c : Clause) (n : Normal) → PlainClause c → Whole n → Gives Whole (clause env c n)
+  pub clause-whole : (c : Clause) (n : Normal) → PlainClause c → Whole n → Gives Whole (clause env c n)
   unfolding clause
   clause-whole (renamed-by rs) n h w = rename-whole rs n h w
   clause-whole (bound-by p rs m) n h w = bind-whole p rs n (normal-of env m) h w (normal-of-whole env m whole)
 
-  clauses-whole : (cs : List Clause) (n : Normal) → Every PlainClause cs → Whole n → Gives Whole (clauses env cs n)
+  pub clauses-whole : (cs : List Clause) (n : Normal) → Every PlainClause cs → Whole n → Gives Whole (clauses env cs n)
   unfolding clauses
   clauses-whole [] n h w = w
   clauses-whole (c ∷ cs) n h w = gives-bound Whole Whole _ _ (clause-whole c n (h .0) w) (λ k t. clauses-whole cs k (h .1) t)
@@ -151,7 +150,7 @@ module _ (env : List Evaluated) (whole : WholeEnv env) where
       (checked-gives Whole _ (record { sound = unite-sound n k (w .sound) (h .0 .sound); typed = unite-typed n k (w .typed) (h .0 .typed) }))
       (λ u t. united-whole u ks t (h .1))
 
-  imported-whole : (is : List Import) → Every (λ i. Every PlainClause (i .clauses)) is → Gives Whole (imported env is)
+  pub imported-whole : (is : List Import) → Every (λ i. Every PlainClause (i .clauses)) is → Gives Whole (imported env is)
   unfolding imported
   imported-whole is h = gives-bound (Every Whole) Whole _ _ (expressions-whole is h) (λ ns w. united-whole empty ns empty-whole w)
 
@@ -242,7 +241,7 @@ member-found w (v ∷ ws) e = go (same w v) refl e (member-found w ws)
     go true q e i = List·Memᴰ·head (same-equal w v q)
     go false q e i = List·Memᴰ·tail (i e)
 
-all-made : {A B : Type 0} (Q : B → Type 0) (f : A → B) → ((a : A) → Q (f a)) → (xs : List A) → Every Q (map f xs)
+pub all-made : {A B : Type 0} (Q : B → Type 0) (f : A → B) → ((a : A) → Q (f a)) → (xs : List A) → Every Q (map f xs)
 all-made Q f h [] = tt
 all-made Q f h (x ∷ xs) = (h x, all-made Q f h xs)
 
@@ -309,30 +308,27 @@ module _ (m : Module) (plain : PlainModule m) (seen : List Name) where
       (own-parameters-sound (m .parameters) (plain .parameters) (available-parameters m seen e))
       (own-section-sound export-section tt (m .exports) (plain .exports) (available-exports m seen e))
 
-  own-section-stands : (ps : List Name) (s : Section) → StandsIn ps s → (g : Signature) → Every (λ i. StandsIn ps (i .standing)) (own-section m seen s g)
+  own-section-stands : (ps : List Slot) (s : Section) → StandsIn ps (m .name) s → (g : Signature) → Every (Stands ps) (own-section m seen s g)
   unfolding own-section own-sort own-function
   own-section-stands ps s h g =
-      every-append (λ i. StandsIn ps (i .standing)) (map (own-sort m seen s) (g .sorts)) (map (own-function m seen s) (g .functions))
-      (all-made (λ i. StandsIn ps (i .standing)) (own-sort m seen s) (λ a. h) (g .sorts))
-      (all-made (λ i. StandsIn ps (i .standing)) (own-function m seen s) (λ f. h) (g .functions))
+      every-append (Stands ps) (map (own-sort m seen s) (g .sorts)) (map (own-function m seen s) (g .functions))
+      (all-made (Stands ps) (own-sort m seen s) (λ a. h) (g .sorts)) (all-made (Stands ps) (own-function m seen s) (λ f. h) (g .functions))
 
-  own-parameters-stand : (ps : List Name) (qs : List Parameter) → ((q : Parameter) → List·Memᴰ q qs → List·Memᴰ (q .name) ps)
-      → Every (λ i. StandsIn ps (i .standing)) (each (λ (p : Parameter). own-section m seen (parameter-section (p .name)) (p .signature)) qs)
-  unfolding each
+  own-parameters-stand : (ps : List Slot) (qs : List Parameter) → ((q : Parameter) → List·Memᴰ q qs → List·Memᴰ (own-slot m seen q) ps)
+      → Every (Stands ps) (each (λ (p : Parameter). own-section m seen (parameter-section (p .name)) (p .signature)) qs)
+  unfolding each own-slot
   own-parameters-stand ps [] h = tt
   own-parameters-stand ps (q ∷ qs) h =
-      every-append (λ i. StandsIn ps (i .standing)) (own-section m seen (parameter-section (q .name)) (q .signature)) _
+      every-append (Stands ps) (own-section m seen (parameter-section (q .name)) (q .signature)) _
       (own-section-stands ps (parameter-section (q .name)) (h q (List·Memᴰ·head refl)) (q .signature))
       (own-parameters-stand ps qs (λ r k. h r (List·Memᴰ·tail k)))
 
-  own-visible-stands : Every (λ i. StandsIn (map (λ (p : Parameter). p .name) (m .parameters)) (i .standing)) (own-visible m seen .items)
+  own-visible-stands : Every (Stands (own-visible m seen .parameters)) (own-visible m seen .items)
   unfolding own-visible
   own-visible-stands =
-      let ps = map (λ (p : Parameter). p .name) (m .parameters) in
-      every-append (λ i. StandsIn ps (i .standing))
-      (each (λ (p : Parameter). own-section m seen (parameter-section (p .name)) (p .signature)) (m .parameters))
-      (own-section m seen export-section (m .exports))
-      (own-parameters-stand ps (m .parameters) (λ q k. member-map-to (λ (p : Parameter). p .name) k))
+      let ps = map (own-slot m seen) (m .parameters) in
+      every-append (Stands ps) (each (λ (p : Parameter). own-section m seen (parameter-section (p .name)) (p .signature)) (m .parameters))
+      (own-section m seen export-section (m .exports)) (own-parameters-stand ps (m .parameters) (λ q k. member-map-to (own-slot m seen) k))
       (own-section-stands ps export-section tt (m .exports))
 
   -- a name of M's own hidden sorts is one of its hidden items
@@ -402,11 +398,11 @@ in-order-sound n s =
     let is = n .hidden .items in
     let d = sorted-rearranged (hidden-order (sorts-in-order is)) is in
     record {
-      parameters = rearranged-every Plain (sorted-rearranged _ (n .visible .parameters)) (s .parameters);
+      parameters = rearranged-every (λ p. Plain (p .name)) (sorted-rearranged _ (n .visible .parameters)) (s .parameters);
       standing =
           rearranged-every _ (sorted-rearranged visible-order (n .visible .items))
-          (all-stand (n .visible .parameters) (by-name (λ (p : Name). p) (n .visible .parameters)) (n .visible .items)
-          (λ p m. rearranged-member (sorted-rearranged (λ (v w : Name). not-after v w) (n .visible .parameters)) m) (s .standing));
+          (all-stand (n .visible .parameters) (by-name (λ (p : Slot). p .name) (n .visible .parameters)) (n .visible .items)
+          (λ p m. rearranged-member (sorted-rearranged (λ (p q : Slot). not-after (p .name) (q .name)) (n .visible .parameters)) m) (s .standing));
       visible = rearranged-every SoundVisible (sorted-rearranged visible-order (n .visible .items)) (s .visible);
       hidden =
           rearranged-every (SoundHidden (items-in-order is)) d
@@ -432,7 +428,7 @@ pub record Accepted (k : Normal) : Type 0 where
   pub ordered : k ≡ in-order found
   pub told : ItemsTold found
   pub whole : Whole k
-  pub parameters : Pairwise (λ p q. same p q ≡ false) (k .visible .parameters)
+  pub parameters : Pairwise (λ p q. same (p .name) (q .name) ≡ false) (k .visible .parameters)
   pub outputs : OneOutput (k .visible .items)
   pub few : Few k
 
@@ -460,9 +456,9 @@ module _ (m : Module) (plain : PlainModule m) (n : Normal) (whole : Whole n) whe
   own-part es = record { visible = own-visible m own-seen; hidden = record { items = own-hidden-items m own-seen; equations = es } }
 
   own-part-sound : (es : List ResolvedEquation) → Every PlainEquation es → available-sorts m own-seen ≡ fine tt → Sound (own-part es)
-  unfolding own-part own-visible
+  unfolding own-part own-visible own-slot
   own-part-sound es p a = record {
-    parameters = every-map PlainParameter Plain (λ (q : Parameter). q .name) (λ q h. h .name) (m .parameters) (plain .parameters);
+    parameters = every-map PlainParameter (λ p. Plain (p .name)) (own-slot m own-seen) (λ q h. h .name) (m .parameters) (plain .parameters);
     standing = own-visible-stands m plain own-seen;
     visible = own-visible-sound m plain own-seen a;
     hidden = own-hidden-sound m plain own-seen;
@@ -473,8 +469,10 @@ module _ (m : Module) (plain : PlainModule m) (n : Normal) (whole : Whole n) whe
   all-of es = record { visible = joined-visible m (n .visible); hidden = joined-hidden m own-seen (n .hidden) es }
 
   all-sound : (es : List ResolvedEquation) → Every PlainEquation es → available-sorts m own-seen ≡ fine tt → Sound (all-of es)
-  unfolding all-of own-part joined-visible joined-hidden unite
-  all-sound es p a = unite-sound n (own-part es) (whole .sound) (own-part-sound es p a)
+  unfolding all-of own-part joined-visible joined-hidden together
+  all-sound es p a =
+      let s = own-part-sound es p a in
+      together-sound n (own-part es) (own-visible m own-seen .parameters) (s .parameters) (λ q k. Memᴰ·append-right (n .visible .parameters) k) (whole .sound) s
 
   abbrev all-visible : List Item
   all-visible = joined-visible m (n .visible) .items
@@ -492,7 +490,7 @@ module _ (m : Module) (plain : PlainModule m) (n : Normal) (whole : Whole n) whe
       every-append _ all-visible own
       (every-of _ all-visible (λ i k. inl (
         k,
-        every-member (λ j. StandsIn (joined-visible m (n .visible) .parameters) (j .standing)) all-visible (s .standing) i k,
+        every-member (Stands (joined-visible m (n .visible) .parameters)) all-visible (s .standing) i k,
         every-member SoundVisible all-visible (s .visible) i k .kind,
       )))
       (every-of _ own (λ i k. inr (
@@ -508,7 +506,7 @@ module _ (m : Module) (plain : PlainModule m) (n : Normal) (whole : Whole n) whe
   own-made a home = equations-typed _ all-visible all-hidden _ (known-reach a) home 0 (m .equations) (plain .tags)
 
   all-whole : (es : List ResolvedEquation) → Every OwnMade es → available-sorts m own-seen ≡ fine tt → Whole (all-of es)
-  unfolding all-of joined-visible joined-hidden unite-visible unite-hidden
+  unfolding all-of joined-visible joined-hidden unite-hidden
   all-whole es d a =
       let vs = n .visible .items in
       let ws = own-visible m own-seen .items in
@@ -540,7 +538,7 @@ module _ (m : Module) (plain : PlainModule m) (n : Normal) (whole : Whole n) whe
         few = in-order-few (all-of es) few;
       }
 
-  joined-own-accepted : (home : ℕ) (total : Size) → Gives Accepted (joined-own home total m n)
+  pub joined-own-accepted : (home : ℕ) (total : Size) → Gives Accepted (joined-own home total m n)
   unfolding joined-own own-checks all-of
   joined-own-accepted home total =
       gives-then Accepted _ _ (λ c.
@@ -576,7 +574,7 @@ in-turn-accepted declared env last (x ∷ xs) s a h =
     go (fine n) b i = i n b
     go (stop k w) b i = tt
 
-reached-plain : (asked : Name) (k : ℕ) (earlier : List Name) (ms : List Module) → Every PlainModule ms
+pub reached-plain : (asked : Name) (k : ℕ) (earlier : List Name) (ms : List Module) → Every PlainModule ms
     → Every (λ x. PlainModule (x .self)) (reached-among asked k earlier ms)
 unfolding reached-among
 reached-plain asked k earlier [] h = tt
@@ -589,7 +587,7 @@ unfolding empty nothing-visible nothing-hidden in-order visible-in-order hidden-
 empty-accepted = record {
   found = empty;
   ordered = refl;
-  told = record { visible = λ a b m. elim m [ ]; hidden = λ a b m. elim m [ ] };
+  told = record { parameters = λ p q m. elim m [ ]; visible = λ a b m. elim m [ ]; hidden = λ a b m. elim m [ ] };
   whole = empty-whole;
   parameters = tt;
   outputs = λ a b t u m. elim m [ ];
@@ -621,7 +619,7 @@ call-accepted asked ms count n plain e = go (member asked (module-names ms)) ref
     }
     go false q e = let z : _≡_ {A = ℕ} 0 1 = cc in absurd (omega arith)
 
--- two accepted normal forms with one listing have the same visible items, the same parameters, the same hidden items, and the same
+-- two accepted normal forms with one listing have the same visible items, parameters of the same names, the same hidden items, and the same
 -- equations as written
 pub one-normal-form : (asked asked′ : Name) (n n′ : Normal) → AcceptedCall asked n → AcceptedCall asked′ n′
     → lines-text (listing-lines asked n) ≡ lines-text (listing-lines asked′ n′) → SameListed asked asked′ n n′

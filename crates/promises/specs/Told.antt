@@ -14,12 +14,10 @@ use Rattle.meaning.specs.Laws.{by-cases}
 use Rattle.meaning.specs.Lists.{pick, keep, first, before, each}
 use Rattle.meaning.specs.Tokens.{is-in, is-word}
 use Rattle.meaning.specs.Names.{bytes, Name, same, member, words}
-use Rattle.meaning.specs.Origins.{Section, export-section, parameter-section, hidden-section, Declared, declared-sort, declared-function, declared-variable, Origin, same-origin, Sort, visible-sort, hidden-sort, Shape, sort-shape, function-shape, variable-shape, is-sort, Item, ResolvedEquation}
-use Rattle.meaning.specs.Checks.{in-parameter}
+use Rattle.meaning.specs.Origins.{Section, export-section, parameter-section, hidden-section, Declared, declared-sort, declared-function, declared-variable, Origin, same-origin, Sort, visible-sort, hidden-sort, Shape, sort-shape, function-shape, variable-shape, is-sort, Item, in-parameter, ResolvedEquation}
 use Rattle.meaning.specs.Typing.{alone}
 use Rattle.meaning.specs.Syntax.{node, _then_}
-use Rattle.meaning.specs.Clauses.{formals}
-use Rattle.meaning.specs.Normal.{Visible, Normal, sorts-among}
+use Rattle.meaning.specs.Normal.{Slot, Visible, Normal, slot-names, formals, sorts-among}
 use Rattle.meaning.specs.Written.{numbered, sort-text, type-text, function-type-text, origin-text, shape-text, equation-text, shape-rank}
 use Rattle.meaning.specs.Listing.{is-exported, visible-lines, Line, origin-line, kind-key, item-line, exported-lines, formal-lines, parameter-lines, hidden-item-lines, line, lines-text, equation-line, hidden-lines, listing-lines}
 use Rattle.promises.specs.ListingLaws.{first-of, rest-of, not-empty, Within, StartsOutside, starts, told-run, in-name, Plain, PlainOrigin, told-origin, origins-of, SortIn, ShapeIn, told-shape, every-so, every-append, key-letter, Separable, told-lines, all-pass, within-by, before-map, OneLine, in-line-then, plain-in-line, number-in-line, origin-in-line, shape-in-line, PlainEquation, equation-in-line}
@@ -51,15 +49,18 @@ pub record SoundHidden (hidden : List Item) (i : Item) : Type 0 where
   pub shape : ShapeIn (sorts-among hidden) (i .shape)
   pub origin : PlainOrigin (i .origin)
 
--- exported or inherited, or in one of the parameters
-abbrev pub StandsIn : List Name → Section → Type 0
-StandsIn ps export-section = Unit {0}
-StandsIn ps hidden-section = ⊥
-StandsIn ps (parameter-section p) = List·Memᴰ p ps
+-- exported or inherited, or in one of the parameters, declared by the module that the item comes from
+abbrev pub StandsIn : List Slot → Name → Section → Type 0
+StandsIn ps home export-section = Unit {0}
+StandsIn ps home hidden-section = ⊥
+StandsIn ps home (parameter-section p) = List·Memᴰ (record { name = p; home = home }) ps
+
+abbrev pub Stands : List Slot → Item → Type 0
+Stands ps i = StandsIn ps (i .origin .home) (i .standing)
 
 pub record Sound (n : Normal) : Type 0 where
-  pub parameters : Every Plain (n .visible .parameters)
-  pub standing : Every (λ i. StandsIn (n .visible .parameters) (i .standing)) (n .visible .items)
+  pub parameters : Every (λ p. Plain (p .name)) (n .visible .parameters)
+  pub standing : Every (Stands (n .visible .parameters)) (n .visible .items)
   pub visible : Every SoundVisible (n .visible .items)
   pub hidden : Every (SoundHidden (n .hidden .items)) (n .hidden .items)
   pub equations : Every PlainEquation (n .hidden .equations)
@@ -315,18 +316,24 @@ module _ (v v′ : Visible) (sound : Every SoundVisible (v .items)) (sound′ : 
       let more = told-parameters ps qs us us′ o o′ f f′ (a .1) in
       (ap₂ _∷_ names (more .0), (here ∙ ap (λ w. formals w v′) (sym names), more .1), more .2)
 
+-- what holds of each name
+pub every-named : (P : Name → Type 0) (ps : List Slot) → Every (λ p. P (p .name)) ps → Every P (slot-names ps)
+unfolding slot-names
+every-named P [] h = tt
+every-named P (p ∷ ps) h = (h .0, every-named P ps (h .1))
+
 -- ---- what a listing tells
 
 abbrev pub exported-of : Visible → List Item
 exported-of v = keep (λ (i : Item). is-exported (i .standing)) (v .items)
 
--- the asked module, the exported or inherited items, the parameters, the items of each, the hidden items, and the equations as written:
--- not their modules and positions, and of a visible function at a node its name, not its type
+-- the asked module, the exported or inherited items, the parameters' names, the items of each, the hidden items, and the equations as
+-- written: not their modules and positions, and of a visible function at a node its name, not its type
 pub record SameListed (m m′ : Name) (n n′ : Normal) : Type 0 where
   pub asked : m ≡ m′
   pub exported : exported-of (n .visible) ≡ exported-of (n′ .visible)
-  pub parameters : n .visible .parameters ≡ n′ .visible .parameters
-  pub inside : Every (λ p. formals p (n .visible) ≡ formals p (n′ .visible)) (n .visible .parameters)
+  pub parameters : slot-names (n .visible .parameters) ≡ slot-names (n′ .visible .parameters)
+  pub inside : Every (λ p. formals p (n .visible) ≡ formals p (n′ .visible)) (slot-names (n .visible .parameters))
   pub hidden : n .hidden .items ≡ n′ .hidden .items
   pub equations : map (equation-text (n .hidden .items)) (n .hidden .equations) ≡ map (equation-text (n′ .hidden .items)) (n′ .hidden .equations)
 
@@ -335,7 +342,7 @@ abbrev exported-part : Normal → List Line
 exported-part n = each exported-lines (exported-of (n .visible))
 
 abbrev parameter-part : Normal → List Line
-parameter-part n = each (parameter-lines (n .visible)) (n .visible .parameters)
+parameter-part n = each (parameter-lines (n .visible)) (slot-names (n .visible .parameters))
 
 abbrev hidden-part : Normal → List Line
 hidden-part n = hidden-item-lines (n .hidden .items) 1 (n .hidden .items)
@@ -370,7 +377,7 @@ after-exported : (m : Name) (n : Normal)
 unfolding member words same pick
 after-exported m n =
     outside-append (keyed "sort function origin") (parameter-part n) (hidden-part n ++ (equation-part n ++ end-part m))
-    (parameters-outside (n .visible) "sort function origin" (n .visible .parameters) refl)
+    (parameters-outside (n .visible) "sort function origin" (slot-names (n .visible .parameters)) refl)
     (after-parameters "sort function origin" m n refl refl refl refl refl)
 
 equation-values : (hidden : List Item) (es : List ResolvedEquation)
@@ -380,7 +387,8 @@ equation-values hidden [] = refl
 equation-values hidden (e ∷ es) = ap (equation-text hidden e ∷_) (equation-values hidden es)
 
 module _ (m m′ : Name) (n n′ : Normal) (sound : Sound n) (sound′ : Sound n′) (few : Few n) where
-  -- the lines of a listing tell the normal form, but for the equations' modules and positions and what stands at a node besides its name
+  -- the lines of a listing tell the normal form, but for the parameters' modules, the equations' modules and positions, and what stands at a
+  -- node besides its name
   pub told-by-lines : listing-lines m n ≡ listing-lines m′ n′ → SameListed m m′ n n′
   unfolding keyed member words same pick
   told-by-lines e =
@@ -394,7 +402,8 @@ module _ (m m′ : Name) (n n′ : Normal) (sound : Sound n) (sound′ : Sound n
       (parameter-part n′ ++ (hidden-part n′ ++ (equation-part n′ ++ end-part m′))) (exported-keyed (exported-of (n .visible)) kept)
       (exported-keyed (exported-of (n′ .visible)) kept′) (after-exported m n) (after-exported m′ n′) (rest-of f) in
       let b =
-      told-parameters (n .visible) (n′ .visible) (sound .visible) (sound′ .visible) (n .visible .parameters) (n′ .visible .parameters)
+      told-parameters (n .visible) (n′ .visible) (sound .visible) (sound′ .visible) (slot-names (n .visible .parameters))
+      (slot-names (n′ .visible .parameters))
       (hidden-part n ++ (equation-part n ++ end-part m)) (hidden-part n′ ++ (equation-part n′ ++ end-part m′))
       (after-parameters "parameter" m n refl refl refl refl refl) (after-parameters "parameter" m′ n′ refl refl refl refl refl)
       (after-parameters "parameter-sort parameter-function origin" m n refl refl refl refl refl)
@@ -495,7 +504,8 @@ listing-separable m n g s =
           (every-each Separable SoundVisible exported-lines exported-separable (exported-of (n .visible))
           (every-keep SoundVisible (λ (i : Item). is-exported (i .standing)) (n .visible .items) (s .visible)))
           (every-append Separable (parameter-part n) _
-          (every-each Separable Plain (parameter-lines (n .visible)) (parameter-separable (n .visible) (s .visible)) (n .visible .parameters) (s .parameters))
+          (every-each Separable Plain (parameter-lines (n .visible)) (parameter-separable (n .visible) (s .visible)) (slot-names (n .visible .parameters))
+          (every-named Plain (n .visible .parameters) (s .parameters)))
           (every-append Separable (hidden-part n) _ (hidden-separable (n .hidden .items) 1 (n .hidden .items) (s .hidden))
           (every-append Separable (equation-part n) (end-part m) (equations-separable (n .hidden .items) (n .hidden .equations) (s .equations))
           (separable "end" refl (plain-in-line m g), tt)))),

@@ -10,10 +10,9 @@ use borrow.Author.Tests.{not-true, not-false}
 use Rattle.meaning.specs.Lists.{pick, keep, any, union}
 use Rattle.meaning.specs.Names.{Name, same, member, not-after, lesser, least}
 use Rattle.meaning.specs.Syntax.{Pair}
-use Rattle.meaning.specs.Origins.{FunctionType, Shape, function-shape, same-shape, Item, one-item, one-equation}
-use Rattle.meaning.specs.Normal.{Visible, Normal, names-in, is-called, unite-visible, unite-hidden, unite, move-type, move-item, move-hidden-item, move-equation, move-visible, move-hidden, move}
-use Rattle.meaning.specs.Checks.{in-parameter}
-use Rattle.meaning.specs.Clauses.{paired, otherwise, renaming, formals, new-sort, new-function, sorts-right, shape-right, pair-right, wrong-pair, unpaired, without-visible, without}
+use Rattle.meaning.specs.Origins.{FunctionType, Shape, function-shape, same-shape, Item, in-parameter, one-item, one-equation}
+use Rattle.meaning.specs.Normal.{Visible, Normal, names-in, is-called, formals, unite-visible, unite-hidden, unite, move-type, move-item, move-hidden-item, move-equation, move-visible, move-hidden, move}
+use Rattle.meaning.specs.Clauses.{paired, otherwise, renaming, new-sort, new-function, sorts-right, shape-right, pair-right, wrong-pair, unpaired, without-visible, without}
 use Rattle.meaning.specs.OrderLaws.{Every, any-none, same-equal, same-self}
 use Rattle.promises.specs.ListingLaws.{both-true, shape-equal, shape-self}
 use Rattle.promises.specs.Sound.{any-found, any-passes, every-member, every-union, member-keep, member-map-to, union-left, union-right}

@@ -11,12 +11,12 @@ use Rattle.meaning.specs.Lists.{first, or-else}
 use Rattle.meaning.specs.Names.{Name}
 use Rattle.meaning.specs.Syntax.{Term, node, Terms, no-terms, _then_, Sides, Equation, conditions-of}
 use Rattle.meaning.specs.Origins.{Section, export-section, hidden-section, parameter-section, Sort, same-sort, FunctionType, Head, visible-head, hidden-head, ResolvedTerm, var, app, ResolvedTerms, none-left, _and-then_, ResolvedSides, ResolvedEquation, Shape, sort-shape, function-shape, variable-shape, Item}
-use Rattle.meaning.specs.Normal.{is-called}
+use Rattle.meaning.specs.Normal.{Slot, is-called}
 use Rattle.meaning.specs.Typing.{Typed, TypedList, head-of, of-shape, found-with, no-arguments, takes, is-variable, joined-typed, equated, joined-sides, made-equation, applied, alone, with-arguments, typed, typed-list, typed-sides, typed-conditions, typed-equations}
 use Rattle.meaning.specs.Written.{shape-rank}
 use Rattle.meaning.specs.OrderLaws.{Every}
 use Rattle.promises.specs.ListingLaws.{Plain, PlainEquation, PlainHead, PlainSides, PlainTerm, PlainTerms, agree-equal, both-true, every-so, sort-equal}
-use Rattle.promises.specs.Told.{StandsIn}
+use Rattle.promises.specs.Told.{Stands, StandsIn}
 use Rattle.promises.specs.Sound.{Gives, every-member, gives-bound, no-variable}
 use Rattle.promises.specs.WellTyped.{From, TypedEquation, TypedHead, TypedSides, TypedTerm, TypedTerms, head-type, sort-of, sorts-of}
 
@@ -67,17 +67,17 @@ first-found {A} p (x ∷ xs) =
     later none h = tt
     later (some y) h = (List·Memᴰ·tail (h .0), h .1)
 
-module _ (parameters : List Name) (visible hidden : List Item) where
+module _ (parameters : List Slot) (visible hidden : List Item) where
   -- an item in reach of the text: a visible one, which is no variable, or a hidden one
   abbrev pub InReach : Item → Type 0
-  InReach i = (List·Memᴰ i visible × StandsIn parameters (i .standing) × (shape-rank (i .shape) ≤ 1)) ⊎ (List·Memᴰ i hidden × (i .standing ≡ hidden-section))
+  InReach i = (List·Memᴰ i visible × Stands parameters i × (shape-rank (i .shape) ≤ 1)) ⊎ (List·Memᴰ i hidden × (i .standing ≡ hidden-section))
 
   found-head : (i : Item) (t : FunctionType) → InReach i → i .shape ≡ function-shape t
       → TypedHead visible hidden (head-of (i .standing) (i .name) (i .origin) t)
   unfolding head-of
   found-head i t (inl v) e = go (i .standing) (v .1)
     where
-      go : (s : Section) → StandsIn parameters s → TypedHead visible hidden (head-of s (i .name) (i .origin) t)
+      go : (s : Section) → StandsIn parameters (i .origin .home) s → TypedHead visible hidden (head-of s (i .name) (i .origin) t)
       go export-section h = (i, v .0, refl, e)
       go hidden-section h = absurd h
       go (parameter-section p) h = (i, v .0, refl, e)

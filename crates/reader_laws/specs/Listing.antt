@@ -8,8 +8,7 @@ use Rattle.meaning.specs.Lists.{pick, each}
 use Rattle.meaning.specs.Names.{bytes, Name, same, member, words}
 use Rattle.meaning.specs.Tokens.{number-in}
 use Rattle.meaning.specs.Origins.{Shape, sort-shape, function-shape, variable-shape, Origin, Item, ResolvedEquation}
-use Rattle.meaning.specs.Normal.{Visible, Hidden, Normal}
-use Rattle.meaning.specs.Clauses.{formals}
+use Rattle.meaning.specs.Normal.{Visible, Hidden, Normal, slot-names, formals}
 use Rattle.meaning.specs.Trials.{Every}
 use Rattle.meaning.specs.Listing.{Line, line, lines-text, origin-line, kind-key, exported-lines, formal-lines, parameter-lines, visible-lines, hidden-item-lines, equation-line, hidden-lines, listing-lines, visible-keys}
 use Rattle.meaning.specs.Reader.{listing-keys}
@@ -82,7 +81,7 @@ shows-known : (v : Visible) → Every Known (visible-lines v)
 unfolding visible-lines
 shows-known v =
     every-append Known _ _ (every-made Known exported-lines exported-known _)
-    (every-made Known (parameter-lines v) (parameter-known v) (v .parameters))
+    (every-made Known (parameter-lines v) (parameter-known v) (slot-names (v .parameters)))
 
 hides-known : (h : Hidden) → Every Known (hidden-lines h)
 unfolding hidden-lines

@@ -7,8 +7,7 @@ use mathlib.Core.List.{List, [], _∷_, _++_, map, append-assoc}
 use Rattle.meaning.specs.Lists.{pick, keep, each}
 use Rattle.meaning.specs.Names.{bytes, Name, same, member}
 use Rattle.meaning.specs.Origins.{Shape, sort-shape, function-shape, variable-shape, Origin, Item, ResolvedEquation}
-use Rattle.meaning.specs.Normal.{Visible, Hidden, Normal}
-use Rattle.meaning.specs.Clauses.{formals}
+use Rattle.meaning.specs.Normal.{Visible, Hidden, Normal, slot-names, formals}
 use Rattle.meaning.specs.Trials.{Every}
 use Rattle.meaning.specs.Listing.{Line, line, lines-text, origin-line, kind-key, exported-lines, formal-lines, is-exported, parameter-lines, visible-lines, hidden-item-lines, equation-line, hidden-lines, listing-lines, visible-keys, shown}
 use Rattle.listing_reader.specs.Places.{key-number}
@@ -112,8 +111,9 @@ visible-front : (v : Visible) → Every Sort-or-function (v .items) → (rest : 
 unfolding visible-lines
 visible-front v e rest s =
     let exported = keep (λ (i : Item). is-exported (i .standing)) (v .items) in
-    let parameters = settled-each (λ (p : Name). Unit {0}) (parameter-lines v) (λ p u. parameter-front v e p) (v .parameters) (every-one (v .parameters)) rest s in
-    subst Settled (sym (append-assoc (each exported-lines exported) (each (parameter-lines v) (v .parameters)) rest))
+    let ps = slot-names (v .parameters) in
+    let parameters = settled-each (λ (p : Name). Unit {0}) (parameter-lines v) (λ p u. parameter-front v e p) ps (every-one ps) rest s in
+    subst Settled (sym (append-assoc (each exported-lines exported) (each (parameter-lines v) ps) rest))
     (settled-each Sort-or-function exported-lines exported-front exported (every-kept Sort-or-function _ (v .items) e) _ parameters)
 
 -- ---- the back: none of it leads, and none is shown

@@ -1,86 +1,36 @@
 -- Two normal forms that are alike: the second has the items and equations of the first under a change of names, in whatever order. What an
 -- import expression makes of the one, where it accepts it, and of the other are alike.
 use mathlib.Core.Path.{_≡_, refl, sym, ap, ap₂, subst, _∙_}
-use mathlib.Core.Logic.{_⊎_, ⊎-elim}
 use Prim.Native.Nat.{ℕ, _+_}
 use native.Mathlib.Omega.{arith}
 use mathlib.Core.Bool.{Bool, true, false, not, _&&_, true≢false, false≢true}
 use mathlib.Core.Option.{Option, none, some, Option·map}
-use mathlib.Core.List.{List, [], _∷_, _++_, map, map-append, List·Memᴰ, List·Memᴰ·head, List·Memᴰ·tail, List·Memᴰ·cases-cons, List·Permᴰ·nil, List·Permᴰ·trans, Permᴰ·map, Permᴰ·append-right, Permᴰ·append-left, Memᴰ·append-left}
+use mathlib.Core.List.{List, [], _∷_, map, Permᴰ·map}
 use lib.ListN.{length}
 use Rattle.meaning.specs.Laws.{by-cases}
-use Rattle.meaning.specs.Lists.{pick, keep, any, first, sum, union}
+use Rattle.meaning.specs.Lists.{pick, keep, any, sum, union}
 use Rattle.meaning.specs.Names.{Name, same, not-after, member, least, lesser}
 use Rattle.meaning.specs.Numbers.{bad-parameter, bad-binding}
 use Rattle.meaning.specs.Syntax.{Pair}
-use Rattle.meaning.specs.Origins.{Origin, Sort, visible-sort, hidden-sort, FunctionType, ResolvedTerm, var, app, ResolvedTerms, none-left, _and-then_, ResolvedSides, ResolvedEquation, Shape, sort-shape, function-shape, variable-shape, same-shape, is-sort, Item, one-item, one-equation}
-use Rattle.meaning.specs.Normal.{Visible, Normal, names-in, sorts-among, sort-names, is-called, unite-visible, unite-hidden, unite, move-type, move-item, move-hidden-item, move-equation, move-visible, move-hidden, move}
-use Rattle.meaning.specs.Checks.{Outcome, fine, stop, _>>_, unless, least-at-odds, other-origin, sorts-clash, functions-clash, other-output, both-in-one, overloaded, consistent, term-nodes, terms-nodes, sides-nodes, equation-nodes, size, room, checked}
-use Rattle.meaning.specs.Clauses.{paired, otherwise, renaming, may-name, renames, wrong-renaming, rename, origin-of-item, origin-of, same-origins, is-among, formals, is-formal-sort, new-sort, new-function, sort-right, sorts-right, shape-right, pair-right, wrong-pair, unpaired, without-visible, without, bound-to, bind}
-use Rattle.meaning.specs.OrderLaws.{Every, Rearranged, rearranged-length, rearranged-every, pairwise-rearranged, any-none, none-least-at-odds, same-equal, same-self}
+use Rattle.meaning.specs.Origins.{Origin, Sort, visible-sort, hidden-sort, FunctionType, ResolvedTerm, var, app, ResolvedTerms, none-left, _and-then_, ResolvedSides, ResolvedEquation, Shape, sort-shape, function-shape, variable-shape, same-shape, Item, one-equation}
+use Rattle.meaning.specs.Normal.{Slot, Visible, Normal, names-in, sort-names, is-called, origin-of, slot-names, formals, unite-hidden, unite, move-type, move-item, move-hidden-item, move-equation, move-visible, move-hidden, move}
+use Rattle.meaning.specs.Checks.{Outcome, fine, stop, _>>_, unless, consistent, term-nodes, terms-nodes, sides-nodes, equation-nodes, size, room, checked}
+use Rattle.meaning.specs.Clauses.{paired, otherwise, renaming, may-name, renames, wrong-renaming, rename, same-origins, is-among, is-formal-sort, new-sort, new-function, sort-right, sorts-right, shape-right, pair-right, wrong-pair, unpaired, without-visible, without, bound-to, bind}
+use Rattle.meaning.specs.OrderLaws.{Every, Rearranged, rearranged-length, rearranged-every, any-none}
 use Rattle.meaning.specs.Mirror.{then-fine, unless-fine, fine-same}
-use Rattle.promises.specs.ListingLaws.{origin-equal, item-equal, both-true}
-use Rattle.promises.specs.Sound.{compatible, every-map, every-union}
-use Rattle.promises.specs.SameListing.{kept-member}
+use Rattle.promises.specs.ListingLaws.{both-true}
+use Rattle.promises.specs.SameListing.{keep-rearranged}
+use Rattle.promises.specs.Sound.{every-map, every-union}
 use Rattle.replacing.specs.Changing.{re-pair, re-origin, re-sort, re-type, re-shape, re-item, re-term, re-terms, re-sides, re-equation}
-use Rattle.replacing.specs.Exchanging.{map-twice, map-length, any-map, keep-map, first-map, pick-map, member-kept, origin-kept, sort-kept, sorts-kept, shape-kept, is-sort-kept, is-function-kept, called-kept, names-in-kept, items-united, equations-united, move-type-kept, move-item-kept, move-hidden-item-kept, move-equation-kept}
-use Rattle.replacing.specs.Reordering.{Tagged, item-self, test-symmetric, equation-equal, equations-symmetric, any-rearranged, keep-rearranged, sum-rearranged, first-image, union-rearranged, names-symmetric, sorts-clash-symmetric, functions-clash-symmetric, overloaded-symmetric, none-of, least-at-odds-none, pairwise-map}
+use Rattle.replacing.specs.Exchanging.{map-twice, map-length, any-map, pick-map, member-kept, origin-kept, shape-kept, called-kept, equations-united, move-type-kept, move-item-kept, move-hidden-item-kept, move-equation-kept}
+use Rattle.replacing.specs.Reordering.{Tagged, equation-equal, equations-symmetric, sum-rearranged, union-rearranged, none-of}
+use Rattle.replacing.specs.VisibleAlike.{member-rearranged, OneOrigin, consistent-clear, clear-one, Like, like, like-none, any-alike, keep-alike, AlikeVisible, sorts-alike, names-alike, sort-names-alike, member-alike, consistent-alike, formals-alike, origin-of-alike, items-union-alike, unite-visible-alike}
 
--- ---- names among names, in whatever order
-
-pub member-any : (w : Name) (ws : List Name) → member w ws ≡ any (same w) ws
-unfolding member any
-member-any w [] = refl
-member-any w (x ∷ ws) = ap (λ (r : Bool). pick (same w x) true r) (member-any w ws)
-
-pub member-rearranged : (w : Name) {ws vs : List Name} → Rearranged ws vs → member w ws ≡ member w vs
-member-rearranged w {ws} {vs} d = member-any w ws ∙ any-rearranged (same w) d ∙ sym (member-any w vs)
+-- ---- nothing is left, nothing is wrong
 
 nothing-left : {A : Type 0} (xs : List A) → Rearranged [] xs → xs ≡ []
 nothing-left [] d = refl
 nothing-left (x ∷ xs) d = let e = rearranged-length d in absurd (omega (arith, e))
-
--- two visible sorts of one name have one origin
-abbrev pub OneOrigin : List Item → Type 0
-OneOrigin is =
-    (a b : Item) → List·Memᴰ a is → List·Memᴰ b is → is-sort (a .shape) ≡ true → is-sort (b .shape) ≡ true → a .name ≡ b .name
-    → a .origin ≡ b .origin
-
-sorts-one : (a b : Item) → is-sort (a .shape) ≡ true → is-sort (b .shape) ≡ true → a .name ≡ b .name → sorts-clash a b ≡ false
-    → a .origin ≡ b .origin
-unfolding sorts-clash other-origin
-sorts-one a b p q n e = origin-equal (a .origin) (b .origin) (go _ (rw (p, q, n, same-self (b .name)) at e))
-  where
-    go : (x : Bool) → not x ≡ false → x ≡ true
-    go true e = refl
-    go false e = sym e
-
-pub consistent-one : (v : Visible) (own : List Item) → consistent v own ≡ fine tt → OneOrigin (v .items)
-unfolding consistent
-consistent-one v own c a b m k p q n =
-    let sorts = unless-fine _ _ (then-fine _ _ tt (then-fine _ _ tt c .1) .0) in
-    ⊎-elim (λ (e : a ≡ b). ap (λ (i : Item). i .origin) e)
-    (⊎-elim (λ r. sorts-one a b p q n r) (λ r. sym (sorts-one b a q p (sym n) r)))
-    (compatible sorts-clash (v .items ++ own) sorts a b (Memᴰ·append-left own m) (Memᴰ·append-left own k))
-
--- the second list has the items of the first under g, in whatever order
-pub record Like {A B : Type 0} (g : A → B) (xs : List A) (ys : List B) : Type 0 where
-  pub arranged : Rearranged (map g xs) ys
-
-pub like : {A B : Type 0} (g : A → B) (xs : List A) {rs ys : List B} → rs ≡ map g xs → Rearranged rs ys → Like g xs ys
-like g xs {rs} {ys} e d = record { arranged = subst (λ (r : List _). Rearranged r ys) e d }
-
-pub like-none : {A B : Type 0} (g : A → B) → Like g [] []
-like-none g = record { arranged = List·Permᴰ·nil }
-
-pub member-map-from : {A B : Type 0} (g : A → B) (xs : List A) {y : B} → List·Memᴰ y (map g xs) → (x : A) × List·Memᴰ x xs × (y ≡ g x)
-member-map-from g [] m = elim m [ ]
-member-map-from g (x ∷ xs) m =
-    ⊎-elim (λ e. (x, List·Memᴰ·head refl, e)) (λ k. let r = member-map-from g xs k in (r .0, List·Memᴰ·tail (r .1), r .2)) (List·Memᴰ·cases-cons m)
-
-kept-sort : (is : List Item) (i : Item) → List·Memᴰ i (sorts-among is) → List·Memᴰ i is × (is-sort (i .shape) ≡ true)
-unfolding sorts-among
-kept-sort is i m = kept-member (λ (x : Item). is-sort (x .shape)) is m
 
 least-none : (ws : List Name) → ws ≡ [] → least ws ≡ none
 unfolding least
@@ -96,10 +46,6 @@ none-least (w ∷ ws) e = go (least ws) e
     go (some v) e = by-cases (λ (x : Option Name). x ≡ none → w ∷ ws ≡ []) (not-after w v) (some w) (some v)
         (λ q f. let z : _≡_ {A = ℕ} 0 1 = cc in absurd (omega arith)) (λ q f. let z : _≡_ {A = ℕ} 0 1 = cc in absurd (omega arith)) e
 
-every-any : {A : Type 0} (xs : List A) → Every (λ x. Unit {0}) xs
-every-any [] = tt
-every-any (x ∷ xs) = (tt, every-any xs)
-
 pick-none : {A : Type 0} (b : Bool) (more : Option A) (a : A) → pick b more (some a) ≡ none → (b ≡ true) × (more ≡ none)
 unfolding pick
 pick-none true more a e = (refl, e)
@@ -110,100 +56,10 @@ not-true true e = absurd (false≢true e)
 not-true false e = refl
 
 module _ (τ : Name → Name) (keeps : (v w : Name) → same (τ v) (τ w) ≡ same v w) (tags : ℕ → ℕ → Name) where
-  pub record AlikeVisible (v v′ : Visible) : Type 0 where
-    pub parameters : Rearranged (v .parameters) (v′ .parameters)
-    pub items : Like (re-item τ) (v .items) (v′ .items)
-
   pub record Alike (n n′ : Normal) : Type 0 where
-    pub visible : AlikeVisible (n .visible) (n′ .visible)
+    pub visible : AlikeVisible τ keeps (n .visible) (n′ .visible)
     pub hidden-items : Like (re-item τ) (n .hidden .items) (n′ .hidden .items)
     pub equations : Like (re-equation τ) (n .hidden .equations) (n′ .hidden .equations)
-
-  -- ---- lists that are alike
-
-  module _ {A B : Type 0} (g : A → B) (p : B → Bool) (q : A → Bool) (h : (x : A) → p (g x) ≡ q x) {xs : List A} {ys : List B}
-      (d : Like g xs ys) where
-    pub any-alike : any p ys ≡ any q xs
-    any-alike = sym (any-rearranged p (d .arranged)) ∙ any-map g p q h xs
-
-    pub keep-alike : Like g (keep q xs) (keep p ys)
-    keep-alike = like g (keep q xs) (keep-map g p q h xs) (keep-rearranged p (d .arranged))
-
-  pub sorts-alike : {is is′ : List Item} → Like (re-item τ) is is′ → Like (re-item τ) (sorts-among is) (sorts-among is′)
-  unfolding sorts-among re-item
-  sorts-alike d = keep-alike (re-item τ) _ _ (λ i. is-sort-kept τ keeps (i .shape)) d
-
-  pub names-alike : {is is′ : List Item} → Like (re-item τ) is is′ → Like τ (names-in is) (names-in is′)
-  unfolding names-in
-  names-alike {is} {is′} d = like τ (names-in is) (names-in-kept τ keeps is) (Permᴰ·map (λ (i : Item). i .name) (d .arranged))
-
-  pub sort-names-alike : {v v′ : Visible} → AlikeVisible v v′ → Like τ (sort-names v) (sort-names v′)
-  unfolding sort-names
-  sort-names-alike a = names-alike (sorts-alike (a .items))
-
-  pub member-alike : (w : Name) {ws ws′ : List Name} → Like τ ws ws′ → member (τ w) ws′ ≡ member w ws
-  member-alike w {ws} d = sym (member-rearranged (τ w) (d .arranged)) ∙ member-kept τ keeps w ws
-
-  -- ---- the checks after each clause and union
-
-  clash-kept : (a b : Item) → sorts-clash (re-item τ a) (re-item τ b) ≡ sorts-clash a b
-  unfolding sorts-clash other-origin re-item
-  clash-kept a b =
-      rw (is-sort-kept τ keeps (a .shape), is-sort-kept τ keeps (b .shape), keeps (a .name) (b .name), origin-kept τ keeps (a .origin) (b .origin))
-
-  functions-kept : (a b : Item) → functions-clash (re-item τ a) (re-item τ b) ≡ functions-clash a b
-  unfolding functions-clash other-origin re-item
-  functions-kept a b =
-      rw (
-        is-function-kept τ keeps (a .shape),
-        shape-kept τ keeps (a .shape) (b .shape),
-        keeps (a .name) (b .name),
-        origin-kept τ keeps (a .origin) (b .origin),
-      )
-
-  output-kept : (s t : Shape) → other-output (re-shape τ s) (re-shape τ t) ≡ other-output s t
-  unfolding other-output re-shape re-type
-  output-kept sort-shape t = refl
-  output-kept (variable-shape s) t = refl
-  output-kept (function-shape t) sort-shape = refl
-  output-kept (function-shape t) (variable-shape s) = refl
-  output-kept (function-shape t) (function-shape u) =
-      rw (sorts-kept τ keeps (t .inputs) (u .inputs), sort-kept τ keeps (t .output) (u .output))
-
-  overloaded-kept : (a b : Item) → overloaded (re-item τ a) (re-item τ b) ≡ overloaded a b
-  unfolding overloaded both-in-one re-item
-  overloaded-kept a b =
-      rw (keeps (a .name) (b .name), output-kept (a .shape) (b .shape), is-function-kept τ keeps (a .shape), is-function-kept τ keeps (b .shape))
-
-  none-alike : (wrong : Item → Item → Bool) → ((a b : Item) → wrong a b ≡ wrong b a)
-      → ((a b : Item) → wrong (re-item τ a) (re-item τ b) ≡ wrong a b) → {is is′ : List Item} → Like (re-item τ) is is′
-      → least-at-odds (λ (i : Item). i .name) wrong is ≡ none → least-at-odds (λ (i : Item). i .name) wrong is′ ≡ none
-  none-alike wrong symmetric kept {is} {is′} d e =
-      least-at-odds-none (λ (i : Item). i .name) wrong symmetric is′
-      (pairwise-rearranged (λ x y. wrong x y ≡ false) (λ a b q. symmetric b a ∙ q) (d .arranged)
-      (pairwise-map (λ x y. wrong x y ≡ false) (λ x y. wrong x y ≡ false) (re-item τ) (λ a b q. kept a b ∙ q) is
-      (none-least-at-odds (λ (i : Item). i .name) wrong symmetric is e)))
-
-  pub consistent-alike : {v v′ : Visible} → AlikeVisible v v′ → (own : List Item) → consistent v own ≡ fine tt
-      → consistent v′ (map (re-item τ) own) ≡ fine tt
-  unfolding consistent _>>_ unless
-  consistent-alike {v} {v′} a own c =
-      let p = then-fine _ _ tt c in
-      let s = then-fine _ _ tt (p .1) in
-      let f = then-fine _ _ tt (s .1) in
-      let d =
-      like (re-item τ) (v .items ++ own) (sym (map-append (re-item τ) (v .items) own))
-      (Permᴰ·append-right (map (re-item τ) own) (a .items .arranged)) in
-      let once =
-      least-at-odds-none (λ (q : Name). q) same names-symmetric (v′ .parameters)
-      (pairwise-rearranged (λ x y. same x y ≡ false) (λ x y q. names-symmetric y x ∙ q) (a .parameters)
-      (none-least-at-odds (λ (q : Name). q) same names-symmetric (v .parameters) (unless-fine _ _ (p .0)))) in
-      rw (
-        once,
-        none-alike sorts-clash sorts-clash-symmetric clash-kept d (unless-fine _ _ (s .0)),
-        none-alike functions-clash functions-clash-symmetric functions-kept d (unless-fine _ _ (f .0)),
-        none-alike overloaded overloaded-symmetric overloaded-kept d (unless-fine _ _ (f .1)),
-      )
 
   -- ---- room
 
@@ -269,22 +125,15 @@ module _ (τ : Name → Name) (keeps : (v w : Name) → same (τ v) (τ w) ≡ s
       let r = then-fine (room n) (fine n) k (c .1) in
       let q : n ≡ k = fine-same n k (r .1) in (
         n′,
-        rw (consistent-alike (a .visible) [] (c .0), room-alike a, r .0),
+        rw (consistent-alike τ keeps (a .visible) [] (c .0), room-alike a, r .0),
         record {
           alike = subst (λ (x : Normal). Alike x n′) q a;
-          one = subst (λ (x : Normal). OneOrigin (x .visible .items)) q (consistent-one (n .visible) [] (c .0));
+          one = subst (λ (x : Normal). OneOrigin (x .visible .items)) q (clear-one (n .visible) [] (consistent-clear (n .visible) [] (c .0)));
           tagged = subst (λ (x : Normal). Every (Tagged tags) (x .hidden .equations)) q t;
         },
       )
 
   -- ---- union
-
-  pub items-union-alike : {xs xs′ ys ys′ : List Item} → Like (re-item τ) xs xs′ → Like (re-item τ) ys ys′
-      → Like (re-item τ) (union one-item xs ys) (union one-item xs′ ys′)
-  items-union-alike {xs} {xs′} {ys} {ys′} d k =
-      like (re-item τ) (union one-item xs ys) (items-united τ keeps xs ys)
-      (union-rearranged one-item (test-symmetric one-item item-equal item-self) (λ i. Unit {0}) (λ a b x y e. item-equal a b e) (d .arranged)
-      (k .arranged) (every-any (map (re-item τ) ys)))
 
   pub retagged : (es : List ResolvedEquation) → Every (Tagged tags) es → Every (Tagged tags) (map (re-equation τ) es)
   unfolding re-equation
@@ -296,25 +145,27 @@ module _ (τ : Name → Name) (keeps : (v w : Name) → same (τ v) (τ w) ≡ s
       like (re-equation τ) (union one-equation xs ys) (equations-united τ keeps xs ys)
       (union-rearranged one-equation equations-symmetric (Tagged tags) (equation-equal tags) (d .arranged) (k .arranged) (retagged ys h))
 
-  pub unite-visible-alike : {a a′ b b′ : Visible} → AlikeVisible a a′ → AlikeVisible b b′ → AlikeVisible (unite-visible a b) (unite-visible a′ b′)
-  unfolding unite-visible
-  unite-visible-alike {a} {a′} {b} {b′} p q = record {
-    parameters = List·Permᴰ·trans (Permᴰ·append-right (b .parameters) (p .parameters)) (Permᴰ·append-left (a′ .parameters) (q .parameters));
-    items = items-union-alike (p .items) (q .items);
-  }
-
-  pub unite-alike : {a a′ b b′ : Normal} → Alike a a′ → Alike b b′ → Every (Tagged tags) (b .hidden .equations) → Alike (unite a b) (unite a′ b′)
+  unite-alike : {a a′ b b′ : Normal} → Alike a a′ → Alike b b′ → OneOrigin (unite a b .visible .items)
+      → Every (Tagged tags) (b .hidden .equations) → Alike (unite a b) (unite a′ b′)
   unfolding unite unite-hidden
-  unite-alike p q h = record {
-    visible = unite-visible-alike (p .visible) (q .visible);
-    hidden-items = items-union-alike (p .hidden-items) (q .hidden-items);
+  unite-alike p q one h = record {
+    visible = unite-visible-alike τ keeps (p .visible) (q .visible) one;
+    hidden-items = items-union-alike τ keeps (p .hidden-items) (q .hidden-items);
     equations = equations-union-alike (p .equations) (q .equations) h;
   }
 
-  pub unite-tagged : (a b : Normal) → Every (Tagged tags) (a .hidden .equations) → Every (Tagged tags) (b .hidden .equations)
+  unite-tagged : (a b : Normal) → Every (Tagged tags) (a .hidden .equations) → Every (Tagged tags) (b .hidden .equations)
       → Every (Tagged tags) (unite a b .hidden .equations)
   unfolding unite unite-hidden
   unite-tagged a b h k = every-union (Tagged tags) one-equation (a .hidden .equations) (b .hidden .equations) h k
+
+  -- where a union is accepted its sorts of one name have one origin, and so they have in both that are united
+  pub union-follows : {a a′ b b′ : Normal} → Alike a a′ → Alike b b′ → Every (Tagged tags) (a .hidden .equations)
+      → Every (Tagged tags) (b .hidden .equations) → (k : Normal) → checked (unite a b) ≡ fine k → Follows k (checked (unite a′ b′))
+  unfolding checked
+  union-follows {a} {a′} {b} {b′} p q h g k e =
+      let c = then-fine (consistent (unite a b .visible) []) _ k e .0 in
+      checked-alike (unite-alike p q (clear-one (unite a b .visible) [] (consistent-clear (unite a b .visible) [] c)) g) (unite-tagged a b h g) k e
 
   -- ---- translation
 
@@ -349,8 +200,8 @@ module _ (τ : Name → Name) (keeps : (v w : Name) → same (τ v) (τ w) ≡ s
     pub move-alike : {n n′ : Normal} → Alike n n′ → Every (Tagged tags) (n .hidden .equations) → Alike (move σ φ n) (move σ′ φ′ n′)
     unfolding move move-visible move-hidden
     move-alike {n} {n′} a t = record {
-      visible = record { parameters = a .visible .parameters; items = items-union-alike (like-none _) (moved-items (a .visible .items)) };
-      hidden-items = items-union-alike (like-none _) (moved-hidden-items (a .hidden-items));
+      visible = record { parameters = a .visible .parameters; items = items-union-alike τ keeps (like-none _) (moved-items (a .visible .items)) };
+      hidden-items = items-union-alike τ keeps (like-none _) (moved-hidden-items (a .hidden-items));
       equations = equations-union-alike (like-none _) (moved-equations (a .equations)) (moved-tagged (n .hidden .equations) t);
     }
 
@@ -434,58 +285,23 @@ module _ (τ : Name → Name) (keeps : (v w : Name) → same (τ v) (τ w) ≡ s
 
   -- ---- binding
 
-  formals-alike : (p : Name) {v v′ : Visible} → AlikeVisible v v′ → Like (re-item τ) (formals p v) (formals p v′)
-  unfolding formals re-item
-  formals-alike p a = keep-alike (re-item τ) _ _ (λ i. refl) (a .items)
-
   without-alike : (p : Name) {n n′ : Normal} → Alike n n′ → Alike (without p n) (without p n′)
   unfolding without without-visible re-item
   without-alike p a = record {
     visible = record {
-      parameters = keep-rearranged (λ (q : Name). not (same p q)) (a .visible .parameters);
+      parameters = keep-rearranged (λ (q : Slot). not (same p (q .name))) (a .visible .parameters);
       items = keep-alike (re-item τ) _ _ (λ i. refl) (a .visible .items);
     };
     hidden-items = a .hidden-items;
     equations = a .equations;
   }
 
-  -- where a visible sort comes from
-  origin-of-alike : {v v′ : Visible} → AlikeVisible v v′ → OneOrigin (v .items) → (w : Name)
-      → origin-of v′ (τ w) ≡ Option·map (re-origin τ) (origin-of v w)
-  unfolding origin-of origin-of-item is-called re-item
-  origin-of-alike {v} {v′} a one w =
-      as-map (first (is-called (τ w)) (sorts-among (v′ .items)))
-      ∙ sym (first-image (λ (i : Item). i .origin) (is-called (τ w)) (sorts-alike (a .items) .arranged) image)
-      ∙ ap (Option·map (λ (i : Item). i .origin)) (first-map (re-item τ) (is-called (τ w)) (is-called w) (called-kept τ keeps w) (sorts-among (v .items)))
-      ∙ both (first (is-called w) (sorts-among (v .items)))
-    where
-      as-map : (o : Option Item) → origin-of-item o ≡ Option·map (λ (i : Item). i .origin) o
-      as-map none = refl
-      as-map (some i) = refl
-
-      both : (o : Option Item) → Option·map (λ (i : Item). i .origin) (Option·map (re-item τ) o) ≡ Option·map (re-origin τ) (origin-of-item o)
-      both none = refl
-      both (some i) = refl
-
-      image : (x y : Item) → List·Memᴰ x (map (re-item τ) (sorts-among (v .items))) → List·Memᴰ y (map (re-item τ) (sorts-among (v .items)))
-          → same (τ w) (x .name) ≡ true → same (τ w) (y .name) ≡ true → x .origin ≡ y .origin
-      image x y m k p q =
-          let i = member-map-from (re-item τ) (sorts-among (v .items)) m in
-          let j = member-map-from (re-item τ) (sorts-among (v .items)) k in
-          let s = kept-sort (v .items) (i .0) (i .1) in
-          let t = kept-sort (v .items) (j .0) (j .1) in
-          let n : same w (i .0 .name) ≡ true = sym (keeps w (i .0 .name)) ∙ subst (λ (z : Item). same (τ w) (z .name) ≡ true) (i .2) p in
-          let l : same w (j .0 .name) ≡ true = sym (keeps w (j .0 .name)) ∙ subst (λ (z : Item). same (τ w) (z .name) ≡ true) (j .2) q in
-          ap (λ (z : Item). z .origin) (i .2)
-          ∙ ap (re-origin τ) (one (i .0) (j .0) (s .0) (t .0) (s .1) (t .1) (sym (same-equal w (i .0 .name) n) ∙ same-equal w (j .0 .name) l))
-          ∙ ap (λ (z : Item). z .origin) (sym (j .2))
-
   module _ (formal formal′ : List Item) (like-formal : Like (re-item τ) formal formal′) (rs : List Pair) (whole whole′ : Visible)
-      (like-whole : AlikeVisible whole whole′) (one-whole : OneOrigin (whole .items)) (actual actual′ : Visible)
-      (like-actual : AlikeVisible actual actual′) (one-actual : OneOrigin (actual .items)) where
+      (like-whole : AlikeVisible τ keeps whole whole′) (one-whole : OneOrigin (whole .items)) (actual actual′ : Visible)
+      (like-actual : AlikeVisible τ keeps actual actual′) (one-actual : OneOrigin (actual .items)) where
     formal-sort-kept : (s : Name) → is-formal-sort formal′ (re-pairs rs) whole′ actual′ (τ s) ≡ is-formal-sort formal rs whole actual s
     unfolding is-formal-sort
-    formal-sort-kept s = any-alike (re-item τ) (is-called (τ s)) (is-called s) (called-kept τ keeps s) (sorts-alike like-formal)
+    formal-sort-kept s = any-alike (re-item τ) (is-called (τ s)) (is-called s) (called-kept τ keeps s) (sorts-alike τ keeps like-formal)
 
     pub new-sort-kept : (s : Name) → new-sort formal′ (re-pairs rs) whole′ actual′ (τ s) ≡ τ (new-sort formal rs whole actual s)
     unfolding new-sort
@@ -507,7 +323,7 @@ module _ (τ : Name → Name) (keeps : (v w : Name) → same (τ v) (τ w) ≡ s
     among-kept : (o : Option Name) → is-among (sort-names actual′) (Option·map τ o) ≡ is-among (sort-names actual) o
     unfolding is-among
     among-kept none = refl
-    among-kept (some w) = member-alike w (sort-names-alike like-actual)
+    among-kept (some w) = member-alike τ keeps w (sort-names-alike τ keeps like-actual)
 
     origins-kept : (o p : Option Origin) → same-origins (Option·map (re-origin τ) o) (Option·map (re-origin τ) p) ≡ same-origins o p
     unfolding same-origins
@@ -524,8 +340,8 @@ module _ (τ : Name → Name) (keeps : (v w : Name) → same (τ v) (τ w) ≡ s
           formal-sort-kept s,
           paired-kept rs s,
           among-kept (paired rs s),
-          origin-of-alike like-whole one-whole s,
-          origin-of-alike like-actual one-actual s,
+          origin-of-alike τ keeps like-whole one-whole s,
+          origin-of-alike τ keeps like-actual one-actual s,
           origins-kept (origin-of whole s) (origin-of actual s),
         )
 
@@ -538,7 +354,7 @@ module _ (τ : Name → Name) (keeps : (v w : Name) → same (τ v) (τ w) ≡ s
     shape-right-kept : (w : Name) (s : Shape)
         → shape-right formal′ (re-pairs rs) whole′ actual′ (τ w) (re-shape τ s) ≡ shape-right formal rs whole actual w s
     unfolding shape-right re-shape re-item
-    shape-right-kept w sort-shape = member-alike w (sort-names-alike like-actual)
+    shape-right-kept w sort-shape = member-alike τ keeps w (sort-names-alike τ keeps like-actual)
     shape-right-kept w (variable-shape s) = refl
     shape-right-kept w (function-shape t) =
         ap₂ (λ (b c : Bool). b && c) (sorts-right-kept t)
@@ -577,7 +393,7 @@ module _ (τ : Name → Name) (keeps : (v w : Name) → same (τ v) (τ w) ≡ s
         let d =
         keep-alike τ (λ (w : Name). not (any (λ (r : Pair). same w (r .old)) (re-pairs rs))) (λ (w : Name). not (any (λ (r : Pair). same w (r .old)) rs))
         (λ w. ap not (any-map (re-pair τ) (λ (r : Pair). same (τ w) (r .old)) (λ (r : Pair). same w (r .old)) (λ r. keeps w (r .old)) rs))
-        (names-alike like-formal) in
+        (names-alike τ keeps like-formal) in
         least-none left (nothing-left left (subst (λ (r : List Name). Rearranged (map τ r) left) (none-least _ e) (d .arranged)))
       where
         left : List Name
@@ -603,7 +419,7 @@ module _ (τ : Name → Name) (keeps : (v w : Name) → same (τ v) (τ w) ≡ s
     φ′ = new-function F′ (re-pairs rs) (n′ .visible) (a′ .visible)
 
     like-F : Like (re-item τ) F F′
-    like-F = formals-alike p (b .alike .visible)
+    like-F = formals-alike τ keeps p (b .alike .visible)
 
     same-σ : (s : Name) → σ′ (τ s) ≡ τ (σ s)
     same-σ = new-sort-kept F F′ like-F rs (n .visible) (n′ .visible) (b .alike .visible) (b .one) (a .visible) (a′ .visible) (c .alike .visible) (c .one)
@@ -626,14 +442,14 @@ module _ (τ : Name → Name) (keeps : (v w : Name) → same (τ v) (τ w) ≡ s
           none-unpaired F F′ like-F rs (n .visible) (n′ .visible) (b .alike .visible) (b .one) (a .visible) (a′ .visible) (c .alike .visible) (c .one)
               (unless-fine _ _ (g .0)),
         )
-        (checked-alike (unite-alike (move-alike σ σ′ φ φ′ same-σ same-φ (without-alike p (b .alike)) still-tagged) (c .alike) (c .tagged))
-        (unite-tagged (move σ φ (without p n)) a (move-tagged σ σ′ φ φ′ same-σ same-φ (without p n) still-tagged) (c .tagged)) k (g .1))
+        (union-follows (move-alike σ σ′ φ φ′ same-σ same-φ (without-alike p (b .alike)) still-tagged) (c .alike)
+        (move-tagged σ σ′ φ φ′ same-σ same-φ (without p n) still-tagged) (c .tagged) k (g .1))
 
     pub bind-alike : (k : Normal) → bind p rs n a ≡ fine k → Follows k (bind p (re-pairs rs) n′ a′)
-    unfolding bind pick
+    unfolding bind slot-names pick
     bind-alike k e =
-        rw (← member-rearranged p (b .alike .visible .parameters))
-        (go (member p (n .visible .parameters)) (bound-to p rs n a) (bound-to p (re-pairs rs) n′ a′) e bound-alike)
+        rw (← member-rearranged p (Permᴰ·map (λ (q : Slot). q .name) (b .alike .visible .parameters)))
+        (go (member p (slot-names (n .visible .parameters))) (bound-to p rs n a) (bound-to p (re-pairs rs) n′ a′) e bound-alike)
       where
         go : (x : Bool) (o o′ : Outcome Normal) → pick x o (stop bad-parameter p) ≡ fine k → ((j : Normal) → o ≡ fine j → Follows j o′)
             → Follows k (pick x o′ (stop bad-parameter p))

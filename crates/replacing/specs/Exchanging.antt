@@ -8,8 +8,8 @@ use lib.ListN.{length}
 use Rattle.meaning.specs.Lists.{pick, keep, any, first, each, agree, union}
 use Rattle.meaning.specs.Names.{Name, same, member}
 use Rattle.meaning.specs.Origins.{Declared, declared-sort, declared-function, declared-variable, Origin, same-declared, same-origin, Sort, visible-sort, hidden-sort, same-sort, FunctionType, same-type, Head, visible-head, hidden-head, same-head, ResolvedTerm, var, app, ResolvedTerms, none-left, _and-then_, same-term, same-terms, ResolvedSides, same-sides, ResolvedEquation, Shape, sort-shape, function-shape, variable-shape, same-shape, is-sort, is-function, Item, one-item, one-equation}
-use Rattle.meaning.specs.Normal.{Normal, names-in, sorts-among, is-called, unite-visible, unite-hidden, unite, move-sort, move-type, move-shape, move-name, move-item, move-hidden-item, move-head, move-term, move-terms, move-sides, move-equation, move-visible, move-hidden, move}
-use Rattle.replacing.specs.Changing.{re-declared, re-origin, re-sort, re-type, re-shape, re-item, re-head, re-term, re-terms, re-sides, re-equation, re-visible, re-hidden, re-normal}
+use Rattle.meaning.specs.Normal.{names-in, is-called, move-sort, move-type, move-shape, move-name, move-item, move-hidden-item, move-head, move-term, move-terms, move-sides, move-equation}
+use Rattle.replacing.specs.Changing.{re-declared, re-origin, re-sort, re-type, re-shape, re-item, re-head, re-term, re-terms, re-sides, re-equation}
 
 -- ---- lists, each item under g: the tests p and e of what it becomes are q and d of what it was
 
@@ -173,10 +173,6 @@ module _ (τ : Name → Name) (keeps : (v w : Name) → same (τ v) (τ w) ≡ s
 
   -- ---- names among items
 
-  pub sorts-among-kept : (is : List Item) → sorts-among (map (re-item τ) is) ≡ map (re-item τ) (sorts-among is)
-  unfolding sorts-among re-item
-  sorts-among-kept is = keep-map (re-item τ) _ _ (λ i. is-sort-kept (i .shape)) is
-
   pub names-in-kept : (is : List Item) → names-in (map (re-item τ) is) ≡ map τ (names-in is)
   unfolding names-in re-item
   names-in-kept is = map-twice (re-item τ) (λ (i : Item). i .name) (λ (i : Item). i .name) τ (λ i. refl) is
@@ -189,15 +185,6 @@ module _ (τ : Name → Name) (keeps : (v w : Name) → same (τ v) (τ w) ≡ s
   pub equations-united : (xs ys : List ResolvedEquation)
       → union one-equation (map (re-equation τ) xs) (map (re-equation τ) ys) ≡ map (re-equation τ) (union one-equation xs ys)
   equations-united = union-map (re-equation τ) one-equation one-equation equation-kept
-
-  pub unite-kept : (a b : Normal) → unite (re-normal τ a) (re-normal τ b) ≡ re-normal τ (unite a b)
-  unfolding unite unite-visible unite-hidden re-normal re-visible re-hidden
-  unite-kept a b =
-      rw (
-        items-united (a .visible .items) (b .visible .items),
-        items-united (a .hidden .items) (b .hidden .items),
-        equations-united (a .hidden .equations) (b .hidden .equations),
-      )
 
   -- ---- translation, where the new names correspond too
 
@@ -257,15 +244,3 @@ module _ (τ : Name → Name) (keeps : (v w : Name) → same (τ v) (τ w) ≡ s
     unfolding move-equation re-equation
     move-equation-kept e =
         rw (move-sides-kept (e .conclusion), map-twice (re-sides τ) (move-sides σ′ φ′) (move-sides σ φ) (re-sides τ) move-sides-kept (e .conditions))
-
-    pub move-kept : (n : Normal) → move σ′ φ′ (re-normal τ n) ≡ re-normal τ (move σ φ n)
-    unfolding move move-visible move-hidden re-normal re-visible re-hidden
-    move-kept n =
-        rw (
-          map-twice (re-item τ) (move-item σ′ φ′) (move-item σ φ) (re-item τ) move-item-kept (n .visible .items),
-          map-twice (re-item τ) (move-hidden-item σ′ φ′) (move-hidden-item σ φ) (re-item τ) move-hidden-item-kept (n .hidden .items),
-          map-twice (re-equation τ) (move-equation σ′ φ′) (move-equation σ φ) (re-equation τ) move-equation-kept (n .hidden .equations),
-          items-united [] (map (move-item σ φ) (n .visible .items)),
-          items-united [] (map (move-hidden-item σ φ) (n .hidden .items)),
-          equations-united [] (map (move-equation σ φ) (n .hidden .equations)),
-        )

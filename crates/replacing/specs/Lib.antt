@@ -4,6 +4,7 @@ pub mod Replacing
 -- what respects such a change, and what minds no order
 pub mod Exchanging
 pub mod Reordering
+pub mod VisibleAlike
 pub mod Alike
 pub mod OwnAlike
 pub mod ModulesAlike

@@ -5,7 +5,7 @@ use Prim.Native.Nat.{ℕ, suc, _+_}
 use native.Mathlib.Omega.{arith}
 use mathlib.Core.Bool.{Bool, true, false, _||_}
 use mathlib.Core.Option.{Option, none, some, Option·map}
-use mathlib.Core.List.{List, [], _∷_, _++_, map, map-append, List·Permᴰ·nil, List·Permᴰ·trans, Permᴰ·refl, Permᴰ·symm, Permᴰ·map, Permᴰ·append-right}
+use mathlib.Core.List.{List, [], _∷_, _++_, map, map-append, List·Permᴰ·nil, List·Permᴰ·trans, Permᴰ·refl, Permᴰ·symm, Permᴰ·map, Permᴰ·append-right, Permᴰ·append-left}
 use lib.ListN.{length}
 use Rattle.meaning.specs.Lists.{pick, any, each, repeated}
 use Rattle.meaning.specs.Names.{Name, same, member}
@@ -15,7 +15,7 @@ use Rattle.meaning.specs.Origins.{ResolvedEquation, Item, one-equation}
 use Rattle.meaning.specs.Normal.{Visible, Normal, nothing-visible, nothing-hidden, empty, sort-names, unite-hidden, unite}
 use Rattle.meaning.specs.Written.{in-order}
 use Rattle.meaning.specs.Checks.{Outcome, fine, stop, _>>=_, _>>_, unless, consistent, Size, size, add-sizes, room, total-room, checked}
-use Rattle.meaning.specs.Own.{own-hidden-items, constants}
+use Rattle.meaning.specs.Own.{own-visible, own-hidden-items, constants}
 use Rattle.meaning.specs.Typing.{made-equation, typed-equations}
 use Rattle.meaning.specs.Evaluate.{Evaluated, clause-names, import-names, named-by, names-right, same-function, name-of-function, once-in, once-in-parameters, declared-once, normal-of, clause, clauses, expressions, united, imported, seen-sorts, joined-visible, own-checks, own-equations, joined-hidden, joined-own, evaluate}
 use Rattle.meaning.specs.Reached.{wanted, Placed, reached-among, reached, Ended, normalised, refused-at, end-or, total-of, in-turn, module-names, normalise, short-or-blank}
@@ -29,7 +29,8 @@ use Rattle.promises.specs.AcceptedForms.{same-ordered}
 use Rattle.replacing.specs.Changing.{re-function, re-signature, re-parameter, re-clause, re-import, re-module, re-item, re-equation}
 use Rattle.replacing.specs.Exchanging.{map-map, pick-map, any-map, agree-map, member-kept}
 use Rattle.replacing.specs.Reordering.{Tagged}
-use Rattle.replacing.specs.Alike.{Like, like, like-none, consistent-one, AlikeVisible, Alike, Both, Follows, member-alike, sort-names-alike, consistent-alike, size-alike, room-alike, checked-alike, items-union-alike, unite-visible-alike, equations-union-alike, unite-alike, unite-tagged, Easier, rename-alike, bind-alike}
+use Rattle.replacing.specs.VisibleAlike.{Like, like, like-none, consistent-clear, clear-one, AlikeVisible, member-alike, sort-names-alike, consistent-alike, items-union-alike}
+use Rattle.replacing.specs.Alike.{Alike, Both, Follows, size-alike, room-alike, equations-union-alike, union-follows, Easier, rename-alike, bind-alike}
 use Rattle.replacing.specs.OwnAlike.{member-append, each-map, variables-kept, own-visible-alike, own-hidden-kept, available-kept, constants-alike, variables-right, equations-kept, finds-alike}
 
 -- ---- lists
@@ -126,9 +127,7 @@ module _ (τ : Name → Name) (keeps : (v w : Name) → same (τ v) (τ w) ≡ s
     united-alike (x ∷ xs) [] z b k e = absurd z
     united-alike (x ∷ xs) (x′ ∷ xs′) z {n} {n′} b k e =
         let f = bind-fine (checked (unite n x)) (λ u. united u xs) k e in
-        let r =
-        checked-alike τ keeps tags (unite-alike τ keeps tags (b .alike) (z .0 .alike) (z .0 .tagged)) (unite-tagged τ keeps tags n x (b .tagged) (z .0 .tagged))
-        (f .0) (f .1) in
+        let r = union-follows τ keeps tags (b .alike) (z .0 .alike) (b .tagged) (z .0 .tagged) (f .0) (f .1) in
         rw (r .1) (united-alike xs xs′ (z .1) (r .2) k (f .2))
 
     imported-alike : (is : List Import) → Every EasyImport is → (k : Normal) → imported env is ≡ fine k → Leads k (imported env′ (map (re-import τ) is))
@@ -196,7 +195,7 @@ module _ (τ : Name → Name) (keeps : (v w : Name) → same (τ v) (τ w) ≡ s
     seen-same s =
         let own = each (λ (p : Parameter). p .signature .sorts) (m .parameters) ++ m .exports .sorts in
         member-append (τ s) (sort-names (n′ .visible)) (each (λ (p : Parameter). p .signature .sorts) (m′ .parameters) ++ m′ .exports .sorts)
-        ∙ ap₂ (λ (x y : Bool). x || y) (member-alike τ keeps tags s (sort-names-alike τ keeps tags (b .alike .visible)))
+        ∙ ap₂ (λ (x y : Bool). x || y) (member-alike τ keeps s (sort-names-alike τ keeps (b .alike .visible)))
         (ap (member (τ s)) own-sorts-kept ∙ member-kept τ keeps s own)
         ∙ sym (member-append s (sort-names (n .visible)) own)
 
@@ -210,11 +209,18 @@ module _ (τ : Name → Name) (keeps : (v w : Name) → same (τ v) (τ w) ≡ s
     own = own-hidden-items m seen
 
     own-same : own-hidden-items m′ seen′ ≡ map (re-item τ) own
-    own-same = own-hidden-kept τ keeps tags m seen seen′ seen-same
+    own-same = own-hidden-kept τ keeps m seen seen′ seen-same
 
-    visible-alike : AlikeVisible τ keeps tags v v′
+    visible-alike : AlikeVisible τ keeps v v′
     unfolding joined-visible
-    visible-alike = unite-visible-alike τ keeps tags (b .alike .visible) (own-visible-alike τ keeps tags m seen seen′ seen-same)
+    visible-alike =
+        let mine = own-visible-alike τ keeps m seen seen′ seen-same in
+        record {
+          parameters =
+              List·Permᴰ·trans (Permᴰ·append-right (own-visible m seen .parameters) (b .alike .visible .parameters))
+              (Permᴰ·append-left (n′ .visible .parameters) (mine .parameters));
+          items = items-union-alike τ keeps (b .alike .visible .items) (mine .items);
+        }
 
     known-alike : Like (re-item τ) (v .items ++ own) (v′ .items ++ map (re-item τ) own)
     known-alike =
@@ -228,11 +234,11 @@ module _ (τ : Name → Name) (keeps : (v w : Name) → same (τ v) (τ w) ≡ s
         let a = then-fine _ _ tt (c .1) in
         rw (
           own-same,
-          consistent-alike τ keeps tags visible-alike own (c .0),
-          available-kept τ keeps tags m seen seen′ seen-same (a .0),
-          variables-kept τ keeps tags m,
-          variables-right τ keeps tags (constants (v .items ++ own)) (constants (v′ .items ++ map (re-item τ) own))
-              (λ w. member-alike τ keeps tags w (constants-alike τ keeps tags known-alike)) [] (variables-of m) (unless-fine _ _ (a .1)),
+          consistent-alike τ keeps visible-alike own (c .0),
+          available-kept τ keeps m seen seen′ seen-same (a .0),
+          variables-kept τ keeps m,
+          variables-right τ keeps (constants (v .items ++ own)) (constants (v′ .items ++ map (re-item τ) own))
+              (λ w. member-alike τ keeps w (constants-alike τ keeps known-alike)) [] (variables-of m) (unless-fine _ _ (a .1)),
         )
 
     abbrev whole : List ResolvedEquation → Normal
@@ -245,7 +251,7 @@ module _ (τ : Name → Name) (keeps : (v w : Name) → same (τ v) (τ w) ≡ s
     unfolding joined-hidden unite-hidden
     whole-alike es t = record {
       visible = visible-alike;
-      hidden-items = items-union-alike τ keeps tags (b .alike .hidden-items) (like (re-item τ) own own-same (Permᴰ·refl _));
+      hidden-items = items-union-alike τ keeps (b .alike .hidden-items) (like (re-item τ) own own-same (Permᴰ·refl _));
       equations = equations-union-alike τ keeps tags (b .alike .equations) (like (re-equation τ) es refl (Permᴰ·refl _)) t;
     }
 
@@ -258,7 +264,7 @@ module _ (τ : Name → Name) (keeps : (v w : Name) → same (τ v) (τ w) ≡ s
     unfolding own-equations re-module
     own-equations-alike home es c sound e =
         rw own-same
-        (equations-kept τ keeps tags (v .items ++ own) (v′ .items ++ map (re-item τ) own) (finds-alike τ keeps tags visible-alike own c sound) home 0 (m .equations) es e)
+        (equations-kept τ keeps (v .items ++ own) (v′ .items ++ map (re-item τ) own) (finds-alike τ keeps visible-alike own c sound) home 0 (m .equations) es e)
 
     own-equations-tagged : (home : ℕ) → HasTags tags home 0 (m .equations) → (es : List ResolvedEquation) → own-equations home m seen v ≡ fine es
         → Every (Tagged tags) es
@@ -289,7 +295,7 @@ module _ (τ : Name → Name) (keeps : (v w : Name) → same (τ v) (τ w) ≡ s
           rw (own-checks-alike (c .0), own-equations-alike home es clear seen-sound (f .1), room-alike τ keeps tags a, r .0, size-alike τ keeps tags a, t .0) refl,
           subst (λ (x : Normal). Twin x (in-order (whole′ (map (re-equation τ) es)))) q (record {
             alike = in-order-alike a;
-            one = λ x y m k. consistent-one v own clear x y (rearranged-member (Permᴰ·symm (s .items)) m) (rearranged-member (Permᴰ·symm (s .items)) k);
+            one = λ x y m k. clear-one v own (consistent-clear v own clear) x y (rearranged-member (Permᴰ·symm (s .items)) m) (rearranged-member (Permᴰ·symm (s .items)) k);
             tagged = rearranged-every (Tagged tags) (s .equations) (whole-tagged es tagged);
           }),
         )

@@ -10,11 +10,11 @@ use Rattle.meaning.specs.Laws.{by-cases}
 use Rattle.meaning.specs.Lists.{first, or-else, each, union}
 use Rattle.meaning.specs.Names.{Name}
 use Rattle.meaning.specs.Syntax.{Function, Signature, Parameter, Pair, Clause, renamed-by, bound-by, Import, VariableGroup, Variable, Term, node, Terms, no-terms, _then_, Sides, Equation, Module, conditions-of, group-variables, variables-of}
-use Rattle.meaning.specs.Origins.{Section, export-section, hidden-section, parameter-section, Declared, declared-sort, declared-function, declared-variable, Origin, Sort, visible-sort, hidden-sort, FunctionType, Head, visible-head, hidden-head, ResolvedTerm, var, app, ResolvedTerms, none-left, _and-then_, ResolvedSides, ResolvedEquation, Shape, sort-shape, function-shape, variable-shape, Item, one-item, one-equation}
-use Rattle.meaning.specs.Normal.{Normal, nothing-visible, nothing-hidden, empty, unite-visible, unite-hidden, unite, move-sort, move-type, move-shape, move-name, move-item, move-hidden-item, move-head, move-term, move-terms, move-sides, move-equation, move-visible, move-hidden, move}
+use Rattle.meaning.specs.Origins.{Section, export-section, hidden-section, parameter-section, Declared, declared-sort, declared-function, declared-variable, Origin, Sort, visible-sort, hidden-sort, FunctionType, Head, visible-head, hidden-head, ResolvedTerm, var, app, ResolvedTerms, none-left, _and-then_, ResolvedSides, ResolvedEquation, Shape, sort-shape, function-shape, variable-shape, Item, in-parameter, one-item, one-equation}
+use Rattle.meaning.specs.Normal.{Normal, nothing-visible, nothing-hidden, empty, formals, unite-visible, unite-hidden, unite, move-sort, move-type, move-shape, move-name, move-item, move-hidden-item, move-head, move-term, move-terms, move-sides, move-equation, move-visible, move-hidden, move}
 use Rattle.meaning.specs.Written.{in-order}
-use Rattle.meaning.specs.Checks.{Outcome, fine, stop, Size, in-parameter, checked}
-use Rattle.meaning.specs.Clauses.{paired, otherwise, renaming, rename, formals, new-sort, new-function, without-visible, without, bound-to, bind}
+use Rattle.meaning.specs.Checks.{Outcome, fine, stop, Size, checked}
+use Rattle.meaning.specs.Clauses.{paired, otherwise, renaming, rename, new-sort, new-function, without-visible, without, bound-to, bind}
 use Rattle.meaning.specs.Own.{resolved, function-type, own-sort, own-function, own-section, own-visible, own-variable, own-hidden-items}
 use Rattle.meaning.specs.Typing.{Typed, TypedList, head-of, of-shape, found-with, no-arguments, joined-typed, equated, joined-sides, made-equation, applied, alone, with-arguments, typed, typed-list, typed-sides, typed-conditions, typed-equations}
 use Rattle.meaning.specs.Evaluate.{Evaluated, normal-of, clause, clauses, expressions, united, imported, seen-sorts, joined-visible, own-equations, joined-hidden, joined-own, evaluate}
@@ -433,7 +433,7 @@ module _ (P : Name → Type 0) where
     own-of = own-hidden-of m seen (h .hidden) (h .variables)
 
     visible-of : Every ItemOf (joined-visible m (n .visible) .items)
-    unfolding joined-visible unite-visible
+    unfolding joined-visible
     visible-of =
         every-union ItemOf one-item (n .visible .items) (own-visible m seen .items) (k .visible) (own-visible-of m seen (h .parameters) (h .exports))
 

@@ -10,9 +10,9 @@ use Rattle.meaning.specs.Lists.{pick, any, first, or-else, first-some, none-in,
 use Rattle.meaning.specs.Names.{Name, same, member}
 use Rattle.meaning.specs.Syntax.{Function, Signature, Parameter, Variable, Term, node, Terms, no-terms, _then_, Sides, Equation, Module, conditions-of, group-variables, variables-of}
 use Rattle.meaning.specs.Origins.{Section, export-section, hidden-section, parameter-section, declared-sort, declared-function, declared-variable, Origin, Sort, visible-sort, hidden-sort, same-sort, FunctionType, Head, app, ResolvedSides, ResolvedEquation, Shape, sort-shape, function-shape, variable-shape, Item}
-use Rattle.meaning.specs.Normal.{Visible, is-called}
+use Rattle.meaning.specs.Normal.{Slot, Visible, is-called}
 use Rattle.meaning.specs.Checks.{fine, _>>=_, _>>_, unless, functions-clash, consistent}
-use Rattle.meaning.specs.Own.{resolved, function-type, own-sort, own-function, own-section, own-visible, own-variable, own-hidden-items, lacking, lacking-variable, parameter-functions, available-sorts, wrong-variable, is-constant, constants}
+use Rattle.meaning.specs.Own.{resolved, function-type, own-sort, own-function, own-section, own-slot, own-visible, own-variable, own-hidden-items, lacking, lacking-variable, parameter-functions, available-sorts, wrong-variable, is-constant, constants}
 use Rattle.meaning.specs.Typing.{Typed, TypedList, head-of, of-shape, found-with, no-arguments, takes, is-variable, joined-typed, equated, joined-sides, made-equation, applied, alone, with-arguments, typed, typed-list, typed-sides, typed-conditions, typed-equations}
 use Rattle.meaning.specs.OrderLaws.{Every, Rearranged, same-equal}
 use Rattle.meaning.specs.Mirror.{then-fine, bind-fine, unless-fine, fine-same}
@@ -23,7 +23,7 @@ use Rattle.promises.specs.TermsTold.{one-output}
 use Rattle.replacing.specs.Changing.{re-function, re-signature, re-parameter, re-group, re-raw, re-raws, re-raw-sides, re-raw-equation, re-module, re-declared, re-origin, re-sort, re-type, re-shape, re-item, re-head, re-term, re-terms, re-sides, re-equation}
 use Rattle.replacing.specs.Exchanging.{map-map, map-twice, pick-map, any-map, first-map, member-kept, sort-kept, sorts-kept, called-kept}
 use Rattle.replacing.specs.Reordering.{first-image}
-use Rattle.replacing.specs.Alike.{Like, like, member-map-from, AlikeVisible, keep-alike, names-alike}
+use Rattle.replacing.specs.VisibleAlike.{consistent-clear, Like, like, member-map-from, AlikeVisible, keep-alike, names-alike}
 
 -- ---- lists
 
@@ -64,7 +64,7 @@ member-append w (x ∷ xs) ys = go (same w x) (member-append w xs ys)
     go true h = refl
     go false h = h
 
-module _ (τ : Name → Name) (keeps : (v w : Name) → same (τ v) (τ w) ≡ same v w) (tags : ℕ → ℕ → Name) where
+module _ (τ : Name → Name) (keeps : (v w : Name) → same (τ v) (τ w) ≡ same v w) where
   unfoldable pub re-variable : Variable → Variable
   re-variable v = record { name = τ (v .name); sort = τ (v .sort) }
 
@@ -122,8 +122,8 @@ module _ (τ : Name → Name) (keeps : (v w : Name) → same (τ v) (τ w) ≡ s
         ∙ sym (map-append (re-item τ) (map (own-sort m seen c) (g .sorts)) (map (own-function m seen c) (g .functions)))
 
     own-parameters-kept : own-visible m′ seen′ .parameters ≡ own-visible m seen .parameters
-    unfolding own-visible re-module re-parameter
-    own-parameters-kept = map-map (re-parameter τ) (λ (p : Parameter). p .name) (m .parameters)
+    unfolding own-visible own-slot re-module re-parameter
+    own-parameters-kept = map-map (re-parameter τ) (own-slot m′ seen′) (m .parameters)
 
     own-visible-items-kept : own-visible m′ seen′ .items ≡ map (re-item τ) (own-visible m seen .items)
     unfolding own-visible re-module re-parameter
@@ -136,9 +136,9 @@ module _ (τ : Name → Name) (keeps : (v w : Name) → same (τ v) (τ w) ≡ s
         ∙ sym (map-append (re-item τ) (each (λ (p : Parameter). own-section m seen (parameter-section (p .name)) (p .signature)) (m .parameters))
         (own-section m seen export-section (m .exports)))
 
-    pub own-visible-alike : AlikeVisible τ keeps tags (own-visible m seen) (own-visible m′ seen′)
+    pub own-visible-alike : AlikeVisible τ keeps (own-visible m seen) (own-visible m′ seen′)
     own-visible-alike = record {
-      parameters = subst (λ (r : List Name). Rearranged (own-visible m seen .parameters) r) (sym own-parameters-kept) (Permᴰ·refl _);
+      parameters = subst (λ (r : List Slot). Rearranged (own-visible m seen .parameters) r) (sym own-parameters-kept) (Permᴰ·refl _);
       items = like (re-item τ) (own-visible m seen .items) own-visible-items-kept (Permᴰ·refl _);
     }
 
@@ -227,7 +227,7 @@ module _ (τ : Name → Name) (keeps : (v w : Name) → same (τ v) (τ w) ≡ s
 
   pub constants-alike : {is is′ : List Item} → Like (re-item τ) is is′ → Like τ (constants is) (constants is′)
   unfolding constants re-item
-  constants-alike d = names-alike τ keeps tags (keep-alike τ keeps tags (re-item τ) _ _ (λ i. is-constant-kept (i .shape)) d)
+  constants-alike d = names-alike τ keeps (keep-alike (re-item τ) _ _ (λ i. is-constant-kept (i .shape)) d)
 
   pub variables-right : (cs cs′ : List Name) → ((w : Name) → member (τ w) cs′ ≡ member w cs) → (seen : List Name) (vs : List Variable)
       → wrong-variable cs seen vs ≡ none → wrong-variable cs′ (map τ seen) (map re-variable vs) ≡ none
@@ -403,7 +403,7 @@ module _ (τ : Name → Name) (keeps : (v w : Name) → same (τ v) (τ w) ≡ s
   id-map none = refl
   id-map (some x) = refl
 
-  module _ {v v′ : Visible} (a : AlikeVisible τ keeps tags v v′) (own : List Item) where
+  module _ {v v′ : Visible} (a : AlikeVisible τ keeps v v′) (own : List Item) where
     found-alike : (p p′ : Item → Bool) → ((i : Item) → p′ (re-item τ i) ≡ p i)
         → ((x y : Item) → List·Memᴰ x (v .items) → List·Memᴰ y (v .items) → p x ≡ true → p y ≡ true → x ≡ y)
         → first p′ (v′ .items ++ map (re-item τ) own) ≡ Option·map (re-item τ) (first p (v .items ++ own))
@@ -436,7 +436,7 @@ module _ (τ : Name → Name) (keeps : (v w : Name) → same (τ v) (τ w) ≡ s
 
     one-function : consistent v own ≡ fine tt → Every SoundVisible (v .items) → (f : Name) (ss : List Sort) (x y : Item) → List·Memᴰ x (v .items)
         → List·Memᴰ y (v .items) → (is-called f x && takes ss (x .shape)) ≡ true → (is-called f y && takes ss (y .shape)) ≡ true → x ≡ y
-    unfolding is-called consistent
+    unfolding is-called
     one-function c sound f ss x y m k p q =
         let i = both-true _ _ p in
         let j = both-true _ _ q in
@@ -445,12 +445,11 @@ module _ (τ : Name → Name) (keeps : (v w : Name) → same (τ v) (τ w) ≡ s
         let names : x .name ≡ y .name = sym (same-equal f (x .name) (i .0)) ∙ same-equal f (y .name) (j .0) in
         let types : t .0 ≡ u .0 = one-output v own c x y (t .0) (u .0) m k names (t .1) (u .1) (sym (t .2) ∙ u .2) in
         let shapes : x .shape ≡ y .shape = t .1 ∙ ap function-shape types ∙ sym (u .1) in
-        let clear = unless-fine _ _ (then-fine _ _ tt (then-fine _ _ tt (then-fine _ _ tt c .1) .1) .0) in
         let origins : x .origin ≡ y .origin =
         ⊎-elim (λ (e : x ≡ y). ap (λ (z : Item). z .origin) e)
         (⊎-elim (λ r. functions-agree x y (t .0) (t .1) (u .1 ∙ ap function-shape (sym types)) names r)
         (λ r. sym (functions-agree y x (t .0) (u .1 ∙ ap function-shape (sym types)) (t .1) (sym names) r)))
-        (compatible functions-clash (v .items ++ own) clear x y (Memᴰ·append-left own m) (Memᴰ·append-left own k)) in
+        (compatible functions-clash (v .items ++ own) (consistent-clear v own c .functions) x y (Memᴰ·append-left own m) (Memᴰ·append-left own k)) in
         let h = every-member SoundVisible (v .items) sound x m in
         let g = every-member SoundVisible (v .items) sound y k in
         let standings = h .standing ∙ ap (λ (o : Origin). o .section) origins ∙ sym (g .standing) in

@@ -7,10 +7,10 @@ use mathlib.Core.Option.{none, some, Option·map}
 use mathlib.Core.List.{List, [], _∷_, _++_, map, append-assoc, List·Memᴰ, List·Memᴰ·head, List·Memᴰ·tail, List·Permᴰ·nil, List·Permᴰ·cons, List·Permᴰ·swap, List·Permᴰ·trans, Permᴰ·refl, Permᴰ·symm, Permᴰ·append-right, Permᴰ·append-left}
 use lib.Dec.{eqb}
 use borrow.Author.Tests.{eqb-true, eq-eqb}
-use Rattle.meaning.specs.Lists.{pick, keep, any, first, agree, sum, union}
+use Rattle.meaning.specs.Lists.{pick, any, first, agree, sum, union}
 use Rattle.meaning.specs.Names.{Name, same, by-name}
-use Rattle.meaning.specs.Origins.{Section, export-section, hidden-section, parameter-section, same-origin, same-sort, FunctionType, same-type, Head, visible-head, hidden-head, same-head, ResolvedTerm, var, app, ResolvedTerms, none-left, _and-then_, same-term, same-terms, ResolvedSides, same-sides, ResolvedEquation, Shape, sort-shape, function-shape, variable-shape, same-shape, is-sort, is-function, Item, one-item, one-equation}
-use Rattle.meaning.specs.Checks.{at-odds, least-at-odds, other-origin, sorts-clash, functions-clash, other-output, in-parameter, in-one-parameter, both-in-one, overloaded}
+use Rattle.meaning.specs.Origins.{Section, export-section, hidden-section, parameter-section, same-origin, same-sort, FunctionType, same-type, Head, visible-head, hidden-head, same-head, ResolvedTerm, var, app, ResolvedTerms, none-left, _and-then_, same-term, same-terms, ResolvedSides, same-sides, ResolvedEquation, Shape, sort-shape, function-shape, variable-shape, same-shape, is-sort, is-function, Item, in-parameter, one-item, one-equation}
+use Rattle.meaning.specs.Checks.{at-odds, least-at-odds, other-origin, sorts-clash, functions-clash, other-output, in-one-parameter, both-in-one, overloaded}
 use Rattle.meaning.specs.OrderLaws.{Every, Pairwise, Rearranged, rearranged-every, rearranged-member, sorted-rearranged, pairwise-rearranged, same-self, same-equal}
 use Rattle.promises.specs.ListingLaws.{both-true, section-self, origin-equal, origin-self, shape-equal, shape-self, sort-equal, sort-self, agree-equal, agree-self}
 
@@ -29,30 +29,6 @@ module _ {A : Type 0} where
       go false true r = refl
       go false false r = refl
   any-rearranged p (List·Permᴰ·trans d d′) = any-rearranged p d ∙ any-rearranged p d′
-
-  pub keep-rearranged : (p : A → Bool) {xs ys : List A} → Rearranged xs ys → Rearranged (keep p xs) (keep p ys)
-  unfolding keep pick
-  keep-rearranged p List·Permᴰ·nil = List·Permᴰ·nil
-  keep-rearranged p (List·Permᴰ·cons {a = a} {b = b} {l₁ = xs} {l₂ = ys} e d) =
-      subst (λ (c : Bool). Rearranged (pick (p a) (a ∷ keep p xs) (keep p xs)) (pick c (b ∷ keep p ys) (keep p ys))) (ap p e)
-      (go (p a) (keep-rearranged p d))
-    where
-      go : (c : Bool) → Rearranged (keep p xs) (keep p ys) → Rearranged (pick c (a ∷ keep p xs) (keep p xs)) (pick c (b ∷ keep p ys) (keep p ys))
-      go true k = List·Permᴰ·cons e k
-      go false k = k
-  keep-rearranged p (List·Permᴰ·swap {a = a} {b = b} {a′ = a′} {b′ = b′} {l = l} e f) =
-      subst (λ (c : Bool). Rearranged (keep p (a ∷ b ∷ l)) (pick c (a′ ∷ keep p (b′ ∷ l)) (keep p (b′ ∷ l)))) (ap p f)
-      (subst (λ (c : Bool). Rearranged (keep p (a ∷ b ∷ l)) (pick (p b) (a′ ∷ pick c (b′ ∷ keep p l) (keep p l)) (pick c (b′ ∷ keep p l) (keep p l))))
-      (ap p e) (go (p a) (p b)))
-    where
-      go : (c c′ : Bool)
-          → Rearranged (pick c (a ∷ pick c′ (b ∷ keep p l) (keep p l)) (pick c′ (b ∷ keep p l) (keep p l)))
-          (pick c′ (a′ ∷ pick c (b′ ∷ keep p l) (keep p l)) (pick c (b′ ∷ keep p l) (keep p l)))
-      go true true = List·Permᴰ·swap e f
-      go true false = List·Permᴰ·cons e (Permᴰ·refl (keep p l))
-      go false true = List·Permᴰ·cons f (Permᴰ·refl (keep p l))
-      go false false = Permᴰ·refl (keep p l)
-  keep-rearranged p (List·Permᴰ·trans d d′) = List·Permᴰ·trans (keep-rearranged p d) (keep-rearranged p d′)
 
   pub sum-rearranged : (f : A → ℕ) {xs ys : List A} → Rearranged xs ys → sum f xs ≡ sum f ys
   unfolding sum
