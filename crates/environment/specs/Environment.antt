@@ -24,7 +24,7 @@ pub record Between (low high : ℕ) (f : Form) : Type 0 where
   pub hidden : low ≤ f .hidden
   pub equations : low ≤ f .equations
   pub nodes : low ≤ f .nodes
-  pub parameters-end : f .parameters + f .«parameter_count» ≤ high
+  pub parameters-end : f .parameters + f .«parameter_count» * 2 ≤ high
   pub visible-end : f .visible + f .«visible_count» * 16 ≤ high
   pub hidden-end : f .hidden + f .«hidden_count» * 16 ≤ high
   pub equations-end : f .equations + f .«equation_count» * 8 ≤ high

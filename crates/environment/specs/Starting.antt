@@ -10,14 +10,14 @@ use Rattle.meaning.specs.Normal.{empty, nothing-visible, nothing-hidden}
 use Rattle.meaning.specs.Evaluate.{normal-of}
 use Rattle.forms.specs.declared.Form.{Form}
 use Rattle.forms.specs.Blocks.{Fits}
-use Rattle.forms.specs.Forms.{names-at, items-at, visible-at, Stands}
+use Rattle.forms.specs.Forms.{slots-at, items-at, visible-at, Stands}
 use Rattle.layout.specs.Layout.{kept-start, table-start}
 use Rattle.keeping.specs.Keeping.{nothing-at, Cleared}
 use Rattle.environment.specs.Environment.{Between, number-of, EnvStands}
 use Rattle.environment.specs.Growing.{TableBelow}
 
 nothing-stands : (text tape w : List ℕ) (b : ℕ) → Stands text tape w (nothing-at b) empty
-unfolding nothing-at empty nothing-visible nothing-hidden visible-at names-at items-at sum
+unfolding nothing-at empty nothing-visible nothing-hidden visible-at slots-at items-at sum
 nothing-stands text tape w b = record {
   visible = refl;
   hidden = refl;

@@ -14,12 +14,12 @@ use Rattle.forms.specs.declared.Made.the-variants.{Done, Refused}
 use Rattle.forms.specs.Forms.{Stands}
 use Rattle.forms.specs.FormLaws.{Apart}
 
--- the parts of a block of a memory of `size` words, the tape below it up to t: in order, with room for so many parameters' names, visible
--- and hidden rows, and notes for so many rows of a source
+-- the parts of a block of a memory of `size` words, the tape below it up to t: in order, with room for so many parameters, visible and
+-- hidden rows, and notes for so many rows of a source
 pub record BlockLaid (size t : ℕ) (b : Block) (names rows hidden-rows sources : ℕ) : Type 0 where
   pub tape : t ≤ b .low
   pub first : b .low ≤ b .parameters
-  pub parameters : b .parameters + names ≤ b .visible
+  pub parameters : b .parameters + names * 2 ≤ b .visible
   pub visible : b .visible + rows * 16 ≤ b .hidden
   pub hidden : b .hidden + hidden-rows * 16 ≤ b .equations
   pub equations : b .equations + b .«equation_room» * 8 ≤ b .nodes
@@ -41,7 +41,7 @@ pub record Lies (b : Block) (f : Form) : Type 0 where
 
 -- the words from low up to high are none of the form's
 pub record Outside (low high : ℕ) (f : Form) : Type 0 where
-  pub parameters : Apart low high (f .parameters) (f .parameters + f .«parameter_count»)
+  pub parameters : Apart low high (f .parameters) (f .parameters + f .«parameter_count» * 2)
   pub visible : Apart low high (f .visible) (f .visible + f .«visible_count» * 16)
   pub hidden : Apart low high (f .hidden) (f .hidden + f .«hidden_count» * 16)
   pub equations : Apart low high (f .equations) (f .equations + f .«equation_count» * 8)

@@ -6,14 +6,14 @@ use mathlib.Core.List.{List, [], _∷_, _++_, map}
 use native.Mathlib.Omega.{arith}
 use lib.ListN.{length, getD, take, drop, set, length-set, length-take, length-drop}
 use lib.Seq.{sets, length-sets, getD-set-other, getD-take, getD-drop, ext-getD}
-use Rattle.meaning.specs.Names.{Name}
 use Rattle.meaning.specs.Origins.{Item}
+use Rattle.meaning.specs.Normal.{Slot}
 use Rattle.names.specs.Word.{name-of}
 use Rattle.tables.specs.declared.Row.{Row}
 use Rattle.tables.specs.Rows.{word-section, words-from, item-of, row-at}
 use Rattle.forms.specs.declared.EquationRow.{EquationRow}
 use Rattle.forms.specs.Memory.{part, Same, Kept, KeptTwo}
-use Rattle.forms.specs.Forms.{names-at, items-at, equation-row-at}
+use Rattle.forms.specs.Forms.{slot-at, slots-at, items-at, equation-row-at}
 
 -- the words from b up to f lie apart from those from a up to e
 abbrev pub Apart : ℕ → ℕ → ℕ → ℕ → Type 0
@@ -92,12 +92,19 @@ module _ (w w′ : List ℕ) where
         sorts = more i;
       }
 
-  pub names-same : (text : List ℕ) (b c : ℕ) → Same b (b + c) w w′ → names-at text w′ b c ≡ names-at text w b c
-  unfolding names-at
-  names-same text b zero p = refl
-  names-same text b (suc c) p =
-      ap₂ (λ (x : Name) (xs : List Name). x ∷ xs) (ap (name-of text) (p b (omega arith) (omega arith)))
-      (names-same text (b + 1) c (λ i h l. p i (omega arith) (omega arith)))
+  pub slot-same : (text : List ℕ) (b : ℕ) → Same b (b + 2) w w′ → slot-at text w′ b ≡ slot-at text w b
+  unfolding slot-at
+  slot-same text b p =
+      let name = ap (name-of text) (p b (omega arith) (omega arith)) in
+      let home = ap (name-of text) (p (b + 1) (omega arith) (omega arith)) in
+      λ i. record { name = name i; home = home i }
+
+  pub slots-same : (text : List ℕ) (b c : ℕ) → Same b (b + c * 2) w w′ → slots-at text w′ b c ≡ slots-at text w b c
+  unfolding slots-at
+  slots-same text b zero p = refl
+  slots-same text b (suc c) p =
+      ap₂ (λ (x : Slot) (xs : List Slot). x ∷ xs) (slot-same text b (λ i h l. p i (omega arith) (omega arith)))
+      (slots-same text (b + 2) c (λ i h l. p i (omega arith) (omega arith)))
 
   pub items-same : (text tape : List ℕ) (b c : ℕ) → Same b (b + c * 16) w w′ → items-at text tape w′ b c ≡ items-at text tape w b c
   unfolding items-at
@@ -142,6 +149,13 @@ items-grow text tape w b (suc c) =
     let e : b + 16 + c * 16 ≡ b + suc c * 16 = omega arith in
     ap (λ (xs : List Item). item-of text tape (row-at w b) ∷ xs)
     (items-grow text tape w (b + 16) c ∙ ap (λ (i : ℕ). items-at text tape w (b + 16) c ++ (item-of text tape (row-at w i) ∷ [])) e)
+
+pub slots-grow : (text w : List ℕ) (b c : ℕ) → slots-at text w b (suc c) ≡ slots-at text w b c ++ (slot-at text w (b + c * 2) ∷ [])
+unfolding slots-at
+slots-grow text w b zero = let e : b + 0 * 2 ≡ b = omega arith in rw e
+slots-grow text w b (suc c) =
+    let e : b + 2 + c * 2 ≡ b + suc c * 2 = omega arith in
+    ap (slot-at text w b ∷_) (slots-grow text w (b + 2) c ∙ ap (λ (i : ℕ). slots-at text w (b + 2) c ++ (slot-at text w i ∷ [])) e)
 
 -- a table in two parts
 pub items-split : (text tape w : List ℕ) (b v m : ℕ) → items-at text tape w b (v + m) ≡ items-at text tape w b v ++ items-at text tape w (b + v * 16) m

@@ -6,10 +6,9 @@ use mathlib.Core.List.{List, [], _∷_, _++_, map}
 use lib.Dec.{eqb}
 use lib.ListN.{length, getD, take, drop}
 use Rattle.meaning.specs.Lists.{pick, each, sum}
-use Rattle.meaning.specs.Names.{Name}
 use Rattle.meaning.specs.Numbers.{node-limit}
 use Rattle.meaning.specs.Origins.{Origin, Sort, hidden-sort, Head, visible-head, hidden-head, ResolvedTerm, var, app, ResolvedTerms, none-left, _and-then_, ResolvedSides, ResolvedEquation, Shape, sort-shape, function-shape, variable-shape, is-sort, is-function, Item}
-use Rattle.meaning.specs.Normal.{Visible, Hidden, Normal}
+use Rattle.meaning.specs.Normal.{Slot, Visible, Hidden, Normal}
 use Rattle.meaning.specs.Checks.{equation-nodes}
 use Rattle.meaning.specs.OrderLaws.{Every}
 use Rattle.names.specs.Word.{name-of}
@@ -18,10 +17,14 @@ use Rattle.tables.specs.Rows.{item-of, row-at}
 use Rattle.forms.specs.declared.Form.{Form}
 use Rattle.forms.specs.declared.EquationRow.{EquationRow}
 
--- the names of c words from place b on
-unfoldable pub names-at : List ℕ → List ℕ → ℕ → ℕ → List Name
-names-at text w b zero = []
-names-at text w b (suc c) = name-of text (getD w b 0) ∷ names-at text w (b + 1) c
+-- a parameter's two words: its name, and the name of the module that declares it
+unfoldable pub slot-at : List ℕ → List ℕ → ℕ → Slot
+slot-at text w b = record { name = name-of text (getD w b 0); home = name-of text (getD w (b + 1) 0) }
+
+-- the c parameters from place b on
+unfoldable pub slots-at : List ℕ → List ℕ → ℕ → ℕ → List Slot
+slots-at text w b zero = []
+slots-at text w b (suc c) = slot-at text w b ∷ slots-at text w (b + 2) c
 
 -- the items of c rows from place b on
 unfoldable pub items-at : List ℕ → List ℕ → List ℕ → ℕ → ℕ → List Item
@@ -127,7 +130,7 @@ pub record Pointing (text tape w : List ℕ) (f : Form) : Type 0 where
 
 unfoldable pub visible-at : List ℕ → List ℕ → List ℕ → Form → Visible
 visible-at text tape w f = record {
-  parameters = names-at text w (f .parameters) (f .«parameter_count»);
+  parameters = slots-at text w (f .parameters) (f .«parameter_count»);
   items = items-at text tape w (f .visible) (f .«visible_count»);
 }
 

@@ -17,7 +17,7 @@ use Rattle.forms.specs.declared.Form.{Form}
 use Rattle.forms.specs.declared.EquationRow.{EquationRow}
 use Rattle.forms.specs.Memory.{part, Same, Kept}
 use Rattle.forms.specs.Forms.{node-row, node-of, node-in, nodes-of, node-item, equation-row-at, EquationStands, EquationsStand, VisiblePoint, HiddenPoint, Pointing, visible-at, Stands}
-use Rattle.forms.specs.FormLaws.{kept-same, row-same, names-same, items-same, equation-row-same, words-same, tape-same}
+use Rattle.forms.specs.FormLaws.{kept-same, row-same, slots-same, items-same, equation-row-same, words-same, tape-same}
 use Rattle.forms.specs.Blocks.{Outside}
 
 pub map-same : {A : Type 0} (f g : ℕ → A) (xs : List ℕ) → ((i : ℕ) → i < length xs → f (getD xs i 0) ≡ g (getD xs i 0)) → map f xs ≡ map g xs
@@ -127,14 +127,14 @@ module _ (text tape w w′ : List ℕ) (f : Form) (stays : Stays w w′ f) where
           equations-stay (b + 8) es (λ i h l. p i (omega arith) (omega arith)) (s .1),
         )
 
-  pub visible-stays : Same (f .parameters) (f .parameters + f .«parameter_count») w w′ → visible-at text tape w′ f ≡ visible-at text tape w f
+  pub visible-stays : Same (f .parameters) (f .parameters + f .«parameter_count» * 2) w w′ → visible-at text tape w′ f ≡ visible-at text tape w f
   unfolding visible-at
   visible-stays p =
-      let names = names-same w w′ text (f .parameters) (f .«parameter_count») p in
+      let slots = slots-same w w′ text (f .parameters) (f .«parameter_count») p in
       let items = items-same w w′ text tape (f .visible) (f .«visible_count») (stays .visible) in
-      λ i. record { parameters = names i; items = items i }
+      λ i. record { parameters = slots i; items = items i }
 
-  pub stands-stays : (n : Normal) → Same (f .parameters) (f .parameters + f .«parameter_count») w w′
+  pub stands-stays : (n : Normal) → Same (f .parameters) (f .parameters + f .«parameter_count» * 2) w w′
       → Same (f .equations) (f .equations + f .«equation_count» * 8) w w′ → Stands text tape w f n → Stands text tape w′ f n
   stands-stays n p q s = record {
     visible = visible-stays p ∙ s .visible;

@@ -1,6 +1,7 @@
 // Where a normal form lies in the working memory, and how much of it there is; and how a check ends.
 
-// Places are words of the working memory; an item row has sixteen words, an equation row eight, a node and a parameter's name one.
+// Places are words of the working memory; an item row has sixteen words, an equation row eight, a parameter two (its name and the name of
+// the module that declares it), a node one.
 pub struct Form {
     pub parameters: u32,
     pub parameter_count: u32,

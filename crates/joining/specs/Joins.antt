@@ -47,7 +47,7 @@ pub record Joining (σ : Name → Name) (φ : Name → FunctionType → Name) (t
   pub nodes : f .nodes + o .«node_room» ≤ length w
   pub source-nodes : g .nodes + g .«node_count» ≤ length w
   pub outside-source : Outside (f .equations) (f .nodes + o .«node_room») g
-  pub outside-parameters : Apart (f .equations) (f .nodes + o .«node_room») (f .parameters) (f .parameters + f .«parameter_count»)
+  pub outside-parameters : Apart (f .equations) (f .nodes + o .«node_room») (f .parameters) (f .parameters + f .«parameter_count» * 2)
   pub outside-visible : Apart (f .equations) (f .nodes + o .«node_room») (f .visible) (f .visible + f .«visible_count» * 16)
   pub outside-hidden : Apart (f .equations) (f .nodes + o .«node_room») (f .hidden) (f .hidden + f .«hidden_count» * 16)
   pub outside-visible-notes : Apart (f .equations) (f .nodes + o .«node_room») (o .visible) (o .visible + g .«visible_count»)

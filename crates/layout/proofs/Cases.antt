@@ -10,25 +10,25 @@ pub tape-number : 65536 ≡ tape-end
 unfolding tape-end
 tape-number = refl
 
-pub kept-number : 966224 ≡ kept-start
+pub kept-number : 999032 ≡ kept-start
 unfolding kept-start
 kept-number = refl
 
-pub table-number : 991312 ≡ table-start
+pub table-number : 1024632 ≡ table-start
 unfolding table-start
 table-number = refl
 
 pub is-block : (low names rows hidden-rows equations sources : ℕ) → record {
   low = low;
   parameters = low;
-  visible = low + names;
-  hidden = low + names + rows * 16;
-  equations = low + names + rows * 16 + hidden-rows * 16;
-  nodes = low + names + rows * 16 + hidden-rows * 16 + equations * 8;
-  «visible_notes» = low + names + rows * 16 + hidden-rows * 16 + equations * 8 + equations * 64;
-  «hidden_notes» = low + names + rows * 16 + hidden-rows * 16 + equations * 8 + equations * 64 + sources;
-  order = low + names + rows * 16 + hidden-rows * 16 + equations * 8 + equations * 64 + sources + sources;
-  high = low + names + rows * 16 + hidden-rows * 16 + equations * 8 + equations * 64 + sources + sources + names + rows;
+  visible = low + names * 2;
+  hidden = low + names * 2 + rows * 16;
+  equations = low + names * 2 + rows * 16 + hidden-rows * 16;
+  nodes = low + names * 2 + rows * 16 + hidden-rows * 16 + equations * 8;
+  «visible_notes» = low + names * 2 + rows * 16 + hidden-rows * 16 + equations * 8 + equations * 64;
+  «hidden_notes» = low + names * 2 + rows * 16 + hidden-rows * 16 + equations * 8 + equations * 64 + sources;
+  order = low + names * 2 + rows * 16 + hidden-rows * 16 + equations * 8 + equations * 64 + sources + sources;
+  high = low + names * 2 + rows * 16 + hidden-rows * 16 + equations * 8 + equations * 64 + sources + sources + names + rows;
   «equation_room» = equations;
   «node_room» = equations * 64;
 }
@@ -39,21 +39,21 @@ is-block low names rows hidden-rows equations sources = refl
 pub joining-fits : 65536 + block-span 32776 33280 1024 512 33280 ≤ 1073741824
 joining-fits = omega arith
 
-pub first-fits : 816656 + block-span 16 1024 1024 512 2048 ≤ 1073741824
+pub first-fits : 849432 + block-span 16 1024 1024 512 2048 ≤ 1073741824
 first-fits = omega arith
 
-pub second-fits : 891440 + block-span 16 1024 1024 512 2048 ≤ 1073741824
+pub second-fits : 924232 + block-span 16 1024 1024 512 2048 ≤ 1073741824
 second-fits = omega arith
 
 pub is-joining : (r : Block) → r ≡ block-at 65536 32776 33280 1024 512 33280 → r ≡ joining-block
 unfolding joining-block
 is-joining r h = h
 
-pub is-first : (r : Block) → r ≡ block-at 816656 16 1024 1024 512 2048 → r ≡ first-block
+pub is-first : (r : Block) → r ≡ block-at 849432 16 1024 1024 512 2048 → r ≡ first-block
 unfolding first-block
 is-first r h = h
 
-pub is-second : (r : Block) → r ≡ block-at 891440 16 1024 1024 512 2048 → r ≡ second-block
+pub is-second : (r : Block) → r ≡ block-at 924232 16 1024 1024 512 2048 → r ≡ second-block
 unfolding second-block
 is-second r h = h
 

@@ -8,23 +8,23 @@ use Rattle.forms.specs.Blocks.{BlockLaid}
 
 -- ---- a block
 
--- the words of a block with room for so many names, visible and hidden rows, equations, and rows of a source
+-- the words of a block with room for so many parameters, visible and hidden rows, equations, and rows of a source
 abbrev pub block-span : ℕ → ℕ → ℕ → ℕ → ℕ → ℕ
 block-span names rows hidden-rows equations sources =
-    names + rows * 16 + hidden-rows * 16 + equations * 8 + equations * 64 + sources + sources + names + rows
+    names * 2 + rows * 16 + hidden-rows * 16 + equations * 8 + equations * 64 + sources + sources + names + rows
 
 unfoldable pub block-at : ℕ → ℕ → ℕ → ℕ → ℕ → ℕ → Block
 block-at low names rows hidden-rows equations sources = record {
   low = low;
   parameters = low;
-  visible = low + names;
-  hidden = low + names + rows * 16;
-  equations = low + names + rows * 16 + hidden-rows * 16;
-  nodes = low + names + rows * 16 + hidden-rows * 16 + equations * 8;
-  «visible_notes» = low + names + rows * 16 + hidden-rows * 16 + equations * 8 + equations * 64;
-  «hidden_notes» = low + names + rows * 16 + hidden-rows * 16 + equations * 8 + equations * 64 + sources;
-  order = low + names + rows * 16 + hidden-rows * 16 + equations * 8 + equations * 64 + sources + sources;
-  high = low + names + rows * 16 + hidden-rows * 16 + equations * 8 + equations * 64 + sources + sources + names + rows;
+  visible = low + names * 2;
+  hidden = low + names * 2 + rows * 16;
+  equations = low + names * 2 + rows * 16 + hidden-rows * 16;
+  nodes = low + names * 2 + rows * 16 + hidden-rows * 16 + equations * 8;
+  «visible_notes» = low + names * 2 + rows * 16 + hidden-rows * 16 + equations * 8 + equations * 64;
+  «hidden_notes» = low + names * 2 + rows * 16 + hidden-rows * 16 + equations * 8 + equations * 64 + sources;
+  order = low + names * 2 + rows * 16 + hidden-rows * 16 + equations * 8 + equations * 64 + sources + sources;
+  high = low + names * 2 + rows * 16 + hidden-rows * 16 + equations * 8 + equations * 64 + sources + sources + names + rows;
   «equation_room» = equations;
   «node_room» = equations * 64;
 }
@@ -61,17 +61,17 @@ joining-block = block-at 65536 32776 33280 1024 512 33280
 
 -- two normal forms that fit, united before the check
 unfoldable pub first-block : Block
-first-block = block-at 816656 16 1024 1024 512 2048
+first-block = block-at 849432 16 1024 1024 512 2048
 
 unfoldable pub second-block : Block
-second-block = block-at 891440 16 1024 1024 512 2048
+second-block = block-at 924232 16 1024 1024 512 2048
 
 unfoldable pub kept-start : ℕ
-kept-start = 966224
+kept-start = 999032
 
--- eight parameters of each module, and all items, equations and nodes that fit together
+-- eight parameters of each module, of two words each, and all items, equations and nodes that fit together
 unfoldable pub table-start : ℕ
-table-start = 991312
+table-start = 1024632
 
 pub record Laid (size t : ℕ) : Type 0 where
   pub joining : BlockLaid size t joining-block 32776 33280 1024 33280
@@ -80,15 +80,15 @@ pub record Laid (size t : ℕ) : Type 0 where
   pub joining-first : joining-block .high ≤ first-block .low
   pub first-second : first-block .high ≤ second-block .low
   pub second-kept : second-block .high ≤ kept-start
-  pub kept-table : kept-start + (module-limit * parameter-room + item-total * 16 + equation-total * 8 + node-total) ≤ table-start
+  pub kept-table : kept-start + (module-limit * parameter-room * 2 + item-total * 16 + equation-total * 8 + node-total) ≤ table-start
   pub table : table-start + (module-limit + 1) * 16 ≤ size
 
 pub memory-laid : (size t : ℕ) → t ≤ tape-end → memory-size ≤ size → Laid size t
 unfolding tape-end joining-block first-block second-block kept-start table-start memory-size block-at
 memory-laid size t h l = record {
   joining = block-laid size t 65536 32776 33280 1024 512 33280 (omega arith) (omega arith) (omega arith);
-  first = block-laid size t 816656 16 1024 1024 512 2048 (omega arith) (omega arith) (omega arith);
-  second = block-laid size t 891440 16 1024 1024 512 2048 (omega arith) (omega arith) (omega arith);
+  first = block-laid size t 849432 16 1024 1024 512 2048 (omega arith) (omega arith) (omega arith);
+  second = block-laid size t 924232 16 1024 1024 512 2048 (omega arith) (omega arith) (omega arith);
   joining-first = omega arith;
   first-second = omega arith;
   second-kept = omega arith;

@@ -5,7 +5,7 @@ ghost use mathlib.Core.Path.{_≡_};
 ghost use Prim.Native.Nat.{_+_, _*_, _≤_};
 ghost use Rattle.layout.specs.Layout.{block-span, block-at, tape-end, joining-block, first-block, second-block, kept-start, table-start};
 
-// A block from `low` on, with room for so many parameters' names, visible and hidden rows, equations, and rows of a source.
+// A block from `low` on, with room for so many parameters, visible and hidden rows, equations, and rows of a source.
 fn block_at(
     low: u32,
     names: u32,
@@ -17,7 +17,7 @@ fn block_at(
     requires { ⌜ low + block-span names rows «hidden_rows» equations sources ≤ 1073741824 ⌝ }
     ensures { λ r. ⌜ r ≡ block-at low names rows «hidden_rows» equations sources ⌝ }
 {
-    let visible = low + names;
+    let visible = low + names * 2;
     let hidden = visible + rows * 16;
     let first = hidden + hidden_rows * 16;
     let nodes = first + equations * 8;
@@ -58,24 +58,24 @@ pub fn joining_block() -> Block
 pub fn first_block() -> Block
     ensures { λ r. ⌜ r ≡ first-block ⌝ }
 {
-    block_at(816656, 16, 1024, 1024, 512, 2048)
+    block_at(849432, 16, 1024, 1024, 512, 2048)
 }
 
 pub fn second_block() -> Block
     ensures { λ r. ⌜ r ≡ second-block ⌝ }
 {
-    block_at(891440, 16, 1024, 1024, 512, 2048)
+    block_at(924232, 16, 1024, 1024, 512, 2048)
 }
 
 // Where the normal forms of evaluated modules begin, and the table of them.
 pub fn kept_start() -> u32
     ensures { λ r. ⌜ r ≡ kept-start ⌝ }
 {
-    966224
+    999032
 }
 
 pub fn table_start() -> u32
     ensures { λ r. ⌜ r ≡ table-start ⌝ }
 {
-    991312
+    1024632
 }

@@ -118,7 +118,7 @@ module _ (l : ℕ) (p q : Pen) where
       unfolding formals-text section-of
       formals-done n a e g = then l _ _ p a q e g
 
-      pub parameter-done : (i n : ℕ) → n ≡ getD w (f .parameters + i) 0 → q ≡ written l (formals-text text tape w f (name-of text n)) p
+      pub parameter-done : (i n : ℕ) → n ≡ getD w (f .parameters + i * 2) 0 → q ≡ written l (formals-text text tape w f (name-of text n)) p
           → q ≡ written l (parameter-row text tape w f i) p
       unfolding parameter-row
       parameter-done i n e g = rw (← e) g

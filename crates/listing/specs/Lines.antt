@@ -59,7 +59,7 @@ formals-text text tape w f p =
     ++ standing-text text tape w (f .visible) (f .«visible_count») (parameter-section p) (bytes "parameter-sort") (bytes "parameter-function")
 
 unfoldable pub parameter-row : (text tape w : List ℕ) → Form → ℕ → List ℕ
-parameter-row text tape w f i = formals-text text tape w f (name-of text (getD w (f .parameters + i) 0))
+parameter-row text tape w f i = formals-text text tape w f (name-of text (getD w (f .parameters + i * 2) 0))
 
 unfoldable pub hidden-row : (text tape w : List ℕ) → (b c : ℕ) → ℕ → List ℕ
 hidden-row text tape w b c i =

@@ -8,15 +8,14 @@ use mathlib.Core.List.{List, [], _∷_, _++_, append-nil, append-assoc}
 use lib.ListN.{getD}
 use Rattle.meaning.specs.Lists.{pick, keep, each}
 use Rattle.meaning.specs.Names.{bytes, Name}
-use Rattle.meaning.specs.Origins.{Section, export-section, hidden-section, parameter-section, same-section, Shape, sort-shape, function-shape, variable-shape, Item}
-use Rattle.meaning.specs.Checks.{in-parameter}
-use Rattle.meaning.specs.Clauses.{formals}
+use Rattle.meaning.specs.Origins.{Section, export-section, hidden-section, parameter-section, same-section, Shape, sort-shape, function-shape, variable-shape, Item, in-parameter}
+use Rattle.meaning.specs.Normal.{slot-names, formals}
 use Rattle.meaning.specs.Written.{numbered, shape-text}
 use Rattle.meaning.specs.Listing.{Line, line, line-text, lines-text, origin-line, kind-key, item-line, exported-lines, formal-lines, is-exported, parameter-lines, visible-lines, hidden-item-lines}
 use Rattle.names.specs.Word.{name-of}
 use Rattle.tables.specs.Rows.{item-of, row-at}
 use Rattle.forms.specs.declared.Form.{Form}
-use Rattle.forms.specs.Forms.{names-at, items-at, visible-at}
+use Rattle.forms.specs.Forms.{slot-at, slots-at, items-at, visible-at}
 use Rattle.pen.specs.Pen.{rows-text}
 use Rattle.listing.specs.Lines.{line-of, origin-line-of, key-by, rest-of, item-text, standing-row, standing-text, formals-text, parameter-row, hidden-row, visible-text}
 
@@ -107,29 +106,32 @@ parameter-told p (parameter-section q) = refl
 
 -- ---- rows
 
-module _ (text tape w : List ℕ) where
-  rows-items : (g : Item → List ℕ) (b i n : ℕ)
-      → rows-text (λ (j : ℕ). g (item-of text tape (row-at w (b + j * 16)))) i n ≡ each g (items-at text tape w (b + i * 16) n)
-  unfolding rows-text each items-at
-  rows-items g b i zero = refl
-  rows-items g b i (suc n) =
-      let next : b + (i + 1) * 16 ≡ b + i * 16 + 16 = omega arith in
-      ap (λ (r : List ℕ). g (item-of text tape (row-at w (b + i * 16))) ++ r)
-      (rows-items g b (i + 1) n ∙ ap (λ (c : ℕ). each g (items-at text tape w c n)) next)
+-- what is written for each row of s words from b on, by what the rows stand for
+module _ {A : Type 0} (s : ℕ) (at : ℕ → A) (table : ℕ → ℕ → List A) (none : (b : ℕ) → table b 0 ≡ [])
+    (more : (b n : ℕ) → table b (suc n) ≡ at b ∷ table (b + s) n) (g : A → List ℕ) (b : ℕ) where
+  rows-from : (i n : ℕ) → rows-text (λ (j : ℕ). g (at (b + j * s))) i n ≡ each g (table (b + i * s) n)
+  unfolding rows-text each
+  rows-from i zero = sym (ap (each g) (none (b + i * s)))
+  rows-from i (suc n) =
+      let next : b + (i + 1) * s ≡ b + i * s + s = omega arith in
+      ap (λ (r : List ℕ). g (at (b + i * s)) ++ r) (rows-from (i + 1) n ∙ ap (λ (c : ℕ). each g (table c n)) next)
+      ∙ sym (ap (each g) (more (b + i * s) n))
 
+  rows-told : (n : ℕ) → rows-text (λ (j : ℕ). g (at (b + j * s))) 0 n ≡ each g (table b n)
+  rows-told n = let first : b + 0 * s ≡ b = omega arith in rows-from 0 n ∙ ap (λ (c : ℕ). each g (table c n)) first
+
+module _ (text tape w : List ℕ) where
   -- items that stand in a section, by the lines of each
   standing-told : (b c : ℕ) (section : Section) (s f : List ℕ) (there : Section → Bool) (lines : Item → List Line)
       → ((t : Section) → same-section section t ≡ there t) → ((i : Item) → item-text s f (i .name) [] i ≡ lines-text (lines i))
       → standing-text text tape w b c section s f ≡ lines-text (each lines (keep (λ (i : Item). there (i .standing)) (items-at text tape w b c)))
-  unfolding standing-text standing-row
+  unfolding standing-text standing-row items-at
   standing-told b c section s f there lines h k =
-      let first : b + 0 * 16 ≡ b = omega arith in
       let xs = items-at text tape w b c in
       let texts : Item → List ℕ = λ (i : Item). item-text s f (i .name) [] i in
       let test : Item → Bool = λ (i : Item). same-section section (i .standing) in
       let tests : _≡_ {A = Item → Bool} test (λ (i : Item). there (i .standing)) = λ j i. h (i .standing) j in
-      rows-items (λ (i : Item). pick (test i) (texts i) []) b 0 c
-      ∙ ap (λ (a : ℕ). each (λ (i : Item). pick (test i) (texts i) []) (items-at text tape w a c)) first
+      rows-told 16 (λ p. item-of text tape (row-at w p)) (items-at text tape w) (λ p. refl) (λ p n. refl) (λ (i : Item). pick (test i) (texts i) []) b c
       ∙ each-kept test texts xs
       ∙ ap (λ (p : Item → Bool). each texts (keep p xs)) tests
       ∙ each-so texts (λ (i : Item). lines-text (lines i)) (keep (λ (i : Item). there (i .standing)) xs) k
@@ -145,26 +147,18 @@ module _ (text tape w : List ℕ) where
         formal-lines (parameter-told p) formal-told)
         ∙ line-before (bytes "parameter") p (each formal-lines (keep (λ (i : Item). in-parameter p (i .standing)) xs))
 
-    rows-names : (g : Name → List ℕ) (i n : ℕ)
-        → rows-text (λ (j : ℕ). g (name-of text (getD w (f .parameters + j) 0))) i n ≡ each g (names-at text w (f .parameters + i) n)
-    unfolding rows-text each names-at
-    rows-names g i zero = refl
-    rows-names g i (suc n) =
-        let next : f .parameters + (i + 1) ≡ f .parameters + i + 1 = omega arith in
-        ap (λ (r : List ℕ). g (name-of text (getD w (f .parameters + i) 0)) ++ r)
-        (rows-names g (i + 1) n ∙ ap (λ (c : ℕ). each g (names-at text w c n)) next)
+    abbrev names : List Name
+    names = slot-names (slots-at text w (f .parameters) (f .«parameter_count»))
 
     parameters-told : rows-text (parameter-row text tape w f) 0 (f .«parameter_count»)
-        ≡ lines-text (each (parameter-lines (visible-at text tape w f)) (names-at text w (f .parameters) (f .«parameter_count»)))
-    unfolding parameter-row
+        ≡ lines-text (each (parameter-lines (visible-at text tape w f)) names)
+    unfolding parameter-row slot-names slots-at slot-at
     parameters-told =
-        let first : f .parameters + 0 ≡ f .parameters = omega arith in
-        let ps = names-at text w (f .parameters) (f .«parameter_count») in
         let v = visible-at text tape w f in
-        rows-names (formals-text text tape w f) 0 (f .«parameter_count»)
-        ∙ ap (λ (a : ℕ). each (formals-text text tape w f) (names-at text w a (f .«parameter_count»))) first
-        ∙ each-so (formals-text text tape w f) (λ (p : Name). lines-text (parameter-lines v p)) ps formals-told
-        ∙ sym (lines-each (parameter-lines v) ps)
+        rows-told 2 (λ p. name-of text (getD w p 0)) (λ p n. slot-names (slots-at text w p n)) (λ p. refl) (λ p n. refl) (formals-text text tape w f)
+        (f .parameters) (f .«parameter_count»)
+        ∙ each-so (formals-text text tape w f) (λ (p : Name). lines-text (parameter-lines v p)) names formals-told
+        ∙ sym (lines-each (parameter-lines v) names)
 
     -- what is visible
     pub visible-meant : visible-text text tape w f ≡ lines-text (visible-lines (visible-at text tape w f))
@@ -175,7 +169,7 @@ module _ (text tape w : List ℕ) where
         (standing-told (f .visible) (f .«visible_count») export-section (bytes "sort") (bytes "function") is-exported exported-lines export-told exported-told)
         parameters-told
         ∙ sym (lines-append (each exported-lines (keep (λ (i : Item). is-exported (i .standing)) xs))
-        (each (parameter-lines (visible-at text tape w f)) (names-at text w (f .parameters) (f .«parameter_count»))))
+        (each (parameter-lines (visible-at text tape w f)) names))
 
   -- hidden items: c rows from b on
   abbrev hidden-lines-at : ℕ → ℕ → ℕ → List Line

@@ -129,7 +129,7 @@ fn put_parameter_row(
 ) -> usize
     ensures { λ r. ⌜ pen r (now (out .exit)) ≡ written limit (parameter-row (joint (now (library .entry)) (now (text .entry))) (now (tape .entry)) (now (work .entry)) f i) (pen at (now (out .entry))) ⌝ }
 {
-    let p = word_at(work, f.parameters as usize + i as usize);
+    let p = word_at(work, f.parameters as usize + i as usize * 2);
     put_parameter(out, at, limit, library, text, tape, work, f, p)
 }
 

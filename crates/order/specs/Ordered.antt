@@ -1,4 +1,4 @@
--- What an order table points at: the items of a table of rows, or names, in the order of their names.
+-- What an order table points at: the items of a table of rows, or parameters, in the order of their names.
 use mathlib.Core.Path.{_≡_, refl, sym, ap, _∙_}
 use mathlib.Core.List.{List, [], _∷_, _++_, map}
 use Prim.Native.Nat.{ℕ, zero, suc, _+_, _*_}
@@ -6,11 +6,12 @@ use native.Mathlib.Omega.{arith}
 use lib.ListN.{getD}
 use Rattle.meaning.specs.Names.{Name, not-after, by-name}
 use Rattle.meaning.specs.Origins.{Item}
+use Rattle.meaning.specs.Normal.{Slot}
 use Rattle.meaning.specs.OrderLaws.{sorted-map}
 use Rattle.names.specs.Word.{name-of}
 use Rattle.tables.specs.Rows.{words-from, row-at, item-of}
-use Rattle.forms.specs.Forms.{names-at, items-at}
-use Rattle.forms.specs.FormLaws.{items-grow}
+use Rattle.forms.specs.Forms.{slot-at, slots-at, items-at}
+use Rattle.forms.specs.FormLaws.{items-grow, slots-grow}
 use Rattle.order.specs.Order.{name-in, upto, name-order, InOrder}
 
 -- ---- what is made of each
@@ -19,6 +20,24 @@ module _ {A B : Type 0} (f : B → A) where
   pub map-more : (xs : List B) (x : B) → map f (xs ++ (x ∷ [])) ≡ map f xs ++ (f x ∷ [])
   map-more [] x = refl
   map-more (y ∷ ys) x = ap (f y ∷_) (map-more ys x)
+
+-- ---- what stands in a table of rows of s words, each with a name
+
+module _ {A : Type 0} (at : ℕ → A) (table : ℕ → List A) (grows : (n : ℕ) → table (suc n) ≡ table n ++ (at n ∷ [])) (none : table 0 ≡ []) where
+  table-upto : (n : ℕ) → map at (upto n) ≡ table n
+  unfolding upto
+  table-upto zero = sym none
+  table-upto (suc n) = map-more at (upto n) n ∙ ap (λ (xs : List A). xs ++ (at n ∷ [])) (table-upto n) ∙ sym (grows n)
+
+  -- what the order table points at is what the table has, in the order of the names
+  pub ordered-table : (called : A → Name) (text w : List ℕ) (b s p n : ℕ) → ((k : ℕ) → called (at k) ≡ name-in text w b s k) → InOrder text w b s p n
+      → map at (words-from w p n) ≡ by-name called (table n)
+  unfolding name-order
+  ordered-table called text w b s p n named ord =
+      let names : name-in text w b s ≡ (λ k. called (at k)) = λ i k. sym (named k) i in
+      ap (map at) (ord .words ∙ ap (λ (c : ℕ → Name). by-name c (upto n)) names)
+      ∙ sorted-map at (λ x y. not-after (called (at x)) (called (at y))) (λ x y. not-after (called x) (called y)) (λ a b. refl) [] (upto n)
+      ∙ ap (by-name called) (table-upto n)
 
 -- ---- items
 
@@ -32,45 +51,29 @@ module _ (text tape w : List ℕ) (b : ℕ) where
   row-called k = let e : b + k * 16 + 1 ≡ b + 1 + k * 16 = omega arith in ap (λ (i : ℕ). name-of text (getD w i 0)) e
 
   pub items-upto : (n : ℕ) → map (row-item text tape w b) (upto n) ≡ items-at text tape w b n
-  unfolding upto items-at
-  items-upto zero = refl
-  items-upto (suc n) =
-      map-more (row-item text tape w b) (upto n) n ∙ ap (λ (xs : List Item). xs ++ (row-item text tape w b n ∷ [])) (items-upto n)
-      ∙ sym (items-grow text tape w b n)
+  unfolding items-at
+  items-upto n = table-upto (row-item text tape w b) (items-at text tape w b) (items-grow text tape w b) refl n
 
-  -- the items that the order table points at are the table's, in the order of their names
   pub ordered-items : (p n : ℕ) → InOrder text w (b + 1) 16 p n
       → map (row-item text tape w b) (words-from w p n) ≡ by-name (λ (i : Item). i .name) (items-at text tape w b n)
-  unfolding name-order
+  unfolding items-at
   ordered-items p n ord =
-      let f = row-item text tape w b in
-      let called : name-in text w (b + 1) 16 ≡ (λ k. f k .name) = λ i k. sym (row-called k) i in
-      ap (map f) (ord .words ∙ ap (λ (c : ℕ → Name). by-name c (upto n)) called)
-      ∙ sorted-map f (λ x y. not-after (f x .name) (f y .name)) (λ x y. not-after (x .name) (y .name)) (λ a b. refl) [] (upto n)
-      ∙ ap (by-name (λ (i : Item). i .name)) (items-upto n)
+      ordered-table (row-item text tape w b) (items-at text tape w b) (items-grow text tape w b) refl (λ (i : Item). i .name) text w (b + 1) 16 p n
+      row-called ord
 
--- ---- names
+-- ---- parameters
 
-module _ (text w : List ℕ) where
-  pub names-grow : (b c : ℕ) → names-at text w b (suc c) ≡ names-at text w b c ++ (name-in text w b 1 c ∷ [])
-  unfolding names-at name-in
-  names-grow b zero = let e : b ≡ b + 0 * 1 = omega arith in ap (λ (i : ℕ). name-of text (getD w i 0) ∷ []) e
-  names-grow b (suc c) =
-      let e : b + 1 + c * 1 ≡ b + suc c * 1 = omega arith in
-      ap (name-of text (getD w b 0) ∷_)
-      (names-grow (b + 1) c ∙ ap (λ (i : ℕ). names-at text w (b + 1) c ++ (name-of text (getD w i 0) ∷ [])) e)
+-- the k-th of the parameters at b
+abbrev pub row-slot : List ℕ → List ℕ → ℕ → ℕ → Slot
+row-slot text w b k = slot-at text w (b + k * 2)
 
-  names-upto : (b n : ℕ) → map (name-in text w b 1) (upto n) ≡ names-at text w b n
-  unfolding upto names-at
-  names-upto b zero = refl
-  names-upto b (suc n) =
-      map-more (name-in text w b 1) (upto n) n ∙ ap (λ (xs : List Name). xs ++ (name-in text w b 1 n ∷ [])) (names-upto b n)
-      ∙ sym (names-grow b n)
+module _ (text w : List ℕ) (b : ℕ) where
+  pub slot-called : (k : ℕ) → row-slot text w b k .name ≡ name-in text w b 2 k
+  unfolding slot-at name-in
+  slot-called k = refl
 
-  -- the names that the order table points at, in order
-  pub ordered-called : (b p n : ℕ) → InOrder text w b 1 p n
-      → map (name-in text w b 1) (words-from w p n) ≡ by-name (λ (x : Name). x) (names-at text w b n)
-  unfolding name-order
-  ordered-called b p n ord =
-      let f = name-in text w b 1 in
-      ap (map f) (ord .words) ∙ sorted-map f (λ x y. not-after (f x) (f y)) not-after (λ a b. refl) [] (upto n) ∙ ap (by-name (λ (x : Name). x)) (names-upto b n)
+  pub ordered-slots : (p n : ℕ) → InOrder text w b 2 p n
+      → map (row-slot text w b) (words-from w p n) ≡ by-name (λ (q : Slot). q .name) (slots-at text w b n)
+  unfolding slots-at
+  ordered-slots p n ord =
+      ordered-table (row-slot text w b) (slots-at text w b) (slots-grow text w b) refl (λ (q : Slot). q .name) text w b 2 p n slot-called ord

@@ -15,17 +15,17 @@ use Rattle.order.specs.Order.{NamesApart}
 use Rattle.ordering.specs.declared.Table.the-variants.{Visible, Sorts, Hidden, Equations}
 use Rattle.ordering.specs.Orders.{Small}
 use Rattle.ordering.specs.Copying.{SortRoom, TableSorted, NotedRoom, TableNoted}
-use Rattle.ordering.specs.Kept.{NamesPut, ItemsPut, sorts-in-order, KeepRoom, order-place, ItemsKept, EquationsKept, items-kept, visible-put, sorts-then-items, names-room, names-put}
+use Rattle.ordering.specs.Kept.{ParametersPut, ItemsPut, sorts-in-order, KeepRoom, order-place, ItemsKept, EquationsKept, items-kept, visible-put, sorts-then-items, parameters-room, parameters-put}
 use Rattle.ordering.specs.Nodes.{kept-form}
 use Rattle.ordering.specs.Keeps.{keeps-all}
 
--- ---- `put_names`
+-- ---- `put_parameters`
 
-pub names-table : (size from n order to : ℕ) → SortRoom size 0 from n order to 1 → order + n ≤ size
-names-table size from n order to room = room .table
+pub parameters-table : (size from n order to : ℕ) → SortRoom size 0 from n order to 2 → order + n ≤ size
+parameters-table size from n order to room = room .table
 
-pub names-apart : (size from n order to : ℕ) → SortRoom size 0 from n order to 1 → NamesApart from 1 order n
-names-apart size from n order to room i h = inl (omega (arith, room .source))
+pub parameters-apart : (size from n order to : ℕ) → SortRoom size 0 from n order to 2 → NamesApart from 2 order n
+parameters-apart size from n order to room i h = inl (omega (arith, room .source))
 
 -- ---- `put_visible`, `put_hidden`
 
@@ -48,8 +48,8 @@ sorting-room size t from n order to notes room = room .sorting
 -- ---- `keep_items`, `keep_equations`
 
 module _ (size t : ℕ) (f k : Form) (p order : ℕ) (room : KeepRoom size t f k p order) where
-  names-here : SortRoom size 0 (f .parameters) (f .«parameter_count») order (k .parameters) 1
-  names-here = record {
+  parameters-here : SortRoom size 0 (f .parameters) (f .«parameter_count») order (k .parameters) 2
+  parameters-here = record {
     width = omega arith;
     tape = omega arith;
     table = omega (arith, room .room);
@@ -116,8 +116,8 @@ module _ (w u : List ℕ) (t : ℕ) (f k : Form) (p order : ℕ) (room : KeepRoo
   still : KeepRoom (length u) t f k p order
   still = subst (λ (size : ℕ). KeepRoom size t f k p order) (sym e) room
 
-  pub keep-names : SortRoom (length u) 0 (f .parameters) (f .«parameter_count») order (k .parameters) 1
-  keep-names = names-here (length u) t f k p order still
+  pub keep-parameters : SortRoom (length u) 0 (f .parameters) (f .«parameter_count») order (k .parameters) 2
+  keep-parameters = parameters-here (length u) t f k p order still
 
   pub keep-visible : NotedRoom (length u) t (f .visible) (f .«visible_count») order (k .visible) p
   keep-visible = visible-here (length u) t f k p order still
@@ -142,12 +142,13 @@ equations-kept text t f k p order c h w u w′ eh eu sorted = record {
 }
 
 pub items-done : (text : List ℕ) (t : ℕ) (f k : Form) (p order h : ℕ) (w u₁ u₂ w′ : List ℕ) → KeepRoom (length w) t f k p order → h ≡ p + f .«visible_count»
-    → NamesPut text (f .parameters) (f .«parameter_count») order (k .parameters) w u₁
+    → ParametersPut text (f .parameters) (f .«parameter_count») order (k .parameters) w u₁
     → ItemsPut text t visible-order (f .visible) (f .«visible_count») order (k .visible) p u₁ u₂
     → ItemsPut text t (hidden-order (sorts-in-order (items-at text (part u₂ 0 t) u₂ (f .hidden) (f .«hidden_count»)))) (f .hidden) (f .«hidden_count») order
     (k .hidden) h u₂ w′
     → ItemsKept text t f k p order w w′
-items-done text t f k p order h w u₁ u₂ w′ room e names visible hidden = items-kept text t f k p order w u₁ u₂ w′ room names visible (rw (← e) hidden)
+items-done text t f k p order h w u₁ u₂ w′ room e parameters visible hidden =
+    items-kept text t f k p order w u₁ u₂ w′ room parameters visible (rw (← e) hidden)
 
 -- ---- `order_place`, `kept_form`, `keep_in_order`
 
@@ -183,13 +184,13 @@ module _ (w : List ℕ) (t : ℕ) (f k : Form) (p : ℕ) (room : KeepRoom (lengt
 
 pub ruleset whole = (place-told, form-told, place-small, room-here, keeps-all, needs)
 
-pub ruleset keeps = (keep-names, keep-visible, keep-hidden, keep-equations, keep-tape, keep-few, keep-notes, equations-kept, items-done, needs)
+pub ruleset keeps = (keep-parameters, keep-visible, keep-hidden, keep-equations, keep-tape, keep-few, keep-notes, equations-kept, items-done, needs)
 
 pub ruleset cases = (
-  names-table,
-  names-apart,
-  names-room,
-  names-put,
+  parameters-table,
+  parameters-apart,
+  parameters-room,
+  parameters-put,
   visible-done,
   sorting-room,
   hidden-room,

@@ -38,14 +38,19 @@ low-items text tape w p b n h = items-same w (part w 0 p) text tape b n (λ i l 
 
 -- ---- rows by their numbers
 
+-- the first of words that were moved
+pub first-word : (w u : List ℕ) (b c : ℕ) → getD u (c + 0) 0 ≡ getD w (b + 0) 0 → getD u c 0 ≡ getD w b 0
+first-word w u b c h =
+    let x : c + 0 ≡ c = add-zero c in
+    let y : b + 0 ≡ b = add-zero b in
+    ap (λ (i : ℕ). getD u i 0) (sym x) ∙ h ∙ ap (λ (i : ℕ). getD w i 0) y
+
 -- a row is the row whose words it has
 words-moved : (w u : List ℕ) (b c n : ℕ) → ((j : ℕ) → j < n → getD u (c + j) 0 ≡ getD w (b + j) 0) → words-from u c n ≡ words-from w b n
 unfolding words-from
 words-moved w u b c zero h = refl
 words-moved w u b c (suc n) h =
-    let x : c + 0 ≡ c = add-zero c in
-    let y : b + 0 ≡ b = add-zero b in
-    ap₂ (λ (v : ℕ) (vs : List ℕ). v ∷ vs) (ap (λ (i : ℕ). getD u i 0) (sym x) ∙ h 0 (omega arith) ∙ ap (λ (i : ℕ). getD w i 0) y)
+    ap₂ (λ (v : ℕ) (vs : List ℕ). v ∷ vs) (first-word w u b c (h 0 (omega arith)))
     (words-moved w u (suc b) (suc c) n (λ j l.
     let p : suc c + j ≡ c + suc j = omega arith in
     let q : b + suc j ≡ suc b + j = omega arith in
@@ -54,9 +59,7 @@ words-moved w u b c (suc n) h =
 row-moved : (w u : List ℕ) (b c : ℕ) → ((j : ℕ) → j < 16 → getD u (c + j) 0 ≡ getD w (b + j) 0) → row-at u c ≡ row-at w b
 unfolding row-at
 row-moved w u b c h =
-    let x : c + 0 ≡ c = add-zero c in
-    let y : b + 0 ≡ b = add-zero b in
-    let first : getD u c 0 ≡ getD w b 0 = ap (λ (i : ℕ). getD u i 0) (sym x) ∙ h 0 (omega arith) ∙ ap (λ (i : ℕ). getD w i 0) y in
+    let first = first-word w u b c (h 0 (omega arith)) in
     let more : words-from u (c + 6) 9 ≡ words-from w (b + 6) 9 =
     words-moved w u (b + 6) (c + 6) 9 (λ j l.
     let p : c + 6 + j ≡ c + (6 + j) = omega arith in
@@ -70,22 +73,31 @@ row-moved w u b c h =
       sorts = more i;
     }
 
--- rows that are copies, word for word, of the rows whose numbers stand from p on
-pub items-by-number : (text tape w w′ : List ℕ) (from to p m : ℕ)
+-- what rows of s words stand for that are copies of the rows whose numbers stand from p on
+module _ {A : Type 0} (s : ℕ) (old new : ℕ → A) (table : ℕ → ℕ → List A) (none : (b : ℕ) → table b 0 ≡ [])
+    (more : (b m : ℕ) → table b (suc m) ≡ new b ∷ table (b + s) m) where
+  pub by-number : (v : List ℕ) (from to p m : ℕ) → ((i : ℕ) → i < m → new (to + i * s) ≡ old (from + getD v (p + i) 0 * s))
+      → table to m ≡ map (λ (k : ℕ). old (from + k * s)) (words-from v p m)
+  unfolding words-from
+  by-number v from to p zero h = none to
+  by-number v from to p (suc m) h =
+      let z : to + 0 * s ≡ to = omega arith in
+      let y : p + 0 ≡ p = add-zero p in
+      more to m
+      ∙ ap₂ (λ (x : A) (xs : List A). x ∷ xs)
+      (ap new (sym z) ∙ h 0 (omega arith) ∙ ap (λ (i : ℕ). old (from + getD v i 0 * s)) y)
+      (by-number v from (to + s) (suc p) m (λ i l.
+      let a : to + s + i * s ≡ to + suc i * s = omega arith in
+      let b : p + suc i ≡ suc p + i = omega arith in
+      ap new a ∙ h (suc i) (omega arith) ∙ ap (λ (k : ℕ). old (from + getD v k 0 * s)) b))
+
+items-by-number : (text tape w w′ : List ℕ) (from to p m : ℕ)
     → ((i : ℕ) → i < m → row-at w′ (to + i * 16) ≡ row-at w (from + getD w′ (p + i) 0 * 16))
     → items-at text tape w′ to m ≡ map (row-item text tape w from) (words-from w′ p m)
-unfolding items-at words-from
-items-by-number text tape w w′ from to p zero h = refl
-items-by-number text tape w w′ from to p (suc m) h =
-    let z : to + 0 * 16 ≡ to = omega arith in
-    let y : p + 0 ≡ p = add-zero p in
-    let first : row-at w′ to ≡ row-at w (from + getD w′ p 0 * 16) =
-    ap (row-at w′) (sym z) ∙ h 0 (omega arith) ∙ ap (λ (i : ℕ). row-at w (from + getD w′ i 0 * 16)) y in
-    ap₂ (λ (x : Item) (xs : List Item). x ∷ xs) (ap (item-of text tape) first)
-    (items-by-number text tape w w′ from (to + 16) (suc p) m (λ i l.
-    let a : to + 16 + i * 16 ≡ to + suc i * 16 = omega arith in
-    let b : p + suc i ≡ suc p + i = omega arith in
-    ap (row-at w′) a ∙ h (suc i) (omega arith) ∙ ap (λ (k : ℕ). row-at w (from + getD w′ k 0 * 16)) b))
+unfolding items-at
+items-by-number text tape w w′ from to p m h =
+    by-number 16 (λ b. item-of text tape (row-at w b)) (λ b. item-of text tape (row-at w′ b)) (items-at text tape w′) (λ b. refl) (λ b n. refl) w′ from to p m
+    (λ i l. ap (item-of text tape) (h i l))
 
 words-length : (w : List ℕ) (p m : ℕ) → length (words-from w p m) ≡ m
 unfolding words-from

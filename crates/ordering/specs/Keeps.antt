@@ -9,10 +9,10 @@ use native.Mathlib.Nat.{add-zero}
 use lib.ListN.{length, getD, take, drop, length-take, length-drop}
 use lib.Seq.{take-all}
 use Rattle.meaning.specs.Lists.{place-in, sorted-onto, sorted, sum}
-use Rattle.meaning.specs.Names.{Name, by-name, by-bytes}
+use Rattle.meaning.specs.Names.{by-name, by-bytes}
 use Rattle.meaning.specs.Numbers.{node-limit}
 use Rattle.meaning.specs.Origins.{export-section, declared-sort, Origin, visible-sort, var, ResolvedSides, ResolvedEquation, Item}
-use Rattle.meaning.specs.Normal.{Visible, Normal, sorts-among}
+use Rattle.meaning.specs.Normal.{Slot, Visible, Normal, sorts-among}
 use Rattle.meaning.specs.Written.{origin-text, equation-text, equation-order, visible-order, hidden-order, visible-in-order, hidden-in-order, in-order}
 use Rattle.meaning.specs.Checks.{equation-nodes}
 use Rattle.meaning.specs.OrderLaws.{Every, Rearranged, placed-rearranged, rearranged-every, sorted-rearranged, sorted-length, sorted-map, pairwise-rearranged}
@@ -21,8 +21,8 @@ use Rattle.tables.specs.Rows.{words-from, item-of}
 use Rattle.forms.specs.declared.Form.{Form}
 use Rattle.forms.specs.declared.EquationRow.{EquationRow}
 use Rattle.forms.specs.Memory.{part, Same, Kept, KeptTwo}
-use Rattle.forms.specs.Forms.{names-at, items-at, visible-at, equation-row-at, EquationStands, EquationsStand, Pointing, Stands}
-use Rattle.forms.specs.FormLaws.{Apart, names-same, items-same, row-same, equation-row-same, kept-same, kept-two-same, tape-same}
+use Rattle.forms.specs.Forms.{slots-at, items-at, visible-at, equation-row-at, EquationStands, EquationsStand, Pointing, Stands}
+use Rattle.forms.specs.FormLaws.{Apart, slots-same, items-same, row-same, equation-row-same, kept-same, kept-two-same, tape-same}
 use Rattle.forms.specs.Frames.{points-at, Stays, points-stay}
 use Rattle.order.specs.Order.{upto}
 use Rattle.order.specs.Sorting.{placed-alike, every-weaker, below-upto}
@@ -35,7 +35,7 @@ use Rattle.printing.specs.Terms.{equation-at}
 use Rattle.ordering.specs.declared.Table.{Table}
 use Rattle.ordering.specs.declared.Table.the-variants.{Equations}
 use Rattle.ordering.specs.Orders.{line-size, row-place, row-order, is-listed}
-use Rattle.ordering.specs.Arranged.{low-word, all-numbers}
+use Rattle.ordering.specs.Arranged.{low-word, first-word, all-numbers}
 use Rattle.ordering.specs.Kept.{ItemNoted, sorts-in-order, KeepRoom, scratch-end, order-place, ItemsKept, EquationsKept, renumbered}
 use Rattle.ordering.specs.Nodes.{kept-form, Distinct, pointing-kept, equation-kept, line-kept}
 use Rattle.ordering.specs.Lines.{line-short}
@@ -109,9 +109,7 @@ rows-stand text tape w f eq b o (suc c) h =
 equation-row-moved : (w u : List ℕ) (b c : ℕ) → ((j : ℕ) → j < 8 → getD u (c + j) 0 ≡ getD w (b + j) 0) → equation-row-at u c ≡ equation-row-at w b
 unfolding equation-row-at
 equation-row-moved w u b c h =
-    let x : c + 0 ≡ c = add-zero c in
-    let y : b + 0 ≡ b = add-zero b in
-    let first : getD u c 0 ≡ getD w b 0 = ap (λ (i : ℕ). getD u i 0) (sym x) ∙ h 0 (omega arith) ∙ ap (λ (i : ℕ). getD w i 0) y in
+    let first = first-word w u b c (h 0 (omega arith)) in
     λ i. record {
       home = first i;
       position = h 1 (omega arith) i;
@@ -374,15 +372,15 @@ module _ (text : List ℕ) (t : ℕ) (f k : Form) (p order : ℕ) (w u w′ : Li
     visible-end : visible-at text tape w′ (kept-form f k) ≡ visible-in-order (n .visible)
     unfolding visible-at visible-in-order kept-form
     visible-end =
-        let names : names-at text w′ (k .parameters) (f .«parameter_count») ≡ by-name (λ (y : Name). y) (n .visible .parameters) =
-        names-same u w′ text (k .parameters) (f .«parameter_count») (λ i h l.
+        let slots : slots-at text w′ (k .parameters) (f .«parameter_count») ≡ by-name (λ (q : Slot). q .name) (n .visible .parameters) =
+        slots-same u w′ text (k .parameters) (f .«parameter_count») (λ i h l.
         from-items w′ end-long end-near i (omega (arith, room .parameters, room .visible, room .hidden, room .equations, room .nodes, room .notes))
         (inl (omega (arith, room .parameters, room .visible, room .hidden))))
-        ∙ items .names ∙ ap (λ (v : Visible). by-name (λ (y : Name). y) (v .parameters)) (stands .visible) in
+        ∙ items .parameters ∙ ap (λ (v : Visible). by-name (λ (q : Slot). q .name) (v .parameters)) (stands .visible) in
         let its : items-at text tape w′ (k .visible) (f .«visible_count») ≡ sorted visible-order (n .visible .items) =
         items-same u w′ text tape (k .visible) (f .«visible_count») (visible-table w′ end-long end-near)
         ∙ items .visible ∙ ap (λ (v : Visible). sorted visible-order (v .items)) (stands .visible) in
-        λ i. record { parameters = names i; items = its i }
+        λ i. record { parameters = slots i; items = its i }
 
     stands-there : Stands text tape w′ (kept-form f k) (in-order n)
     unfolding in-order hidden-in-order kept-form

@@ -2,81 +2,69 @@
 use mathlib.Core.Path.{_≡_, refl, sym, ap, ap₂, _∙_}
 use mathlib.Core.Logic.{⊎-elim, inl, inr}
 use mathlib.Core.Bool.{Bool, true}
-use mathlib.Core.List.{List, _∷_, map}
-use Prim.Native.Nat.{ℕ, zero, suc, _+_, _*_, _≤_, _<_}
+use mathlib.Core.List.{List}
+use Prim.Native.Nat.{ℕ, _+_, _*_, _≤_, _<_}
 use native.Mathlib.Omega.{arith}
-use native.Mathlib.Nat.{add-zero}
 use lib.ListN.{length, getD}
-use Rattle.meaning.specs.Names.{Name, by-name, by-bytes}
+use Rattle.meaning.specs.Names.{by-name, by-bytes}
 use Rattle.meaning.specs.Lists.{sorted}
 use Rattle.meaning.specs.Origins.{Item}
-use Rattle.meaning.specs.Normal.{sorts-among}
+use Rattle.meaning.specs.Normal.{Slot, sorts-among}
 use Rattle.meaning.specs.Written.{origin-text, visible-order, hidden-order}
 use Rattle.names.specs.Word.{name-of}
-use Rattle.tables.specs.Rows.{words-from, item-of, row-at}
+use Rattle.tables.specs.Rows.{item-of, row-at}
 use Rattle.forms.specs.declared.Form.{Form}
 use Rattle.forms.specs.Memory.{part, Same, KeptTwo}
-use Rattle.forms.specs.Forms.{names-at, items-at}
-use Rattle.forms.specs.FormLaws.{Apart, kept-wider, kept-is-two, kept-two-same, kept-two-swap, kept-two-then, names-same, items-same, row-same, tape-same}
+use Rattle.forms.specs.Forms.{slot-at, slots-at, items-at}
+use Rattle.forms.specs.FormLaws.{Apart, kept-is-two, kept-two-same, kept-two-swap, kept-two-then, slots-same, items-same, row-same, tape-same}
 use Rattle.forms.specs.Blocks.{Outside}
-use Rattle.order.specs.Order.{name-in, PutInOrder}
+use Rattle.order.specs.Order.{PutInOrder}
 use Rattle.order.specs.Sorting.{below-order, every-word}
-use Rattle.order.specs.Ordered.{row-item, ordered-called}
+use Rattle.order.specs.Ordered.{row-item, ordered-slots}
 use Rattle.joining.specs.Joined.{copied}
 use Rattle.ordering.specs.declared.Table.{Table}
 use Rattle.ordering.specs.declared.Table.the-variants.{Visible, Sorts, Hidden, Equations}
 use Rattle.ordering.specs.Orders.{is-listed}
 use Rattle.ordering.specs.Copying.{Numbers, CopyRoom, RowsCopied, SortRoom, TableSorted, NotedRoom, TableNoted}
-use Rattle.ordering.specs.Arranged.{low-word, low-items, row-copied, each-number, visible-arranged, hidden-arranged, sorts-arranged}
+use Rattle.ordering.specs.Arranged.{low-word, low-items, first-word, by-number, row-copied, each-number, visible-arranged, hidden-arranged, sorts-arranged}
 
--- ---- names
+-- ---- parameters
 
--- words that are copies of the names whose numbers stand from p on
-names-by-number : (text w w′ : List ℕ) (from to p n : ℕ) → ((i : ℕ) → i < n → getD w′ (to + i) 0 ≡ getD w (from + getD w (p + i) 0 * 1) 0)
-    → names-at text w′ to n ≡ map (name-in text w from 1) (words-from w p n)
-unfolding names-at words-from name-in
-names-by-number text w w′ from to p zero h = refl
-names-by-number text w w′ from to p (suc n) h =
-    let z : to + 0 ≡ to = add-zero to in
-    let y : p + 0 ≡ p = add-zero p in
-    let first : getD w′ to 0 ≡ getD w (from + getD w p 0 * 1) 0 =
-    ap (λ (i : ℕ). getD w′ i 0) (sym z) ∙ h 0 (omega arith) ∙ ap (λ (i : ℕ). getD w (from + getD w i 0 * 1) 0) y in
-    ap₂ (λ (x : Name) (xs : List Name). x ∷ xs) (ap (name-of text) first)
-    (names-by-number text w w′ from (to + 1) (suc p) n (λ i l.
-    let a : to + 1 + i ≡ to + suc i = omega arith in
-    let b : p + suc i ≡ suc p + i = omega arith in
-    ap (λ (k : ℕ). getD w′ k 0) a ∙ h (suc i) (omega arith) ∙ ap (λ (k : ℕ). getD w (from + getD w k 0 * 1) 0) b))
+slot-moved : (text w u : List ℕ) (b c : ℕ) → ((j : ℕ) → j < 2 → getD u (c + j) 0 ≡ getD w (b + j) 0) → slot-at text u c ≡ slot-at text w b
+unfolding slot-at
+slot-moved text w u b c h =
+    let first = first-word w u b c (h 0 (omega arith)) in
+    λ i. record { name = name-of text (first i); home = name-of text (h 1 (omega arith) i) }
 
-pub record NamesPut (text : List ℕ) (from n order to : ℕ) (w w′ : List ℕ) : Type 0 where
-  pub names : names-at text w′ to n ≡ by-name (λ (x : Name). x) (names-at text w from n)
-  pub kept : KeptTwo to (to + n) order (order + n) w w′
+pub record ParametersPut (text : List ℕ) (from n order to : ℕ) (w w′ : List ℕ) : Type 0 where
+  pub slots : slots-at text w′ to n ≡ by-name (λ (q : Slot). q .name) (slots-at text w from n)
+  pub kept : KeptTwo to (to + n * 2) order (order + n) w w′
 
-module _ (text : List ℕ) (from n order to : ℕ) (w u : List ℕ) (room : SortRoom (length w) 0 from n order to 1)
-    (ordered : PutInOrder text w u from 1 order n) where
-  names-numbers : Numbers u order n n
-  names-numbers = record {
-    below = λ i h. every-word (λ k. k < n) u order n i (rw (ordered .ordered .words) (below-order text u from 1 n)) h;
+module _ (text : List ℕ) (from n order to : ℕ) (w u : List ℕ) (room : SortRoom (length w) 0 from n order to 2)
+    (ordered : PutInOrder text w u from 2 order n) where
+  parameter-numbers : Numbers u order n n
+  parameter-numbers = record {
+    below = λ i h. every-word (λ k. k < n) u order n i (rw (ordered .ordered .words) (below-order text u from 2 n)) h;
   }
 
-  pub names-room : CopyRoom (length u) from n order n to 1
-  names-room = record {
+  pub parameters-room : CopyRoom (length u) from n order n to 2
+  parameters-room = record {
     width = room .width;
     room = omega (arith, room .target, room .table, ordered .kept .size);
     apart = room .apart;
     table = inr (omega (arith, room .target));
   }
 
-  pub names-put : (w′ : List ℕ) → RowsCopied from n order n to 1 u w′ → NamesPut text from n order to w w′
-  names-put w′ copied = record {
-    names = names-by-number text u w′ from to order n (λ i h.
-        let a : to + i ≡ to + i * 1 + 0 = omega arith in
-        let b : from + getD u (order + i) 0 * 1 + 0 ≡ from + getD u (order + i) 0 * 1 = omega arith in
-        ap (λ (k : ℕ). getD w′ k 0) a ∙ copied .rows i 0 h (names-numbers .below i h) (omega arith) ∙ ap (λ (k : ℕ). getD u k 0) b)
-        ∙ ordered-called text u from order n (ordered .ordered)
-        ∙ ap (by-name (λ (x : Name). x)) (names-same w u text from n (λ i h l. ordered .kept .below i (omega (arith, room .source))));
-    kept = kept-two-then to (to + n) order (order + n) w u w′
-        (kept-two-swap order (order + n) to (to + n) w u (kept-is-two order (order + n) to (to + n) w u (ordered .kept)))
-        (kept-is-two to (to + n) order (order + n) u w′ (kept-wider to (to + n * 1) to (to + n) u w′ (omega arith) (omega arith) (copied .kept)));
+  pub parameters-put : (w′ : List ℕ) → RowsCopied from n order n to 2 u w′ → ParametersPut text from n order to w w′
+  unfolding slots-at
+  parameters-put w′ copied = record {
+    slots = by-number 2 (slot-at text u) (slot-at text w′) (slots-at text w′) (λ b. refl) (λ b m. refl) u from to order n (λ i h.
+        slot-moved text u w′ (from + getD u (order + i) 0 * 2) (to + i * 2) (λ j l. copied .rows i j h (parameter-numbers .below i h) l))
+        ∙ ordered-slots text u from order n (ordered .ordered)
+        ∙ ap (by-name (λ (q : Slot). q .name)) (slots-same w u text from n (λ i h l. ordered .kept .below i (omega (arith, room .source))));
+    kept = kept-two-then to (to + n * 2) order (order + n) w u w′
+        (kept-two-swap order (order + n) to (to + n * 2) w u (kept-is-two order (order + n) to (to + n * 2) w u (ordered .kept)))
+        (kept-is-two to (to + n * 2) order (order + n) u w′ (copied .kept));
   }
 
 -- ---- items
@@ -197,13 +185,13 @@ module _ (text : List ℕ) (t : ℕ) (le : Item → Item → Bool) (from n order
 -- the places of k lie behind the tape, in order, with room for what f has, and apart from f; notes and order table behind all
 pub record KeepRoom (size t : ℕ) (f k : Form) (p order : ℕ) : Type 0 where
   pub tape : t ≤ k .parameters
-  pub parameters : k .parameters + f .«parameter_count» ≤ k .visible
+  pub parameters : k .parameters + f .«parameter_count» * 2 ≤ k .visible
   pub visible : k .visible + f .«visible_count» * 16 ≤ k .hidden
   pub hidden : k .hidden + f .«hidden_count» * 16 ≤ k .equations
   pub equations : k .equations + f .«equation_count» * 8 ≤ k .nodes
   pub nodes : k .nodes + f .«node_count» ≤ p
   pub outside : Outside (k .parameters) (k .nodes + f .«node_count») f
-  pub parameters-before : f .parameters + f .«parameter_count» ≤ p
+  pub parameters-before : f .parameters + f .«parameter_count» * 2 ≤ p
   pub visible-before : f .visible + f .«visible_count» * 16 ≤ p
   pub hidden-before : f .hidden + f .«hidden_count» * 16 ≤ p
   pub equations-before : f .equations + f .«equation_count» * 8 ≤ p
@@ -223,7 +211,8 @@ abbrev pub scratch-end : Form → ℕ → ℕ
 scratch-end f order = order + (f .«parameter_count» + f .«visible_count» + f .«hidden_count» + f .«equation_count»)
 
 pub record ItemsKept (text : List ℕ) (t : ℕ) (f k : Form) (p order : ℕ) (w w′ : List ℕ) : Type 0 where
-  pub names : names-at text w′ (k .parameters) (f .«parameter_count») ≡ by-name (λ (x : Name). x) (names-at text w (f .parameters) (f .«parameter_count»))
+  pub parameters : slots-at text w′ (k .parameters) (f .«parameter_count»)
+      ≡ by-name (λ (q : Slot). q .name) (slots-at text w (f .parameters) (f .«parameter_count»))
   pub visible : items-at text (part w 0 t) w′ (k .visible) (f .«visible_count»)
       ≡ sorted visible-order (items-at text (part w 0 t) w (f .visible) (f .«visible_count»))
   pub visible-noted : (r : ℕ) → r < f .«visible_count» → ItemNoted text t (f .visible) (f .«visible_count») (k .visible) p w w′ r
@@ -247,7 +236,7 @@ part-apart low high a e b f h l (inl q) = inl (omega arith)
 part-apart low high a e b f h l (inr q) = inr (omega arith)
 
 module _ (text : List ℕ) (t : ℕ) (f k : Form) (p order : ℕ) (w u₁ u₂ w′ : List ℕ) (room : KeepRoom (length w) t f k p order)
-    (names : NamesPut text (f .parameters) (f .«parameter_count») order (k .parameters) w u₁)
+    (parameters : ParametersPut text (f .parameters) (f .«parameter_count») order (k .parameters) w u₁)
     (visible : ItemsPut text t visible-order (f .visible) (f .«visible_count») order (k .visible) p u₁ u₂)
     (hidden : ItemsPut text t (hidden-order (sorts-in-order (items-at text (part u₂ 0 t) u₂ (f .hidden) (f .«hidden_count»)))) (f .hidden)
     (f .«hidden_count») order (k .hidden) (p + f .«visible_count») u₂ w′) where
@@ -256,8 +245,8 @@ module _ (text : List ℕ) (t : ℕ) (f k : Form) (p order : ℕ) (w u₁ u₂ w
 
   first : KeptTwo (k .parameters) (k .equations) p end w u₁
   first =
-      kept-two-wider (k .parameters) (k .parameters + f .«parameter_count») order (order + f .«parameter_count») (k .parameters) (k .equations) p end w u₁
-      (omega arith) (omega (arith, room .parameters, room .visible, room .hidden)) (omega (arith, room .notes)) (omega arith) (names .kept)
+      kept-two-wider (k .parameters) (k .parameters + f .«parameter_count» * 2) order (order + f .«parameter_count») (k .parameters) (k .equations) p end w u₁
+      (omega arith) (omega (arith, room .parameters, room .visible, room .hidden)) (omega (arith, room .notes)) (omega arith) (parameters .kept)
 
   second : KeptTwo (k .parameters) (k .equations) p end u₁ u₂
   second =
@@ -292,7 +281,7 @@ module _ (text : List ℕ) (t : ℕ) (f k : Form) (p order : ℕ) (w u₁ u₂ w
       let tapes₂ = tape-stays u₂ both in
       let hidden-source = source-stays (f .hidden) (f .hidden + f .«hidden_count» * 16) u₂ both (room .outside .hidden) (room .hidden-before) in
       let visible-source = source-stays (f .visible) (f .visible + f .«visible_count» * 16) u₁ first (room .outside .visible) (room .visible-before) in
-      let names-stay : Same (k .parameters) (k .parameters + f .«parameter_count») u₁ w′ =
+      let parameters-stay : Same (k .parameters) (k .parameters + f .«parameter_count» * 2) u₁ w′ =
       λ i h l. hidden .kept .kept i (inl (omega (arith, room .parameters, room .visible))) (inl (omega (arith, room .parameters, room .visible)))
       ∙ visible .kept .kept i (inl (omega (arith, room .parameters))) (inl (omega (arith, room .parameters, room .visible))) in
       let visible-stay : Same (k .visible) (k .visible + f .«visible_count» * 16) u₂ w′ =
@@ -305,7 +294,7 @@ module _ (text : List ℕ) (t : ℕ) (f k : Form) (p order : ℕ) (w u₁ u₂ w
       (ap (λ (tape : List ℕ). items-at text tape u₂ (f .hidden) (f .«hidden_count»)) tapes₂
       ∙ items-same w u₂ text (part w 0 t) (f .hidden) (f .«hidden_count») hidden-source) in
       record {
-        names = names-same u₁ w′ text (k .parameters) (f .«parameter_count») names-stay ∙ names .names;
+        parameters = slots-same u₁ w′ text (k .parameters) (f .«parameter_count») parameters-stay ∙ parameters .slots;
         visible = moved-items text t visible-order (f .visible) (f .«visible_count») order
             (k .visible) p w u₁ u₂ w′ visible tapes₁ visible-source visible-stay notes-stay;
         visible-noted = moved-noted text t visible-order (f .visible) (f .«visible_count») order

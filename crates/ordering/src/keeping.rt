@@ -15,17 +15,25 @@ ghost use Rattle.names.specs.Joint.{joint};
 ghost use Rattle.forms.specs.Memory.{part};
 ghost use Rattle.forms.specs.Forms.{items-at};
 ghost use Rattle.ordering.specs.Copying.{SortRoom, NotedRoom};
-ghost use Rattle.ordering.specs.Kept.{NamesPut, ItemsPut, sorts-in-order, KeepRoom, order-place, ItemsKept, EquationsKept};
+ghost use Rattle.ordering.specs.Kept.{ParametersPut, ItemsPut, sorts-in-order, KeepRoom, order-place, ItemsKept, EquationsKept};
 ghost use Rattle.ordering.specs.Nodes.{kept-form};
 ghost use Rattle.ordering.specs.Keeps.{Keeps};
 
-// n names at `from`, in order, to `to`.
-fn put_names(library: &[u8], text: &[u8], work: &mut [u32], from: u32, n: u32, order: u32, to: u32)
-    requires { ⌜ SortRoom (length (now work)) 0 from n order to 1 ⌝ }
-    ensures { λ u. ⌜ NamesPut (joint (now (library .entry)) (now (text .entry))) from n order to (now (work .entry)) (now (work .exit)) ⌝ }
+// n parameters at `from`, in order, to `to`.
+fn put_parameters(
+    library: &[u8],
+    text: &[u8],
+    work: &mut [u32],
+    from: u32,
+    n: u32,
+    order: u32,
+    to: u32,
+)
+    requires { ⌜ SortRoom (length (now work)) 0 from n order to 2 ⌝ }
+    ensures { λ u. ⌜ ParametersPut (joint (now (library .entry)) (now (text .entry))) from n order to (now (work .entry)) (now (work .exit)) ⌝ }
 {
-    order_names(library, text, work, from, 1, n, order);
-    copy_rows(work, from, n, order, n, to, 1);
+    order_names(library, text, work, from, 2, n, order);
+    copy_rows(work, from, n, order, n, to, 2);
 }
 
 // n visible items at `from`, in order, to `to`.
@@ -115,7 +123,7 @@ fn keep_items(
     ensures { λ u. ⌜ ItemsKept (joint (now (library .entry)) (now (text .entry))) t f k p order (now (work .entry)) (now (work .exit)) ⌝ }
 {
     let hidden_notes = p + f.visible_count;
-    put_names(
+    put_parameters(
         library,
         text,
         work,

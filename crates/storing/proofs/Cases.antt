@@ -12,20 +12,20 @@ use Rattle.ordering.specs.Keeps.{Keeps}
 use Rattle.storing.specs.Places.{place-form, scratch-start, space-small, keep-room}
 use Rattle.storing.specs.Storing.{store-done}
 
-pub is-scratch : 992352 ≡ scratch-start
+pub is-scratch : 1025672 ≡ scratch-start
 unfolding scratch-start
 is-scratch = refl
 
 pub is-placed : (f : Form) (c : ℕ) → record {
   parameters = c;
   «parameter_count» = f .«parameter_count»;
-  visible = c + f .«parameter_count»;
+  visible = c + f .«parameter_count» * 2;
   «visible_count» = f .«visible_count»;
-  hidden = c + f .«parameter_count» + f .«visible_count» * 16;
+  hidden = c + f .«parameter_count» * 2 + f .«visible_count» * 16;
   «hidden_count» = f .«hidden_count»;
-  equations = c + f .«parameter_count» + f .«visible_count» * 16 + f .«hidden_count» * 16;
+  equations = c + f .«parameter_count» * 2 + f .«visible_count» * 16 + f .«hidden_count» * 16;
   «equation_count» = f .«equation_count»;
-  nodes = c + f .«parameter_count» + f .«visible_count» * 16 + f .«hidden_count» * 16 + f .«equation_count» * 8;
+  nodes = c + f .«parameter_count» * 2 + f .«visible_count» * 16 + f .«hidden_count» * 16 + f .«equation_count» * 8;
   «node_count» = f .«node_count»;
 }
     ≡ place-form f c

@@ -14,20 +14,20 @@ use Rattle.environment.specs.Growing.{table-end}
 
 -- the words that what f has takes
 abbrev pub form-space : Form → ℕ
-form-space f = f .«parameter_count» + f .«visible_count» * 16 + f .«hidden_count» * 16 + f .«equation_count» * 8 + f .«node_count»
+form-space f = f .«parameter_count» * 2 + f .«visible_count» * 16 + f .«hidden_count» * 16 + f .«equation_count» * 8 + f .«node_count»
 
 -- what f has, in places one behind the other
 unfoldable pub place-form : Form → ℕ → Form
 place-form f cursor = record {
   parameters = cursor;
   «parameter_count» = f .«parameter_count»;
-  visible = cursor + f .«parameter_count»;
+  visible = cursor + f .«parameter_count» * 2;
   «visible_count» = f .«visible_count»;
-  hidden = cursor + f .«parameter_count» + f .«visible_count» * 16;
+  hidden = cursor + f .«parameter_count» * 2 + f .«visible_count» * 16;
   «hidden_count» = f .«hidden_count»;
-  equations = cursor + f .«parameter_count» + f .«visible_count» * 16 + f .«hidden_count» * 16;
+  equations = cursor + f .«parameter_count» * 2 + f .«visible_count» * 16 + f .«hidden_count» * 16;
   «equation_count» = f .«equation_count»;
-  nodes = cursor + f .«parameter_count» + f .«visible_count» * 16 + f .«hidden_count» * 16 + f .«equation_count» * 8;
+  nodes = cursor + f .«parameter_count» * 2 + f .«visible_count» * 16 + f .«hidden_count» * 16 + f .«equation_count» * 8;
   «node_count» = f .«node_count»;
 }
 
@@ -53,7 +53,7 @@ placed-between f cursor = record {
 -- ---- notes and order table
 
 unfoldable pub scratch-start : ℕ
-scratch-start = 992352
+scratch-start = 1025672
 
 -- notes of 512 items, and an order table of 8 parameters, 512 items and 256 equations
 abbrev pub scratch-room : ℕ

@@ -20,7 +20,7 @@ pub fn form_space(f: Form) -> u32
     requires { ⌜ form-space f ≤ 1073741824 ⌝ }
     ensures { λ r. ⌜ r ≡ form-space f ⌝ }
 {
-    f.parameter_count
+    f.parameter_count * 2
         + f.visible_count * 16
         + f.hidden_count * 16
         + f.equation_count * 8
@@ -41,7 +41,7 @@ fn place_form(f: Form, cursor: u32) -> Form
     requires { ⌜ cursor + form-space f ≤ 1073741824 ⌝ }
     ensures { λ r. ⌜ r ≡ place-form f cursor ⌝ }
 {
-    let visible = cursor + f.parameter_count;
+    let visible = cursor + f.parameter_count * 2;
     let hidden = visible + f.visible_count * 16;
     let equations = hidden + f.hidden_count * 16;
     let nodes = equations + f.equation_count * 8;
@@ -63,7 +63,7 @@ fn place_form(f: Form, cursor: u32) -> Form
 fn scratch_start() -> u32
     ensures { λ r. ⌜ r ≡ scratch-start ⌝ }
 {
-    992352
+    1025672
 }
 
 // The form f in order, from the cursor on.

@@ -24,7 +24,7 @@ use Rattle.forms.specs.declared.Form.{Form}
 use Rattle.forms.specs.declared.Made.{Made}
 use Rattle.forms.specs.declared.Made.the-variants.{Done, Refused}
 use Rattle.forms.specs.Memory.{part, Kept}
-use Rattle.forms.specs.FormLaws.{Apart, kept-all, kept-same, names-same, items-same, items-split}
+use Rattle.forms.specs.FormLaws.{Apart, kept-all, kept-same, slots-same, items-same, items-split}
 use Rattle.forms.specs.Forms.{items-at, node-row, node-of, node-in, nodes-of, flat-equation, equation-row-at, EquationStands, EquationsStand, node-item, VisiblePoint, HiddenPoint, Pointing, visible-at}
 use Rattle.forms.specs.Blocks.{Makes}
 use Rattle.typing.specs.declared.Known.{Known}
@@ -81,7 +81,7 @@ pub record OwnLaid (text : List ℕ) (t : ℕ) (f : Form) (v : Visible) (hidden 
   pub tape : t ≤ f .equations
   pub behind : f .hidden ≡ f .visible + f .«visible_count» * 16
   pub items-apart : Apart (f .equations) high (f .visible) (f .visible + (f .«visible_count» + f .«hidden_count») * 16)
-  pub names-apart : Apart (f .equations) high (f .parameters) (f .parameters + f .«parameter_count»)
+  pub names-apart : Apart (f .equations) high (f .parameters) (f .parameters + f .«parameter_count» * 2)
   pub rows : f .equations + equations * 8 ≤ f .nodes
   pub nodes : f .nodes + (entries + entries) ≤ high
   pub inside : high ≤ length w
@@ -201,10 +201,10 @@ module _ (text : List ℕ) (t : ℕ) (f : Form) (v : Visible) (hidden : List Ite
     visible-still : visible-at text (part w 0 t) w g ≡ v
     unfolding visible-at
     visible-still =
-        let names = names-same w₀ w text (f .parameters) (f .«parameter_count»)
-        (kept-same (f .equations) high (f .parameters) (f .parameters + f .«parameter_count») w₀ w (laid .names-apart) kept) in
+        let slots = slots-same w₀ w text (f .parameters) (f .«parameter_count»)
+        (kept-same (f .equations) high (f .parameters) (f .parameters + f .«parameter_count» * 2) w₀ w (laid .names-apart) kept) in
         let items = items-still (f .visible) (f .«visible_count») (omega arith) (omega arith) in
-        (λ z. record { parameters = names z; items = items z }) ∙ laid .visible
+        (λ z. record { parameters = slots z; items = items z }) ∙ laid .visible
 
     hidden-still : items-at text (part w 0 t) w (f .hidden) (f .«hidden_count») ≡ hidden
     hidden-still = items-still (f .hidden) (f .«hidden_count») (omega (arith, laid .behind)) (omega (arith, laid .behind)) ∙ laid .hidden-items

@@ -6,6 +6,7 @@ pub block-at-spec : {M : Type 1} → statement M
 block-at-spec =
     tie.close
     (tie.spec
+    (λ c. search cases)  -- mul-visible
     (λ c. search cases)  -- add-visible
     (λ c. search cases)  -- mul-hidden
     (λ c. search cases)  -- add-hidden

@@ -8,6 +8,7 @@ pub place-form-spec : {M : Type 1} → statement M
 place-form-spec =
     tie.close
     (tie.spec
+    (λ c. search needs)  -- mul-visible
     (λ c. search needs)  -- add-visible
     (λ c. search needs)  -- mul-hidden
     (λ c. search needs)  -- add-hidden

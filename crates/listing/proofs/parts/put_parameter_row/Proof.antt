@@ -10,6 +10,7 @@ put-parameter-row-spec =
     tie.close
     (tie.spec
     (λ c. search needs)  -- cast-word-at
+    (λ c. search needs)  -- mul-word-at
     (λ c. search needs)  -- add-word-at
     (λ c κs. search needs)  -- word-at-requires
     (λ c κs. search needs)  -- put-parameter-requires

@@ -9,7 +9,7 @@ keep-items-spec =
     tie.close
     (tie.spec
     (λ c. search needs)  -- add-hidden-notes
-    (λ c κs. search keeps)  -- put-names-requires
+    (λ c κs. search keeps)  -- put-parameters-requires
     (λ c κs. search keeps)  -- put-visible-requires
     (λ c κs. (search keeps, (search keeps, search keeps)))  -- put-hidden-requires
     (λ c. search needs)  -- same-length

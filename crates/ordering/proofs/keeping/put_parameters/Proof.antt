@@ -1,11 +1,11 @@
--- `ordering::keeping::put_names` meets its contract. Assumes nothing.
+-- `ordering::keeping::put_parameters` meets its contract. Assumes nothing.
 use Rattle.ordering.proofs.KeepCases.{cases}
 use borrow.Author.Needs.{needs}
-use Rattle.ordering.proofs.keeping.put_names.Statement.{statement}
-use Rattle.ordering.proofs.keeping.put_names.Tie as tie
+use Rattle.ordering.proofs.keeping.put_parameters.Statement.{statement}
+use Rattle.ordering.proofs.keeping.put_parameters.Tie as tie
 
-pub put-names-spec : {M : Type 1} → statement M
-put-names-spec =
+pub put-parameters-spec : {M : Type 1} → statement M
+put-parameters-spec =
     tie.close
     (tie.spec
     (λ c κs. search cases)  -- order-names-requires
