@@ -11,8 +11,7 @@ use lib.Seq.{sets}
 use borrow.Author.Needs.{needs}
 use Rattle.meaning.specs.Lists.{pick, any, before}
 use Rattle.meaning.specs.Names.{same}
-use Rattle.meaning.specs.Origins.{same-section, same-origin, same-shape, Item, one-item}
-use Rattle.meaning.specs.Checks.{in-parameter}
+use Rattle.meaning.specs.Origins.{same-section, same-origin, same-shape, Item, one-item, in-parameter}
 use Rattle.names.specs.Word.{name-of}
 use Rattle.tables.specs.declared.Row.{Row}
 use Rattle.tables.specs.Rows.{section-of, item-of, row-at, row-words}

@@ -6,8 +6,7 @@ use mathlib.Core.Bool.{Bool, true, not}
 use mathlib.Core.List.{List, [], _∷_, map}
 use lib.ListN.{getD, take}
 use Rattle.meaning.specs.Lists.{pick, keep, any, before, union}
-use Rattle.meaning.specs.Origins.{Item, one-item}
-use Rattle.meaning.specs.Checks.{in-parameter}
+use Rattle.meaning.specs.Origins.{Item, one-item, in-parameter}
 use Rattle.names.specs.Word.{name-of}
 use Rattle.forms.specs.Memory.{Kept, KeptTwo}
 use Rattle.forms.specs.Forms.{items-at}

@@ -11,8 +11,8 @@ use borrow.Author.Needs.{needs}
 use borrow.Author.Tests.{eq-eqb, ne-eqb, eqb-true, eqb-false, leb-true, leb-false}
 use Rattle.meaning.specs.Lists.{pick, agree}
 use Rattle.meaning.specs.Names.{same}
-use Rattle.meaning.specs.Origins.{same-origin, same-sort, same-shape, is-sort, is-function, Shape, sort-shape, function-shape, variable-shape}
-use Rattle.meaning.specs.Checks.{other-origin, other-output, in-parameter, in-one-parameter, both-in-one}
+use Rattle.meaning.specs.Origins.{same-origin, same-sort, same-shape, is-sort, is-function, Shape, sort-shape, function-shape, variable-shape, in-parameter}
+use Rattle.meaning.specs.Checks.{other-origin, other-output, in-one-parameter, both-in-one}
 use Rattle.names.specs.Word.{name-of}
 use Rattle.tables.specs.declared.Row.{Row}
 use Rattle.tables.specs.declared.Section.{Section}

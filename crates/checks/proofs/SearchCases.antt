@@ -15,14 +15,15 @@ use Rattle.meaning.specs.Lists.{pick, any}
 use Rattle.meaning.specs.Names.{Name, same, not-after}
 use Rattle.meaning.specs.OrderLaws.{same-equal, same-self, not-after-antisymmetric}
 use Rattle.meaning.specs.Origins.{Item}
+use Rattle.meaning.specs.Normal.{Slot}
 use Rattle.meaning.specs.Checks.{at-odds, least-at-odds}
 use Rattle.names.specs.Word.{name-of}
 use Rattle.tables.specs.declared.Row.{Row}
 use Rattle.tables.specs.Rows.{words-from, row-at, item-of}
-use Rattle.forms.specs.Forms.{names-at, items-at}
+use Rattle.forms.specs.Forms.{slot-at, slots-at, items-at}
 use Rattle.order.specs.Order.{name-in, InOrder}
 use Rattle.order.specs.Sorting.{ordered-names}
-use Rattle.order.specs.Ordered.{row-item, row-called, ordered-items, ordered-called}
+use Rattle.order.specs.Ordered.{row-item, row-called, ordered-items, row-slot, slot-called, ordered-slots}
 use Rattle.checks.specs.declared.Test.{Test}
 use Rattle.checks.specs.declared.Test.the-variants.{Sorts, Functions, Overloading}
 use Rattle.checks.specs.declared.Found.the-variants.{At, Nothing}
@@ -82,8 +83,8 @@ later-differ text w b s p n i j ord h d l m k = go (same (called i) (called l)) 
 pub row-told : (w : List ℕ) (b p i k : ℕ) (r : Row) → k ≡ getD w (p + i) 0 → r ≡ row-at w (b + k * 16) → r ≡ row-at w (b + getD w (p + i) 0 * 16)
 row-told w b p i k r ek er = er ∙ ap (λ (j : ℕ). row-at w (b + j * 16)) ek
 
-pub name-told : (w : List ℕ) (b p i k r : ℕ) → k ≡ getD w (p + i) 0 → r ≡ getD w (b + k * 1) 0 → r ≡ getD w (b + getD w (p + i) 0 * 1) 0
-name-told w b p i k r ek er = er ∙ ap (λ (j : ℕ). getD w (b + j * 1) 0) ek
+pub name-told : (w : List ℕ) (b p i k r : ℕ) → k ≡ getD w (p + i) 0 → r ≡ getD w (b + k * 2) 0 → r ≡ getD w (b + getD w (p + i) 0 * 2) 0
+name-told w b p i k r ek er = er ∙ ap (λ (j : ℕ). getD w (b + j * 2) 0) ek
 
 -- ---- `find_clash`
 
@@ -239,68 +240,77 @@ next-fits j n h f = omega (arith, h, f .fits)
 
 -- ---- `find_repeated`
 
+abbrev slot-name : Slot → Name
+slot-name p = p .name
+
+abbrev one-name : Slot → Slot → Bool
+one-name p q = same (p .name) (q .name)
+
 pub record Neighbours (text w : List ℕ) (b n p i : ℕ) : Type 0 where
   pub begun : 1 ≤ i
-  pub comes : at-odds (λ (x : Name). x) same (From (name-in text w b 1) w p n (i - 1)) ≡ at-odds (λ (x : Name). x) same (From (name-in text w b 1) w p n 0)
+  pub comes : at-odds slot-name one-name (From (row-slot text w b) w p n (i - 1)) ≡ at-odds slot-name one-name (From (row-slot text w b) w p n 0)
 
 module _ (text w : List ℕ) (b n p : ℕ) where
-  abbrev rest : ℕ → List Name
-  rest i = From (name-in text w b 1) w p n i
+  -- the parameter that is i-th in order, and those from there on
+  abbrev slot : ℕ → Slot
+  slot i = row-slot text w b (getD w (p + i) 0)
+
+  abbrev rest : ℕ → List Slot
+  rest i = From (row-slot text w b) w p n i
 
   pub neighbours-start : Neighbours text w b n p 1
   neighbours-start = record { begun = omega arith; comes = refl }
 
-  module _ (ord : InOrder text w b 1 p n) where
-    repeated-all : at-odds (λ (x : Name). x) same (rest 0) ≡ repeated-name (names-at text w b n)
+  module _ (ord : InOrder text w b 2 p n) where
+    repeated-all : at-odds slot-name one-name (rest 0) ≡ repeated-name (slots-at text w b n)
     unfolding repeated-name least-at-odds
-    repeated-all = ap (at-odds (λ (x : Name). x) same) (from-all (name-in text w b 1) w p n ∙ ordered-called text w b p n ord)
+    repeated-all = ap (at-odds slot-name one-name) (from-all (row-slot text w b) w p n ∙ ordered-slots text w b p n ord)
 
-    module _ (i x y : ℕ) (c : Bool) (inv : Neighbours text w b n p i) (h : i < n) (ex : x ≡ getD w (b + getD w (p + (i - 1)) 0 * 1) 0)
-        (ey : y ≡ getD w (b + getD w (p + i) 0 * 1) 0) (ec : c ≡ same (name-of text x) (name-of text y)) where
-      mine : name-of text x ≡ name-in text w b 1 (getD w (p + (i - 1)) 0)
-      unfolding name-in
+    module _ (i x y : ℕ) (c : Bool) (inv : Neighbours text w b n p i) (h : i < n) (ex : x ≡ getD w (b + getD w (p + (i - 1)) 0 * 2) 0)
+        (ey : y ≡ getD w (b + getD w (p + i) 0 * 2) 0) (ec : c ≡ same (name-of text x) (name-of text y)) where
+      mine : name-of text x ≡ slot (i - 1) .name
+      unfolding slot-at
       mine = ap (name-of text) ex
 
-      other : name-of text y ≡ name-in text w b 1 (getD w (p + i) 0)
-      unfolding name-in
-      other = ap (name-of text) ey
+      compared : one-name (slot (i - 1)) (slot i) ≡ c
+      unfolding slot-at
+      compared = ap₂ same (sym mine) (ap (name-of text) (sym ey)) ∙ sym ec
 
-      here-now : rest (i - 1) ≡ name-of text x ∷ rest i
+      here-now : rest (i - 1) ≡ slot (i - 1) ∷ rest i
       here-now =
           let e : i - 1 + 1 ≡ i = omega (arith, inv .begun) in
-          from-here (name-in text w b 1) w p n (i - 1) (omega arith) ∙ ap₂ (λ (z : Name) (k : ℕ). z ∷ rest k) (sym mine) e
+          from-here (row-slot text w b) w p n (i - 1) (omega arith) ∙ ap (λ (k : ℕ). slot (i - 1) ∷ rest k) e
 
       pub neighbours-again : c ≡ false → Neighbours text w b n p (i + 1)
       unfolding at-odds pick
       neighbours-again g =
-          let differ : same (name-in text w b 1 (getD w (p + (i - 1)) 0)) (name-in text w b 1 (getD w (p + i) 0)) ≡ false =
-          ap₂ same (sym mine) (sym other) ∙ sym ec ∙ g in
-          let none-later : any (same (name-of text x)) (rest i) ≡ false =
-          none-from (name-in text w b 1) w p n (same (name-of text x)) (n - i) i refl
-          (λ l m k. ap (λ (z : Name). same z (name-in text w b 1 (getD w (p + l) 0))) mine
-          ∙ later-differ text w b 1 p n (i - 1) i ord (omega arith) differ l m k) in
-          let step : at-odds (λ (z : Name). z) same (rest (i - 1)) ≡ at-odds (λ (z : Name). z) same (rest i) = rw (here-now, none-later) in
+          let called = slot-called text w b in
+          let differ : same (name-in text w b 2 (getD w (p + (i - 1)) 0)) (name-in text w b 2 (getD w (p + i) 0)) ≡ false =
+          ap₂ same (sym (called (getD w (p + (i - 1)) 0))) (sym (called (getD w (p + i) 0))) ∙ compared ∙ g in
+          let none-later : any (one-name (slot (i - 1))) (rest i) ≡ false =
+          none-from (row-slot text w b) w p n (one-name (slot (i - 1))) (n - i) i refl
+          (λ l m k. ap₂ same (called (getD w (p + (i - 1)) 0)) (called (getD w (p + l) 0))
+          ∙ later-differ text w b 2 p n (i - 1) i ord (omega arith) differ l m k) in
+          let step : at-odds slot-name one-name (rest (i - 1)) ≡ at-odds slot-name one-name (rest i) = rw (here-now, none-later) in
           let e : i ≡ i + 1 - 1 = omega arith in
-          record { begun = omega arith; comes = ap (λ (k : ℕ). at-odds (λ (z : Name). z) same (rest k)) (sym e) ∙ sym step ∙ inv .comes }
+          record { begun = omega arith; comes = ap (λ (k : ℕ). at-odds slot-name one-name (rest k)) (sym e) ∙ sym step ∙ inv .comes }
 
-      pub neighbours-found : c ≡ true → named text (At x) ≡ repeated-name (names-at text w b n)
+      pub neighbours-found : c ≡ true → named text (At x) ≡ repeated-name (slots-at text w b n)
       unfolding at-odds any pick named
       neighbours-found g =
-          let next : rest i ≡ name-of text y ∷ rest (i + 1) =
-          from-here (name-in text w b 1) w p n i h ∙ ap (λ (z : Name). z ∷ rest (i + 1)) (sym other) in
-          let some-later : any (same (name-of text x)) (rest i) ≡ true = rw (next, ← ec, g) in
-          let found : at-odds (λ (z : Name). z) same (rest (i - 1)) ≡ some (name-of text x) = rw (here-now, some-later) in
-          sym found ∙ inv .comes ∙ repeated-all
+          let some-later : any (one-name (slot (i - 1))) (rest i) ≡ true = rw (from-here (row-slot text w b) w p n i h, compared, g) in
+          let found : at-odds slot-name one-name (rest (i - 1)) ≡ some (slot (i - 1) .name) = rw (here-now, some-later) in
+          ap some mine ∙ sym found ∙ inv .comes ∙ repeated-all
 
-    pub neighbours-end : (i : ℕ) → n ≤ i → Neighbours text w b n p i → named text Nothing ≡ repeated-name (names-at text w b n)
+    pub neighbours-end : (i : ℕ) → n ≤ i → Neighbours text w b n p i → named text Nothing ≡ repeated-name (slots-at text w b n)
     unfolding at-odds any pick named
     neighbours-end i l inv = sym (go (ltb (i - 1) n) refl) ∙ inv .comes ∙ repeated-all
       where
-        go : (q : Bool) → ltb (i - 1) n ≡ q → at-odds (λ (z : Name). z) same (rest (i - 1)) ≡ none
+        go : (q : Bool) → ltb (i - 1) n ≡ q → at-odds slot-name one-name (rest (i - 1)) ≡ none
         go true e =
             let last = ltb-true (i - 1) n e in
-            rw (from-here (name-in text w b 1) w p n (i - 1) last, from-none (name-in text w b 1) w p n (i - 1 + 1) (omega arith))
-        go false e = rw (from-none (name-in text w b 1) w p n (i - 1) (ltb-false (i - 1) n e))
+            rw (from-here (row-slot text w b) w p n (i - 1) last, from-none (row-slot text w b) w p n (i - 1 + 1) (omega arith))
+        go false e = rw (from-none (row-slot text w b) w p n (i - 1) (ltb-false (i - 1) n e))
 
 pub ruleset cases = (
   row-told,

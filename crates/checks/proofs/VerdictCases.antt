@@ -13,8 +13,8 @@ use Rattle.meaning.specs.Checks.{_>>_, unless, consistent}
 use Rattle.forms.specs.declared.Verdict.{Verdict}
 use Rattle.forms.specs.declared.Verdict.the-variants.{Fine, Stop}
 use Rattle.forms.specs.Memory.{part, Same, Kept}
-use Rattle.forms.specs.Forms.{names-at, items-at}
-use Rattle.forms.specs.FormLaws.{Apart, kept-same, kept-wider, kept-then, names-same, items-same, tape-same}
+use Rattle.forms.specs.Forms.{slots-at, items-at}
+use Rattle.forms.specs.FormLaws.{Apart, kept-same, kept-wider, kept-then, slots-same, items-same, tape-same}
 use Rattle.forms.specs.Verdicts.{told}
 use Rattle.order.specs.Order.{PutInOrder, NamesApart}
 use Rattle.checks.specs.declared.Found.{Found}
@@ -102,10 +102,10 @@ module _ (size t q np b n p : ℕ) (laid : Laid size t q np b n p) where
   pub names-room : p + np ≤ size
   names-room = omega (arith, laid .room)
 
-  pub names-apart : NamesApart q 1 p np
+  pub names-apart : NamesApart q 2 p np
   names-apart i h = ⊎-elim (λ l. inl (omega arith)) (λ l. inr (omega arith)) (laid .parameters)
 
-pub rows-laid : (text w w′ : List ℕ) (t q np b n p : ℕ) → Laid (length w) t q np b n p → PutInOrder text w w′ q 1 p np
+pub rows-laid : (text w w′ : List ℕ) (t q np b n p : ℕ) → Laid (length w) t q np b n p → PutInOrder text w w′ q 2 p np
     → RowsLaid (length w′) t b n p
 rows-laid text w w′ t q np b n p laid put = record {
   tape = laid .tape;
@@ -114,34 +114,34 @@ rows-laid text w w′ t q np b n p laid put = record {
   room = omega (arith, laid .room, put .kept .size);
 }
 
-module _ (text w w′ : List ℕ) (t q np b n p : ℕ) (f : Found) (laid : Laid (length w) t q np b n p) (put : PutInOrder text w w′ q 1 p np)
-    (e : named text f ≡ repeated-name (names-at text w′ q np)) where
+module _ (text w w′ : List ℕ) (t q np b n p : ℕ) (f : Found) (laid : Laid (length w) t q np b n p) (put : PutInOrder text w w′ q 2 p np)
+    (e : named text f ≡ repeated-name (slots-at text w′ q np)) where
   wide : Kept p (p + (np + n)) w w′
   wide = kept-wider p (p + np) p (p + (np + n)) w w′ (omega arith) (omega arith) (put .kept)
 
-  names-kept : names-at text w′ q np ≡ names-at text w q np
-  names-kept = names-same w w′ text q np (kept-same p (p + (np + n)) q (q + np) w w′ (laid .parameters) wide)
+  slots-kept : slots-at text w′ q np ≡ slots-at text w q np
+  slots-kept = slots-same w w′ text q np (kept-same p (p + (np + n)) q (q + np * 2) w w′ (laid .parameters) wide)
 
-  whole : names-check (names-at text w q np) (items-at text (part w 0 t) w b n)
-      ≡ consistent (record { parameters = names-at text w q np; items = items-at text (part w 0 t) w b n }) []
+  whole : names-check (slots-at text w q np) (items-at text (part w 0 t) w b n)
+      ≡ consistent (record { parameters = slots-at text w q np; items = items-at text (part w 0 t) w b n }) []
   whole =
-      ap (names-check (names-at text w q np)) (sym (append-nil (items-at text (part w 0 t) w b n)))
-      ∙ checks-consistent (record { parameters = names-at text w q np; items = items-at text (part w 0 t) w b n }) []
+      ap (names-check (slots-at text w q np)) (sym (append-nil (items-at text (part w 0 t) w b n)))
+      ∙ checks-consistent (record { parameters = slots-at text w q np; items = items-at text (part w 0 t) w b n }) []
 
   pub consistent-stop : (x : ℕ) → f ≡ At x → Checked text w w′ t q np b n p (Stop 15 x)
   unfolding names-check told unless named _>>_
   consistent-stop x h =
-      let found : named text f ≡ repeated-name (names-at text w q np) = e ∙ ap repeated-name names-kept in
-      let verdict : told text (Stop 15 x) ≡ names-check (names-at text w q np) (items-at text (part w 0 t) w b n) = rw (← found, h) in
+      let found : named text f ≡ repeated-name (slots-at text w q np) = e ∙ ap repeated-name slots-kept in
+      let verdict : told text (Stop 15 x) ≡ names-check (slots-at text w q np) (items-at text (part w 0 t) w b n) = rw (← found, h) in
       record { verdict = verdict ∙ whole; kept = wide }
 
   pub consistent-fine : (w″ : List ℕ) (r : Verdict) → f ≡ Nothing → ItemsChecked text w′ w″ t b n p r → Checked text w w″ t q np b n p r
   unfolding names-check unless named _>>_
   consistent-fine w″ r h done =
-      let found : named text f ≡ repeated-name (names-at text w q np) = e ∙ ap repeated-name names-kept in
+      let found : named text f ≡ repeated-name (slots-at text w q np) = e ∙ ap repeated-name slots-kept in
       let items = items-kept text w w′ t b n p (p + (np + n)) (laid .tape) (laid .rows) wide in
       let checked : told text r ≡ items-check (items-at text (part w 0 t) w b n) = done .verdict ∙ ap items-check items in
-      let verdict : told text r ≡ names-check (names-at text w q np) (items-at text (part w 0 t) w b n) = rw (← found, h) checked in
+      let verdict : told text r ≡ names-check (slots-at text w q np) (items-at text (part w 0 t) w b n) = rw (← found, h) checked in
       record {
         verdict = verdict ∙ whole;
         kept = kept-then p (p + (np + n)) w w′ w″ wide (kept-wider p (p + n) p (p + (np + n)) w′ w″ (omega arith) (omega arith) (done .kept));

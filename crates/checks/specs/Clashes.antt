@@ -8,6 +8,7 @@ use lib.Dec.{eqb}
 use Rattle.meaning.specs.Lists.{pick, agree}
 use Rattle.meaning.specs.Names.{Name, same}
 use Rattle.meaning.specs.Origins.{same-sort, same-shape, is-sort, is-function, Item}
+use Rattle.meaning.specs.Normal.{Slot}
 use Rattle.meaning.specs.Checks.{least-at-odds, other-origin, sorts-clash, functions-clash, other-output, both-in-one, overloaded}
 use Rattle.names.specs.Word.{name-of}
 use Rattle.tables.specs.Rows.{type-of}
@@ -26,12 +27,12 @@ wrong Sorts a b = sorts-clash a b
 wrong Functions a b = functions-clash a b
 wrong Overloading a b = overloaded a b
 
--- the least name of two items that are at odds, and of two names that are one
+-- the least name of two items that are at odds, and of two parameters of one name
 unfoldable pub clash-name : Test → List Item → Option Name
 clash-name t items = least-at-odds (λ (i : Item). i .name) (wrong t) items
 
-unfoldable pub repeated-name : List Name → Option Name
-repeated-name names = least-at-odds (λ (p : Name). p) same names
+unfoldable pub repeated-name : List Slot → Option Name
+repeated-name slots = least-at-odds (λ (p : Slot). p .name) (λ p q. same (p .name) (q .name)) slots
 
 -- the same, but for the names
 unfoldable pub two-sorts : Item → Item → Bool

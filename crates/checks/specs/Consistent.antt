@@ -8,13 +8,13 @@ use Rattle.meaning.specs.Lists.{pick}
 use Rattle.meaning.specs.Names.{Name}
 use Rattle.meaning.specs.Numbers.{clashing, overloading, bad-parameter, no-room}
 use Rattle.meaning.specs.Origins.{Item}
-use Rattle.meaning.specs.Normal.{Visible}
+use Rattle.meaning.specs.Normal.{Slot, Visible}
 use Rattle.meaning.specs.Checks.{Check, stop, _>>_, unless, fits, consistent}
 use Rattle.names.specs.Word.{no-name}
 use Rattle.forms.specs.declared.Verdict.{Verdict}
 use Rattle.forms.specs.declared.Verdict.the-variants.{Fine, Stop}
 use Rattle.forms.specs.Memory.{part, Kept}
-use Rattle.forms.specs.Forms.{names-at, items-at}
+use Rattle.forms.specs.Forms.{slots-at, items-at}
 use Rattle.forms.specs.FormLaws.{Apart, items-split}
 use Rattle.forms.specs.Verdicts.{told}
 use Rattle.checks.specs.declared.Test.the-variants.{Sorts, Functions, Overloading}
@@ -47,7 +47,7 @@ functions-check items = unless clashing (clash-name Functions items) >> overload
 unfoldable pub items-check : List Item → Check
 items-check items = unless clashing (clash-name Sorts items) >> functions-check items
 
-unfoldable pub names-check : List Name → List Item → Check
+unfoldable pub names-check : List Slot → List Item → Check
 names-check parameters items = unless bad-parameter (repeated-name parameters) >> items-check items
 
 -- the checks one after the other are the meaning's
@@ -67,7 +67,7 @@ pub record RowsLaid (size t b n p : ℕ) : Type 0 where
 -- and that of the np parameters at q stands in the same place: the part has np + n words
 pub record Laid (size t q np b n p : ℕ) : Type 0 where
   pub tape : t ≤ p
-  pub parameters : Apart p (p + (np + n)) q (q + np)
+  pub parameters : Apart p (p + (np + n)) q (q + np * 2)
   pub rows : Apart p (p + (np + n)) b (b + n * 16)
   pub place : b < 2 ^ 31
   pub room : p + (np + n) ≤ size
@@ -79,16 +79,16 @@ pub record ItemsChecked (text w w′ : List ℕ) (t b n p : ℕ) (r : Verdict) :
   pub kept : Kept p (p + n) w w′
 
 pub record Checked (text w w′ : List ℕ) (t q np b n p : ℕ) (r : Verdict) : Type 0 where
-  pub verdict : told text r ≡ consistent (record { parameters = names-at text w q np; items = items-at text (part w 0 t) w b n }) []
+  pub verdict : told text r ≡ consistent (record { parameters = slots-at text w q np; items = items-at text (part w 0 t) w b n }) []
   pub kept : Kept p (p + (np + n)) w w′
 
 -- ---- visible rows, and own hidden ones behind them
 
 -- v visible rows and m of M's own behind them
 pub checked-own : (text w w′ : List ℕ) (t q np b v m p : ℕ) (r : Verdict) → Checked text w w′ t q np b (v + m) p r
-    → told text r ≡ consistent (record { parameters = names-at text w q np; items = items-at text (part w 0 t) w b v }) (items-at text (part w 0 t) w (b + v * 16) m)
+    → told text r ≡ consistent (record { parameters = slots-at text w q np; items = items-at text (part w 0 t) w b v }) (items-at text (part w 0 t) w (b + v * 16) m)
 checked-own text w w′ t q np b v m p r c =
-    let names = names-at text w q np in
+    let names = slots-at text w q np in
     let tape = part w 0 t in
     c .verdict ∙ sym (checks-consistent (record { parameters = names; items = items-at text tape w b (v + m) }) [])
     ∙ ap (names-check names) (append-nil (items-at text tape w b (v + m)) ∙ items-split text tape w b v m)

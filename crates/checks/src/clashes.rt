@@ -13,7 +13,7 @@ ghost use Prim.Native.Nat.{_+_, _*_, _<_};
 ghost use lib.ListN.{getD};
 ghost use Rattle.names.specs.Joint.{joint};
 ghost use Rattle.tables.specs.Rows.{row-at};
-ghost use Rattle.forms.specs.Forms.{names-at, items-at};
+ghost use Rattle.forms.specs.Forms.{slots-at, items-at};
 ghost use Rattle.order.specs.Order.{InOrder};
 ghost use Rattle.checks.specs.Clashes.{named, clash-name, first-rival, repeated-name};
 
@@ -82,18 +82,18 @@ pub fn find_clash(
     Found::Nothing
 }
 
-// The word of the name that is i-th in order, of names side by side.
+// The word of the name of the parameter that is i-th in order.
 fn name_by(w: &[u32], b: u32, p: u32, i: u32) -> u32
-    ensures { λ r. ⌜ r ≡ getD (now (w .entry)) (b + getD (now (w .entry)) (p + i) 0 * 1) 0 ⌝ }
+    ensures { λ r. ⌜ r ≡ getD (now (w .entry)) (b + getD (now (w .entry)) (p + i) 0 * 2) 0 ⌝ }
 {
     let k = number_in(w, p, i);
-    name_in(w, b, 1, k)
+    name_in(w, b, 2, k)
 }
 
-// The least of the n names at b that stands there twice: in the order table the two are neighbours.
+// The least name of two of the n parameters at b: in the order table the two are neighbours.
 pub fn find_repeated(library: &[u8], text: &[u8], w: &[u32], b: u32, n: u32, p: u32) -> Found
-    requires { ⌜ InOrder (joint (now library) (now text)) (now w) b 1 p n ⌝ }
-    ensures { λ r. ⌜ named (joint (now (library .entry)) (now (text .entry))) r ≡ repeated-name (names-at (joint (now (library .entry)) (now (text .entry))) (now (w .entry)) b n) ⌝ }
+    requires { ⌜ InOrder (joint (now library) (now text)) (now w) b 2 p n ⌝ }
+    ensures { λ r. ⌜ named (joint (now (library .entry)) (now (text .entry))) r ≡ repeated-name (slots-at (joint (now (library .entry)) (now (text .entry))) (now (w .entry)) b n) ⌝ }
 {
     let mut i = 1;
     while i < n {

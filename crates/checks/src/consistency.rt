@@ -106,7 +106,7 @@ fn check_rows(
     check_ordered(library, text, work, t, b, n, p)
 }
 
-// The parameters' names, np words at q, and the n rows at b, through order tables at p.
+// The np parameters at q, and the n rows at b, through order tables at p.
 pub fn consistent(
     library: &[u8],
     text: &[u8],
@@ -121,7 +121,7 @@ pub fn consistent(
     requires { ⌜ Laid (length (now work)) t q np b n p ⌝ }
     ensures { λ r. ⌜ Checked (joint (now (library .entry)) (now (text .entry))) (now (work .entry)) (now (work .exit)) t q np b n p r ⌝ }
 {
-    order_names(library, text, work, q, 1, np, p);
+    order_names(library, text, work, q, 2, np, p);
     let twice = find_repeated(library, text, work, q, np, p);
     match twice {
         Found::At(x) => Verdict::Stop(15, x),

@@ -10,9 +10,9 @@ use borrow.Author.Tests.{eq-eqb, ne-eqb, lt-ltb, le-ltb}
 use Rattle.meaning.specs.Lists.{pick, any, before}
 use Rattle.meaning.specs.Names.{Name, member}
 use Rattle.meaning.specs.Syntax.{Pair}
-use Rattle.meaning.specs.Origins.{Shape, function-shape, Item}
+use Rattle.meaning.specs.Origins.{Shape, function-shape, Item, in-parameter}
 use Rattle.meaning.specs.Normal.{names-in, sorts-among, sort-names, is-called, move-shape, move-item}
-use Rattle.meaning.specs.Checks.{in-parameter, unless}
+use Rattle.meaning.specs.Checks.{unless}
 use Rattle.meaning.specs.Clauses.{shape-right, pair-right, wrong-pair}
 use Rattle.names.specs.Word.{name-of}
 use Rattle.tables.specs.declared.Row.{Row}
@@ -31,7 +31,7 @@ use Rattle.clauses.specs.Joined.{any-keep}
 use Rattle.clauses.specs.Searches.{like}
 use Rattle.clauses.specs.Unpaired.{formal-called}
 use Rattle.clauses.specs.Fits.{mode-whole, sorts-fit, function-there, shape-fits, misfit, pair-fits, binding-wrong}
-use Rattle.clauses.proofs.RowSearches.{found-below, none-below}
+use Rattle.clauses.specs.Walks.{found-below, none-below}
 use Rattle.clauses.proofs.PairWalks.{Checking, check-start, check-again, none-wrong, one-wrong}
 
 module _ (text tape w : List ℕ) (m : Mode) (actual : Form) where

@@ -10,7 +10,8 @@ use Rattle.meaning.specs.Lists.{pick}
 use Rattle.meaning.specs.Names.{Name, same, not-after, lesser}
 use Rattle.meaning.specs.Syntax.{Pair}
 use Rattle.meaning.specs.Normal.{nothing-visible, is-called}
-use Rattle.meaning.specs.Checks.{in-parameter, unless}
+use Rattle.meaning.specs.Origins.{in-parameter}
+use Rattle.meaning.specs.Checks.{unless}
 use Rattle.meaning.specs.Clauses.{paired, unpaired}
 use Rattle.names.specs.Word.{name-of}
 use Rattle.tables.specs.declared.Row.{Row}

@@ -5,4 +5,4 @@ pub mod FormalCases
 pub mod RenamingCases
 pub mod BindingCases
 pub mod NoteCases
-pub mod NameCases
+pub mod ParameterCases

@@ -11,8 +11,7 @@ use lib.Seq.{getD-set-same, getD-set-other}
 use borrow.Author.Needs.{needs}
 use borrow.Author.Tests.{eqb-true, eqb-false}
 use Rattle.meaning.specs.Lists.{pick, before}
-use Rattle.meaning.specs.Origins.{Item}
-use Rattle.meaning.specs.Checks.{in-parameter}
+use Rattle.meaning.specs.Origins.{Item, in-parameter}
 use Rattle.names.specs.Word.{name-of}
 use Rattle.tables.specs.declared.Row.{Row}
 use Rattle.tables.specs.Rows.{section-of, shape-of, item-of, row-at}

@@ -26,7 +26,8 @@ use Rattle.forms.specs.Verdicts.{told}
 use Rattle.translation.specs.Translation.{pairs-at}
 use Rattle.clauses.specs.Pairs.{pair-at, rightly, first-wrong, renaming-wrong}
 use Rattle.clauses.specs.Renamed.{kind-named, unfit}
-use Rattle.clauses.proofs.RowSearches.{named-any, none-below}
+use Rattle.clauses.specs.Walks.{none-below}
+use Rattle.clauses.proofs.RowSearches.{named-any}
 use Rattle.clauses.proofs.PairWalks.{Checking, check-start, check-again, none-wrong, one-wrong}
 
 -- ---- what a name may stand for, by the kind k of a row

@@ -11,10 +11,10 @@ use Rattle.meaning.specs.Lists.{keep, any, before, union}
 use Rattle.meaning.specs.Names.{Name}
 use Rattle.meaning.specs.OrderLaws.{same-equal}
 use Rattle.meaning.specs.Syntax.{Pair}
-use Rattle.meaning.specs.Origins.{is-function, Item, one-item}
-use Rattle.meaning.specs.Normal.{Visible, nothing-visible, is-called, move-item}
-use Rattle.meaning.specs.Checks.{in-parameter, fine, unless}
-use Rattle.meaning.specs.Clauses.{formals, new-sort, new-function, wrong-pair, unpaired}
+use Rattle.meaning.specs.Origins.{is-function, Item, one-item, in-parameter}
+use Rattle.meaning.specs.Normal.{Visible, nothing-visible, is-called, move-item, formals}
+use Rattle.meaning.specs.Checks.{fine, unless}
+use Rattle.meaning.specs.Clauses.{new-sort, new-function, wrong-pair, unpaired}
 use Rattle.names.specs.Word.{name-of}
 use Rattle.tables.specs.Decides.{shapes-decided, items-decided}
 use Rattle.tables.specs.Rows.{item-of, row-at}

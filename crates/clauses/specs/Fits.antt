@@ -3,28 +3,23 @@
 use mathlib.Core.Path.{_≡_, refl, ap}
 use Prim.Native.Nat.{ℕ}
 use mathlib.Core.Bool.{Bool, false, not, _&&_}
-use mathlib.Core.Option.{Option}
-use mathlib.Core.List.{List, [], _∷_, map}
+use mathlib.Core.List.{List, [], _∷_}
 use Rattle.meaning.specs.Lists.{pick, any, first}
 use Rattle.meaning.specs.Names.{Name}
 use Rattle.meaning.specs.Syntax.{Pair}
-use Rattle.meaning.specs.Origins.{Origin, Sort, visible-sort, hidden-sort, FunctionType, Shape, sort-shape, function-shape, variable-shape, Item}
-use Rattle.meaning.specs.Normal.{Visible, sorts-among, is-called, move-shape}
-use Rattle.meaning.specs.Clauses.{origin-of-item, origin-of, same-origins, is-formal-sort, new-sort, new-function}
+use Rattle.meaning.specs.Origins.{Sort, visible-sort, hidden-sort, FunctionType, Shape, sort-shape, function-shape, variable-shape, Item}
+use Rattle.meaning.specs.Normal.{Visible, is-called, move-shape, origin-of}
+use Rattle.meaning.specs.Clauses.{same-origins, is-formal-sort, new-sort, new-function}
 use Rattle.meaning.specs.Clauses.{sort-right, sorts-right, shape-right, pair-right, wrong-pair}
 use Rattle.names.specs.Word.{name-of}
-use Rattle.tables.specs.Rows.{sort-of}
 use Rattle.forms.specs.declared.Form.{Form}
 use Rattle.forms.specs.Forms.{items-at, visible-at}
 use Rattle.translation.specs.declared.Mode.{Mode}
 use Rattle.translation.specs.Translation.{pairs-at, mode-formals, sort-name, function-name}
 use Rattle.clauses.specs.Pairs.{first-wrong}
 use Rattle.clauses.specs.Searches.{like}
+use Rattle.clauses.specs.SortOrigins.{origin-among}
 use Rattle.clauses.specs.Unpaired.{formal-called}
-
--- where the first sort of the name is from
-unfoldable pub origin-among : List Item → Name → Option Origin
-origin-among items a = origin-of-item (first (is-called a) (sorts-among items))
 
 -- two tables have the sort from one place, or both have it not
 unfoldable pub one-origin : List ℕ → List ℕ → List ℕ → ℕ → ℕ → ℕ → ℕ → Name → Bool
@@ -38,10 +33,6 @@ module _ (text tape w : List ℕ) (m : Mode) where
   module _ (actual : Form) where
     unfoldable pub sort-fits : Sort → Bool
     sort-fits s = sort-right (mode-formals text tape w m) (pairs-at text tape (m .pairs)) mode-whole (visible-at text tape w actual) s
-
-    -- the sorts that the words stand for
-    unfoldable pub inputs-fit : List ℕ → Bool
-    inputs-fit ss = not (any (λ (s : Sort). not (sort-fits s)) (map (sort-of text tape) ss))
 
     unfoldable pub sorts-fit : FunctionType → Bool
     sorts-fit t = sorts-right (mode-formals text tape w m) (pairs-at text tape (m .pairs)) mode-whole (visible-at text tape w actual) t

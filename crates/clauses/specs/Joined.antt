@@ -1,13 +1,14 @@
 -- Laws of lists: what a test finds in what is kept and in what is joined, and where it finds it.
 use mathlib.Core.Path.{_≡_, refl, sym, ap, _∙_}
-use Prim.Native.Nat.{ℕ, zero, suc, _<_}
+use Prim.Native.Nat.{ℕ, zero, suc, _≤_, _<_}
 use mathlib.Core.Bool.{Bool, true, false, _&&_, false≢true}
+use mathlib.Core.Option.{none, some}
 use mathlib.Core.List.{List, [], _∷_, _++_, append-assoc}
 use native.Mathlib.Omega.{arith}
 use lib.Dec.{ltb}
 use lib.ListN.{length, getD}
 use borrow.Author.Tests.{ltb-true, ltb-false, lt-ltb, le-ltb}
-use Rattle.meaning.specs.Lists.{pick, keep, any, before, union}
+use Rattle.meaning.specs.Lists.{pick, keep, any, first, before, union}
 use Rattle.meaning.specs.OrderLaws.{Every}
 
 pub both-true : (a b : Bool) → (a && b) ≡ true → (a ≡ true) × (b ≡ true)
@@ -61,6 +62,16 @@ module _ {A : Type 0} where
       go true ih = sym (lt-ltb 0 (suc (length xs)) (omega arith))
       go false ih = ih ∙ sym (less-both (before p xs) (length xs))
 
+  pub keep-append : (p : A → Bool) (xs ys : List A) → keep p (xs ++ ys) ≡ keep p xs ++ keep p ys
+  unfolding keep pick
+  keep-append p [] ys = refl
+  keep-append p (x ∷ xs) ys = go (p x) (keep-append p xs ys)
+    where
+      go : (b : Bool) → keep p (xs ++ ys) ≡ keep p xs ++ keep p ys
+          → pick b (x ∷ keep p (xs ++ ys)) (keep p (xs ++ ys)) ≡ pick b (x ∷ keep p xs) (keep p xs) ++ keep p ys
+      go true ih = ap (x ∷_) ih
+      go false ih = ih
+
   pub any-keep : (p q : A → Bool) (xs : List A) → any q (keep p xs) ≡ any (λ (x : A). pick (p x) (q x) false) xs
   unfolding any keep pick
   any-keep p q [] = refl
@@ -70,6 +81,37 @@ module _ {A : Type 0} where
           → any q (pick b (x ∷ keep p xs) (keep p xs)) ≡ pick (pick b (q x) false) true (any (λ (y : A). pick (p y) (q y) false) xs)
       go true ih = ap (pick (q x) true) ih
       go false ih = ih
+
+  -- what a test finds first is where it finds it
+
+  pub first-keep : (p q : A → Bool) (xs : List A) → first q (keep p xs) ≡ first (λ (x : A). pick (p x) (q x) false) xs
+  unfolding first keep pick
+  first-keep p q [] = refl
+  first-keep p q (x ∷ xs) = go (p x) (first-keep p q xs)
+    where
+      go : (b : Bool) → first q (keep p xs) ≡ first (λ (y : A). pick (p y) (q y) false) xs
+          → first q (pick b (x ∷ keep p xs) (keep p xs)) ≡ pick (pick b (q x) false) (some x) (first (λ (y : A). pick (p y) (q y) false) xs)
+      go true ih = ap (pick (q x) (some x)) ih
+      go false ih = ih
+
+  pub first-there : (p : A → Bool) (d : A) (xs : List A) → before p xs < length xs → first p xs ≡ some (getD xs (before p xs) d)
+  unfolding first before pick
+  first-there p d [] h = absurd (omega arith)
+  first-there p d (x ∷ xs) h = go (p x) h (first-there p d xs)
+    where
+      go : (b : Bool) → pick b 0 (suc (before p xs)) < suc (length xs) → (before p xs < length xs → first p xs ≡ some (getD xs (before p xs) d))
+          → pick b (some x) (first p xs) ≡ some (getD (x ∷ xs) (pick b 0 (suc (before p xs))) d)
+      go true l ih = refl
+      go false l ih = ih (omega arith)
+
+  pub first-nowhere : (p : A → Bool) (xs : List A) → length xs ≤ before p xs → first p xs ≡ none
+  unfolding first before pick
+  first-nowhere p [] h = refl
+  first-nowhere p (x ∷ xs) h = go (p x) h (first-nowhere p xs)
+    where
+      go : (b : Bool) → suc (length xs) ≤ pick b 0 (suc (before p xs)) → (length xs ≤ before p xs → first p xs ≡ none) → pick b (some x) (first p xs) ≡ none
+      go true l ih = absurd (omega arith)
+      go false l ih = ih (omega arith)
 
   module _ (p : A → Bool) where
     later : (b : Bool) (xs : List A) → any p xs ≡ true → pick b true (any p xs) ≡ true

@@ -5,8 +5,7 @@ use mathlib.Core.Bool.{Bool, true, false}
 use mathlib.Core.List.{List}
 use lib.ListN.{getD, set}
 use Rattle.meaning.specs.Lists.{pick, before}
-use Rattle.meaning.specs.Origins.{Item}
-use Rattle.meaning.specs.Checks.{in-parameter}
+use Rattle.meaning.specs.Origins.{Item, in-parameter}
 use Rattle.names.specs.Word.{name-of}
 use Rattle.tables.specs.Rows.{item-of, row-at}
 use Rattle.forms.specs.declared.Form.{Form}

@@ -1,20 +1,21 @@
-// The parameters of a normal form by name: whether there is one, and all but one.
+// The parameters of a normal form, each two words, its name and its module's: whether there is one of a name, and all but one.
 use forms::Form;
 use tables::entries::put_word;
 use tables::entries::same_word;
 use tables::entries::word_at;
 ghost use mathlib.Core.Path.{_≡_};
-ghost use Prim.Native.Nat.{_+_};
+ghost use Prim.Native.Nat.{_+_, _*_, _<_};
 ghost use lib.ListN.{length};
 ghost use Rattle.meaning.specs.Names.{member};
+ghost use Rattle.meaning.specs.Normal.{slot-names};
 ghost use Rattle.names.specs.Word.{name-of};
 ghost use Rattle.names.specs.Joint.{joint};
-ghost use Rattle.forms.specs.Forms.{names-at};
-ghost use Rattle.clauses.specs.KeptNames.{NameRoom, NameKept, KeepRoom, NamesKept};
+ghost use Rattle.forms.specs.Forms.{slots-at};
+ghost use Rattle.clauses.specs.KeptParameters.{SlotRoom, SlotCopied, SlotKept, KeepRoom, SlotsKept};
 
 // Has the form a parameter called p?
 pub fn has_parameter(library: &[u8], text: &[u8], work: &[u32], f: Form, p: u32) -> bool
-    ensures { λ r. ⌜ r ≡ member (name-of (joint (now (library .entry)) (now (text .entry))) p) (names-at (joint (now (library .entry)) (now (text .entry))) (now (work .entry)) (f .parameters) (f .«parameter_count»)) ⌝ }
+    ensures { λ r. ⌜ r ≡ member (name-of (joint (now (library .entry)) (now (text .entry))) p) (slot-names (slots-at (joint (now (library .entry)) (now (text .entry))) (now (work .entry)) (f .parameters) (f .«parameter_count»))) ⌝ }
 {
     let parameters = f.parameters;
     let count = f.parameter_count;
@@ -24,7 +25,7 @@ pub fn has_parameter(library: &[u8], text: &[u8], work: &[u32], f: Form, p: u32)
             library,
             text,
             p,
-            word_at(work, parameters as usize + i as usize),
+            word_at(work, parameters as usize + i as usize * 2),
         ) {
             return true;
         }
@@ -33,7 +34,18 @@ pub fn has_parameter(library: &[u8], text: &[u8], work: &[u32], f: Form, p: u32)
     false
 }
 
-// The k-th word at g behind the n words at d, unless it is the name p. How many there are after.
+// The parameter at place a, to place b.
+pub fn copy_parameter(work: &mut [u32], a: usize, b: usize)
+    requires { ⌜ SlotRoom (length (now work)) a b ⌝ }
+    ensures { λ r. ⌜ SlotCopied a b (now (work .entry)) (now (work .exit)) ⌝ }
+{
+    let name = word_at(work, a);
+    let home = word_at(work, a + 1);
+    put_word(work, b, name);
+    put_word(work, b + 1, home);
+}
+
+// The k-th parameter at g behind the n at d, unless it is called p. How many there are after.
 fn keep_parameter(
     library: &[u8],
     text: &[u8],
@@ -44,14 +56,16 @@ fn keep_parameter(
     d: u32,
     n: u32,
 ) -> u32
-    requires { ⌜ NameRoom (length (now work)) d n ⌝ }
-    ensures { λ r. ⌜ NameKept (joint (now (library .entry)) (now (text .entry))) (now (work .entry)) (now (work .exit)) (g + k) p d n r ⌝ }
+    requires { ⌜ SlotRoom (length (now work)) (g + k * 2) (d + n * 2) ⌝ }
+    requires { ⌜ n < 65536 ⌝ }
+    ensures { λ r. ⌜ SlotKept (joint (now (library .entry)) (now (text .entry))) (now (work .entry)) (now (work .exit)) (g + k * 2) p d n r ⌝ }
 {
-    let name = word_at(work, g as usize + k as usize);
+    let a = g as usize + k as usize * 2;
+    let name = word_at(work, a);
     if same_word(library, text, p, name) {
         return n;
     }
-    put_word(work, d as usize + n as usize, name);
+    copy_parameter(work, a, d as usize + n as usize * 2);
     n + 1
 }
 
@@ -65,7 +79,7 @@ pub fn keep_parameters(
     y: Form,
 ) -> u32
     requires { ⌜ KeepRoom (length (now work)) (g .parameters) (g .«parameter_count») (y .parameters) ⌝ }
-    ensures { λ r. ⌜ NamesKept (joint (now (library .entry)) (now (text .entry))) (now (work .entry)) (now (work .exit)) (g .parameters) (g .«parameter_count») p (y .parameters) r ⌝ }
+    ensures { λ r. ⌜ SlotsKept (joint (now (library .entry)) (now (text .entry))) (now (work .entry)) (now (work .exit)) (g .parameters) (g .«parameter_count») p (y .parameters) r ⌝ }
 {
     let names = g.parameters;
     let count = g.parameter_count;

@@ -20,10 +20,11 @@ ghost use Rattle.tables.specs.Rows.{origin-of, sort-of, type-of, row-at};
 ghost use Rattle.forms.specs.Memory.{part};
 ghost use Rattle.forms.specs.Forms.{items-at};
 ghost use Rattle.translation.specs.Translation.{pairs-at};
-ghost use Rattle.clauses.specs.Fits.{one-origin, sort-fits, inputs-fit, sorts-fit};
+ghost use Rattle.clauses.specs.Walks.{inputs-pass};
+ghost use Rattle.clauses.specs.Fits.{one-origin, sort-fits, sorts-fit};
 
 // Is row i of the table at b from where row j of the table at c is from?
-fn same_origin_at(
+pub fn same_origin_at(
     library: &[u8],
     text: &[u8],
     work: &[u32],
@@ -148,7 +149,7 @@ fn inputs_right(
     sorts: [u32; 9],
 ) -> bool
     requires { ⌜ t ≤ length (now work) ⌝ }
-    ensures { λ r. ⌜ r ≡ inputs-fit (joint (now (library .entry)) (now (text .entry))) (part (now (work .entry)) 0 t) (now (work .entry)) m actual (take (kind - 2) sorts) ⌝ }
+    ensures { λ r. ⌜ r ≡ inputs-pass (joint (now (library .entry)) (now (text .entry))) (part (now (work .entry)) 0 t) (sort-fits (joint (now (library .entry)) (now (text .entry))) (part (now (work .entry)) 0 t) (now (work .entry)) m actual) (take (kind - 2) sorts) ⌝ }
 {
     let end = kind as usize;
     let mut i = 0;

@@ -20,7 +20,7 @@ use Rattle.forms.specs.declared.Made.the-variants.{Done, Refused}
 use Rattle.forms.specs.declared.Verdict.{Verdict}
 use Rattle.forms.specs.declared.Verdict.the-variants.{Fine, Stop}
 use Rattle.forms.specs.Memory.{part, Kept}
-use Rattle.forms.specs.Forms.{names-at, visible-at, Stands}
+use Rattle.forms.specs.Forms.{slots-at, visible-at, Stands}
 use Rattle.forms.specs.FormLaws.{kept-wider, length-items}
 use Rattle.forms.specs.Frames.{stands-kept}
 use Rattle.forms.specs.Blocks.{BlockLaid, Lies, Outside, Makes, MadeIn}
@@ -58,10 +58,10 @@ pub record CheckedForm (text : List ℕ) (t : ℕ) (w : List ℕ) (f : Form) (b 
 
 -- ---- what the form has is what the normal form has
 
-pub length-names : (text w : List ℕ) (b c : ℕ) → length (names-at text w b c) ≡ c
-unfolding names-at
-length-names text w b zero = refl
-length-names text w b (suc c) = ap suc (length-names text w (b + 1) c)
+pub length-slots : (text w : List ℕ) (b c : ℕ) → length (slots-at text w b c) ≡ c
+unfolding slots-at
+length-slots text w b zero = refl
+length-slots text w b (suc c) = ap suc (length-slots text w (b + 2) c)
 
 pub and-true : (a b : Bool) → (a && b) ≡ true → (a ≡ true) × (b ≡ true)
 and-true true b e = (refl, e)
@@ -96,7 +96,7 @@ fitting-made text tape w f n s = go (enough f)
 
 -- a form that lies in a block ends before its order table
 pub record Ends (f : Form) (at : ℕ) : Type 0 where
-  pub parameters : f .parameters + f .«parameter_count» ≤ at
+  pub parameters : f .parameters + f .«parameter_count» * 2 ≤ at
   pub visible : f .visible + f .«visible_count» * 16 ≤ at
   pub hidden : f .hidden + f .«hidden_count» * 16 ≤ at
   pub equations : f .equations + f .«equation_count» * 8 ≤ at
@@ -172,7 +172,7 @@ module _ (size t : ℕ) (f : Form) (b : Block) (c : CheckRoom size t f b) where
     unfolding room size visible-at enough
     room-meant n s =
         let names : length (n .visible .parameters) ≡ f .«parameter_count» =
-        ap (λ (u : Visible). length (u .parameters)) (sym (s .visible)) ∙ length-names text w (f .parameters) (f .«parameter_count») in
+        ap (λ (u : Visible). length (u .parameters)) (sym (s .visible)) ∙ length-slots text w (f .parameters) (f .«parameter_count») in
         let items : length (n .visible .items) ≡ f .«visible_count» =
         ap (λ (u : Visible). length (u .items)) (sym (s .visible)) ∙ length-items text (part w 0 t) w (f .visible) (f .«visible_count») in
         let hidden : length (n .hidden .items) ≡ f .«hidden_count» =

@@ -141,7 +141,7 @@ module _ (text : List ℕ) (t : ℕ) (w w₁ : List ℕ) (m : Mode) (g f u : For
       check-room (length w₁) t u b (same-room (c .room)) (x .lies) (by-names p (x .names) (y .parameters)) (by-visible v (x .visible) (y .items)) (by-hidden i (x .hidden) (y .items))
       (x .equations) (x .nodes)
     where
-      by-names : f .«parameter_count» ≡ 0 → u .«parameter_count» ≡ f .«parameter_count» + g .«parameter_count» → g .«parameter_count» ≤ 8 → u .«parameter_count» ≤ 16
+      by-names : f .«parameter_count» ≡ 0 → u .«parameter_count» ≤ f .«parameter_count» + g .«parameter_count» → g .«parameter_count» ≤ 8 → u .«parameter_count» ≤ 16
       by-names a e l = omega (arith, a, e, l)
 
       by-visible : f .«visible_count» ≡ 0 → u .«visible_count» ≤ f .«visible_count» + g .«visible_count» → g .«visible_count» + g .«hidden_count» ≤ 512 → u .«visible_count» ≤ 1024
@@ -157,7 +157,7 @@ module _ (text : List ℕ) (t : ℕ) (w w₁ : List ℕ) (m : Mode) (g f u : For
       check-room (length w₁) t u b (same-room (c .room)) (x .lies) (by-names (x .names) (y .parameters) (z .parameters)) (by-visible (x .visible) (y .items) (z .items))
       (by-hidden (x .hidden) (y .items) (z .items)) (x .equations) (x .nodes)
     where
-      by-names : u .«parameter_count» ≡ f .«parameter_count» + g .«parameter_count» → g .«parameter_count» ≤ 8 → f .«parameter_count» ≤ 8 → u .«parameter_count» ≤ 16
+      by-names : u .«parameter_count» ≤ f .«parameter_count» + g .«parameter_count» → g .«parameter_count» ≤ 8 → f .«parameter_count» ≤ 8 → u .«parameter_count» ≤ 16
       by-names e l k = omega (arith, e, l, k)
 
       by-visible : u .«visible_count» ≤ f .«visible_count» + g .«visible_count» → g .«visible_count» + g .«hidden_count» ≤ 512

@@ -10,9 +10,8 @@ use borrow.Author.Needs.{needs}
 use borrow.Author.Tests.{eq-eqb, ne-eqb}
 use Rattle.meaning.specs.Lists.{pick, keep, any}
 use Rattle.meaning.specs.Names.{Name, same}
-use Rattle.meaning.specs.Origins.{same-section, Shape, sort-shape, function-shape, variable-shape, same-shape, is-sort, Item}
+use Rattle.meaning.specs.Origins.{same-section, Shape, sort-shape, function-shape, variable-shape, same-shape, is-sort, Item, in-parameter}
 use Rattle.meaning.specs.Normal.{sorts-among, is-called}
-use Rattle.meaning.specs.Checks.{in-parameter}
 use Rattle.meaning.specs.Clauses.{is-formal-sort}
 use Rattle.names.specs.Word.{name-of}
 use Rattle.tables.specs.declared.Section.{Section}

@@ -7,9 +7,8 @@ use lib.Dec.{eqb}
 use lib.ListN.{length}
 use Rattle.meaning.specs.Lists.{pick, any}
 use Rattle.meaning.specs.Names.{Name, same}
-use Rattle.meaning.specs.Origins.{Shape, same-shape, is-sort, Item}
+use Rattle.meaning.specs.Origins.{Shape, same-shape, is-sort, Item, in-parameter}
 use Rattle.meaning.specs.Normal.{nothing-visible, is-called, move-type}
-use Rattle.meaning.specs.Checks.{in-parameter}
 use Rattle.meaning.specs.Clauses.{renaming, is-formal-sort}
 use Rattle.names.specs.Word.{name-of}
 use Rattle.tables.specs.declared.Row.{Row}

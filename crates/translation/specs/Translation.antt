@@ -7,9 +7,8 @@ use Rattle.meaning.specs.Lists.{pick, keep}
 use Rattle.meaning.specs.Names.{Name}
 use Rattle.meaning.specs.Numbers.{pair-limit}
 use Rattle.meaning.specs.Syntax.{Pair}
-use Rattle.meaning.specs.Origins.{FunctionType, Item}
+use Rattle.meaning.specs.Origins.{FunctionType, Item, in-parameter}
 use Rattle.meaning.specs.Normal.{nothing-visible, move-item, move-hidden-item}
-use Rattle.meaning.specs.Checks.{in-parameter}
 use Rattle.meaning.specs.Clauses.{renaming, new-sort, new-function}
 use Rattle.names.specs.Word.{name-of}
 use Rattle.tape.specs.Tape.{old-role}

@@ -9,7 +9,7 @@ use tables::sorts::same_shape;
 ghost use mathlib.Core.Path.{_≡_};
 ghost use Prim.Native.Nat.{_≤_};
 ghost use lib.ListN.{length};
-ghost use Rattle.meaning.specs.Checks.{in-parameter};
+ghost use Rattle.meaning.specs.Origins.{in-parameter};
 ghost use Rattle.names.specs.Word.{name-of};
 ghost use Rattle.names.specs.Joint.{joint};
 ghost use Rattle.tables.specs.Rows.{section-of, item-of, shape-of};

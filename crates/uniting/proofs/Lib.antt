@@ -1,3 +1,3 @@
 pub mod Forms
-pub mod Copies
+pub mod Slots
 pub mod Unions

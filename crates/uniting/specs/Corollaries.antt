@@ -3,14 +3,14 @@
 use mathlib.Core.Path.{_≡_, refl, ap, ap₂, _∙_, subst}
 use Prim.Native.Nat.{ℕ, _+_, _≤_}
 use native.Mathlib.Omega.{arith}
-use mathlib.Core.Bool.{true}
-use mathlib.Core.List.{List, _++_, map}
+use mathlib.Core.Bool.{true, not}
+use mathlib.Core.List.{List, [], _∷_, _++_, map}
 use lib.ListN.{length, length-map}
 use lib.Seq.{take-all}
-use Rattle.meaning.specs.Lists.{union}
+use Rattle.meaning.specs.Lists.{pick, keep, any, union}
 use Rattle.meaning.specs.Names.{Name}
 use Rattle.meaning.specs.Origins.{FunctionType, one-item, one-equation}
-use Rattle.meaning.specs.Normal.{Hidden, Normal, nothing-visible, nothing-hidden, empty, unite-visible, unite-hidden, unite, move-item, move-hidden-item, move-equation, move-visible, move-hidden, move}
+use Rattle.meaning.specs.Normal.{Slot, Visible, Hidden, Normal, is-parameter-of, nothing-visible, nothing-hidden, empty, unite-visible, unite-hidden, unite, move-item, move-hidden-item, move-equation, move-visible, move-hidden, move}
 use Rattle.meaning.specs.Clauses.{renaming}
 use Rattle.forms.specs.declared.Form.{Form}
 use Rattle.forms.specs.declared.Block.{Block}
@@ -21,7 +21,18 @@ use Rattle.translation.specs.declared.Mode.{Mode}
 use Rattle.translation.specs.Translation.{pairs-at, sort-name, function-name}
 use Rattle.translation.specs.MovedLaws.{map-kept, item-kept, hidden-kept, equation-kept, sort-name-same, function-name-same, sort-name-renamed, function-name-renamed}
 use Rattle.joining.specs.Found.{Noted}
-use Rattle.uniting.specs.United.{visible-onto, hidden-onto, moved-onto, within, sorts, functions, HiddenUnited, United}
+use Rattle.uniting.specs.United.{other-slots, visible-onto, hidden-onto, moved-onto, within, sorts, functions, HiddenUnited, United}
+
+-- ---- parameters
+
+-- none is one of nothing's
+none-one : (from : Visible) → other-slots nothing-visible from ≡ from .parameters
+unfolding other-slots keep pick is-parameter-of nothing-visible any
+none-one from = go (from .parameters)
+  where
+    go : (slots : List Slot) → keep (λ (q : Slot). not (is-parameter-of nothing-visible from q)) slots ≡ slots
+    go [] = refl
+    go (q ∷ slots) = ap (q ∷_) (go slots)
 
 -- ---- room
 
@@ -40,7 +51,12 @@ module _ (σ : Name → Name) (φ : Name → FunctionType → Name) where
   -- onto nothing
   pub onto-nothing : (n : Normal) → moved-onto σ φ empty n ≡ move σ φ n
   unfolding moved-onto visible-onto hidden-onto empty nothing-visible nothing-hidden move move-visible move-hidden
-  onto-nothing n = refl
+  onto-nothing n =
+      let slots = none-one (n .visible) in
+      λ i. record {
+        visible = record { parameters = slots i; items = union one-item [] (map (move-item σ φ) (n .visible .items)) };
+        hidden = move-hidden σ φ (n .hidden);
+      }
 
 -- ---- the kinds of modes
 
@@ -55,7 +71,7 @@ moved-by-renaming text tape w m n h =
 -- all as it is
 pub united-as-is : (text tape w : List ℕ) (m : Mode) (to from : Normal) → m .kind ≡ 0
     → moved-onto (sort-name text tape w m) (function-name text tape w m) to from ≡ unite to from
-unfolding moved-onto visible-onto hidden-onto unite unite-visible unite-hidden
+unfolding moved-onto visible-onto hidden-onto other-slots unite unite-visible unite-hidden
 united-as-is text tape w m to from h =
     let σ = sort-name text tape w m in
     let φ = function-name text tape w m in
@@ -65,7 +81,10 @@ united-as-is text tape w m to from h =
     let unseen = map-kept (move-hidden-item σ φ) (from .hidden .items) (hidden-kept σ φ s f) in
     let said = map-kept (move-equation σ φ) (from .hidden .equations) (equation-kept σ φ s f) in
     λ i. record {
-      visible = record { parameters = to .visible .parameters ++ from .visible .parameters; items = union one-item (to .visible .items) (seen i) };
+      visible = record {
+        parameters = to .visible .parameters ++ other-slots (to .visible) (from .visible);
+        items = union one-item (to .visible .items) (seen i);
+      };
       hidden = record { items = union one-item (to .hidden .items) (unseen i); equations = union one-equation (to .hidden .equations) (said i) };
     }
 

@@ -14,7 +14,7 @@ use Rattle.forms.specs.declared.Form.{Form}
 use Rattle.forms.specs.declared.Block.{Block}
 use Rattle.forms.specs.Memory.{part, KeptTwo}
 use Rattle.forms.specs.Forms.{items-at, visible-at, Stands}
-use Rattle.forms.specs.FormLaws.{apart-within, kept-two-same, names-same, items-same, tape-same}
+use Rattle.forms.specs.FormLaws.{apart-within, kept-two-same, items-same, tape-same}
 use Rattle.forms.specs.Blocks.{Outside}
 use Rattle.translation.specs.declared.Mode.{Mode}
 use Rattle.translation.specs.Translation.{moved-in, moved-hidden}
@@ -28,7 +28,7 @@ use Rattle.joining.specs.Pointed.{noted-stays}
 use Rattle.joining.specs.Joins.{Joining, joined-stands}
 use Rattle.uniting.specs.Rooms.{HiddenRoom, HiddenRoomWithin}
 use Rattle.uniting.specs.United.{with-items, hidden-onto, within, ItemsUnited, sorts, functions, HiddenUnited, HiddenUnitedWithin}
-use Rattle.uniting.specs.Standing.{outside-narrower, stands-kept-two, stands-more}
+use Rattle.uniting.specs.Standing.{outside-narrower, stands-kept-two, visible-same, stands-more}
 use Rattle.uniting.specs.Noting.{all-noted}
 
 -- ---- items that are all taken
@@ -250,11 +250,9 @@ module _ (text : List ℕ) (t : ℕ) (w : List ℕ) (m : Mode) (g f : Form) (b :
       unfolding visible-at with-items with-counts
       visible-stays =
           let tape = tape-same w w′ t (both-kept .size) (λ i u v. both-kept .kept i (inl (omega (arith, room))) (inl (omega (arith, note-behind)))) in
-          let names = names-same w w′ text (f .parameters) (f .«parameter_count»)
-          (kept-two-same _ _ note note-end _ _ w w′ (inl (room .parameters)) (own-notes .parameters) both-kept) in
-          let items = items-same w w′ text (part w 0 t) (f .visible) (f .«visible_count»)
-          (kept-two-same _ _ note note-end _ _ w w′ (inl (room .visible)) (own-notes .visible) both-kept) in
-          (λ i. visible-at text (tape i) w′ (joins .same i)) ∙ (λ i. record { parameters = names i; items = items i })
+          (λ i. visible-at text (tape i) w′ (joins .same i))
+          ∙ visible-same text (part w 0 t) w w′ f (kept-two-same _ _ note note-end _ _ w w′ (inl (room .parameters)) (own-notes .parameters) both-kept)
+          (kept-two-same _ _ note note-end _ _ w w′ (inl (room .visible)) (own-notes .visible) both-kept)
 
       pub hidden-united-within : HiddenUnitedWithin text t w m g f b notes cap r w′
       unfolding with-items with-counts hidden-onto within

@@ -16,10 +16,10 @@ module _ (size t : ℕ) (b : Block) (names rows hidden-rows sources : ℕ) (laid
   abbrev lies : Lies b f
   lies = inside .lies
 
-  -- with other names and rows it lies there too
+  -- with other parameters and rows it lies there too
   pub inside-as : (p v h : ℕ) → p ≤ names → v ≤ rows → h ≤ hidden-rows → Inside b names rows hidden-rows (with-items f p v h)
   unfolding with-items
-  inside-as p v h few-names few-rows few-hidden = record {
+  inside-as p v h few-slots few-rows few-hidden = record {
     lies = record {
       parameters = lies .parameters;
       visible = lies .visible;
@@ -27,7 +27,7 @@ module _ (size t : ℕ) (b : Block) (names rows hidden-rows sources : ℕ) (laid
       equations = lies .equations;
       nodes = lies .nodes;
     };
-    parameters = few-names;
+    parameters = few-slots;
     visible = few-rows;
     hidden = few-hidden;
     equations = inside .equations;
@@ -54,10 +54,10 @@ module _ (size t : ℕ) (b : Block) (names rows hidden-rows sources : ℕ) (laid
     nodes = inl (omega (arith, laid, lies, inside));
   }
 
-  -- nor is the room behind its names, and behind its visible rows
-  pub outside-names : (c : ℕ) → f .«parameter_count» + c ≤ names
-      → Outside (f .parameters + f .«parameter_count») (f .parameters + f .«parameter_count» + c) f
-  outside-names c h = record {
+  -- nor is the room behind its parameters, and behind its visible rows
+  pub outside-slots : (c : ℕ) → f .«parameter_count» + c ≤ names
+      → Outside (f .parameters + f .«parameter_count» * 2) (f .parameters + (f .«parameter_count» + c) * 2) f
+  outside-slots c h = record {
     parameters = inl (omega arith);
     visible = inr (omega (arith, laid, lies));
     hidden = inr (omega (arith, laid, lies));

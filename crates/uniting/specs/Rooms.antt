@@ -1,5 +1,5 @@
 -- What uniting asks of places and counts.
-use Prim.Native.Nat.{ℕ, _+_, _*_, _≤_, _^_}
+use Prim.Native.Nat.{ℕ, _+_, _*_, _≤_, _<_}
 use Rattle.meaning.specs.Numbers.{node-limit}
 use Rattle.forms.specs.declared.Form.{Form}
 use Rattle.forms.specs.declared.Block.{Block}
@@ -7,26 +7,34 @@ use Rattle.forms.specs.FormLaws.{Apart}
 use Rattle.forms.specs.Blocks.{BlockLaid, Lies, Outside}
 use Rattle.translation.specs.declared.Mode.{Mode}
 
--- c words are copied from a to b, which lies apart
-pub record CopyRoom (size a b c : ℕ) : Type 0 where
-  pub room : b + c ≤ size
-  pub source : a + c ≤ 2 ^ 40
-  pub target : b + c ≤ 2 ^ 40
-  pub apart : Apart b (b + c) a (a + c)
-
--- the names of g's parameters go behind those of f
-pub record NamesRoom (size : ℕ) (g f : Form) : Type 0 where
+-- parameters of g go behind those of f, apart from the tape and from what parameters are held against: g's parameters, and both forms'
+-- visible rows
+pub record SlotsRoom (size t : ℕ) (g f : Form) : Type 0 where
+  pub tape : t ≤ f .parameters
   pub few : f .«parameter_count» + g .«parameter_count» ≤ 65536
-  pub room : f .parameters + f .«parameter_count» + g .«parameter_count» ≤ size
-  pub apart :
-      Apart (f .parameters + f .«parameter_count») (f .parameters + f .«parameter_count» + g .«parameter_count»)
-      (g .parameters) (g .parameters + g .«parameter_count»)
+  pub room : f .parameters + (f .«parameter_count» + g .«parameter_count») * 2 ≤ size
+  pub own-rows :
+      Apart (f .parameters + f .«parameter_count» * 2) (f .parameters + (f .«parameter_count» + g .«parameter_count») * 2)
+      (f .visible) (f .visible + f .«visible_count» * 16)
+  pub source :
+      Apart (f .parameters + f .«parameter_count» * 2) (f .parameters + (f .«parameter_count» + g .«parameter_count») * 2)
+      (g .parameters) (g .parameters + g .«parameter_count» * 2)
+  pub source-rows :
+      Apart (f .parameters + f .«parameter_count» * 2) (f .parameters + (f .«parameter_count» + g .«parameter_count») * 2)
+      (g .visible) (g .visible + g .«visible_count» * 16)
+
+-- the k-th of them, where n stand at f
+pub record SlotRoom (size t : ℕ) (g f : Form) (k n : ℕ) : Type 0 where
+  pub all : SlotsRoom size t g f
+  pub turn : k < g .«parameter_count»
+  pub have : f .«parameter_count» ≤ n
+  pub few : n ≤ f .«parameter_count» + k
 
 -- the hidden items and the equations of g come into f: there is room behind those of f, before the notes of hidden items; the words that may
 -- be written are none of g, none of the mode's table, and none of the notes of visible items
 pub record HiddenRoom (size t : ℕ) (m : Mode) (g f : Form) (b : Block) (notes : ℕ) : Type 0 where
   pub tape : t ≤ f .hidden
-  pub parameters : f .parameters + f .«parameter_count» ≤ f .hidden
+  pub parameters : f .parameters + f .«parameter_count» * 2 ≤ f .hidden
   pub visible : f .visible + f .«visible_count» * 16 ≤ f .hidden
   pub hidden : f .hidden + (f .«hidden_count» + g .«hidden_count») * 16 ≤ f .equations
   pub equations : f .equations + b .«equation_room» * 8 ≤ f .nodes
@@ -45,7 +53,7 @@ pub record HiddenRoom (size t : ℕ) (m : Mode) (g f : Form) (b : Block) (notes 
 -- the same where there is room for `cap` hidden rows, however many g has
 pub record HiddenRoomWithin (size t : ℕ) (m : Mode) (g f : Form) (b : Block) (notes cap : ℕ) : Type 0 where
   pub tape : t ≤ f .hidden
-  pub parameters : f .parameters + f .«parameter_count» ≤ f .hidden
+  pub parameters : f .parameters + f .«parameter_count» * 2 ≤ f .hidden
   pub visible : f .visible + f .«visible_count» * 16 ≤ f .hidden
   pub hidden : f .hidden + cap * 16 ≤ f .equations
   pub equations : f .equations + b .«equation_room» * 8 ≤ f .nodes

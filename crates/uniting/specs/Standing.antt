@@ -1,19 +1,18 @@
--- Forms that stand go on standing: where two parts of the memory change that are none of theirs, and with more names and rows.
+-- Forms that stand go on standing: where two parts of the memory change that are none of theirs, and with more parameters and rows.
 use mathlib.Core.Path.{_≡_, refl, sym, subst}
 use mathlib.Core.Logic.{inl}
-use Prim.Native.Nat.{ℕ, _+_, _≤_}
+use Prim.Native.Nat.{ℕ, _+_, _*_, _≤_}
 use native.Mathlib.Omega.{arith}
 use mathlib.Core.List.{List, [], _∷_}
 use Rattle.meaning.specs.Lists.{sum}
-use Rattle.meaning.specs.Names.{Name}
 use Rattle.meaning.specs.Origins.{Item, ResolvedEquation}
-use Rattle.meaning.specs.Normal.{Normal, nothing-visible, nothing-hidden, empty}
+use Rattle.meaning.specs.Normal.{Slot, Normal, nothing-visible, nothing-hidden, empty}
 use Rattle.forms.specs.declared.Form.{Form}
 use Rattle.forms.specs.declared.Block.{Block}
 use Rattle.forms.specs.declared.EquationRow.{EquationRow}
-use Rattle.forms.specs.Memory.{part, KeptTwo}
-use Rattle.forms.specs.Forms.{names-at, items-at, node-item, nodes-of, equation-row-at, EquationStands, EquationsStand, Pointing, visible-at, Stands}
-use Rattle.forms.specs.FormLaws.{apart-within, kept-two-same, tape-same}
+use Rattle.forms.specs.Memory.{part, Same, KeptTwo}
+use Rattle.forms.specs.Forms.{slots-at, items-at, node-item, nodes-of, equation-row-at, EquationStands, EquationsStand, Pointing, visible-at, Stands}
+use Rattle.forms.specs.FormLaws.{apart-within, kept-two-same, slots-same, items-same, tape-same}
 use Rattle.forms.specs.Blocks.{Lies, Outside}
 use Rattle.forms.specs.Frames.{stands-stays}
 use Rattle.uniting.specs.United.{empty-in, with-items}
@@ -41,7 +40,16 @@ stands-kept-two text t w w′ a e b d f n h l k o p s =
       nodes = kept-two-same a e b d _ _ w w′ (o .nodes) (p .nodes) k;
     }) n (kept-two-same a e b d _ _ w w′ (o .parameters) (p .parameters) k) (kept-two-same a e b d _ _ w w′ (o .equations) (p .equations) k) s)
 
--- ---- with more names and rows
+-- the visible part of a form whose parameters and visible rows stay
+pub visible-same : (text tape w w′ : List ℕ) (f : Form) → Same (f .parameters) (f .parameters + f .«parameter_count» * 2) w w′
+    → Same (f .visible) (f .visible + f .«visible_count» * 16) w w′ → visible-at text tape w′ f ≡ visible-at text tape w f
+unfolding visible-at
+visible-same text tape w w′ f p q =
+    let slots = slots-same w w′ text (f .parameters) (f .«parameter_count») p in
+    let items = items-same w w′ text tape (f .visible) (f .«visible_count») q in
+    λ i. record { parameters = slots i; items = items i }
+
+-- ---- with more parameters and rows
 
 module _ (text tape w : List ℕ) (f : Form) (p v h : ℕ) where
   equation-as : (r : EquationRow) (e : ResolvedEquation) → EquationStands text tape w f r e → EquationStands text tape w (with-items f p v h) r e
@@ -61,14 +69,14 @@ module _ (text tape w : List ℕ) (f : Form) (p v h : ℕ) where
       hidden = λ i l e. let x = q .hidden i l e in record { inside = omega (arith, x .inside); no-sort = x .no-sort; alone = x .alone };
     }
 
-    pub stands-more : (n : Normal) (names : List Name) (seen unseen : List Item) → Stands text tape w f n → names-at text w (f .parameters) p ≡ names
+    pub stands-more : (n : Normal) (slots : List Slot) (seen unseen : List Item) → Stands text tape w f n → slots-at text w (f .parameters) p ≡ slots
         → items-at text tape w (f .visible) v ≡ seen → items-at text tape w (f .hidden) h ≡ unseen
         → Stands text tape w (with-items f p v h) (record {
-          visible = record { parameters = names; items = seen };
+          visible = record { parameters = slots; items = seen };
           hidden = record { items = unseen; equations = n .hidden .equations };
         })
     unfolding with-items visible-at
-    stands-more n names seen unseen s a b c = record {
+    stands-more n slots seen unseen s a b c = record {
       visible = λ i. record { parameters = a i; items = b i };
       hidden = c;
       equation-count = s .equation-count;
@@ -85,7 +93,7 @@ unfolding empty-in
 empty-lies b = record { parameters = refl; visible = refl; hidden = refl; equations = refl; nodes = refl }
 
 pub empty-stands : (text tape w : List ℕ) (b : Block) → Stands text tape w (empty-in b) empty
-unfolding empty-in empty nothing-visible nothing-hidden visible-at names-at items-at sum
+unfolding empty-in empty nothing-visible nothing-hidden visible-at slots-at items-at sum
 empty-stands text tape w b = record {
   visible = refl;
   hidden = refl;

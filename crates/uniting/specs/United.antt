@@ -1,18 +1,18 @@
 -- What uniting leaves: the counts, the words that change, and what the form stands for.
 use mathlib.Core.Path.{_≡_}
 use mathlib.Core.Logic.{_⊎_}
-use Prim.Native.Nat.{ℕ, _+_, _≤_, _<_}
-use mathlib.Core.Bool.{Bool, true, false}
-use mathlib.Core.List.{List, _++_, map}
-use lib.ListN.{getD, take}
-use Rattle.meaning.specs.Lists.{union}
+use Prim.Native.Nat.{ℕ, _+_, _*_, _≤_, _<_}
+use mathlib.Core.Bool.{Bool, true, false, not}
+use mathlib.Core.List.{List, [], _∷_, _++_, map}
+use lib.ListN.{take}
+use Rattle.meaning.specs.Lists.{keep, union}
 use Rattle.meaning.specs.Names.{Name}
 use Rattle.meaning.specs.Origins.{FunctionType, one-item, one-equation}
-use Rattle.meaning.specs.Normal.{Visible, Hidden, Normal, move-item, move-hidden-item, move-equation}
+use Rattle.meaning.specs.Normal.{Slot, Visible, Hidden, Normal, is-parameter-of, move-item, move-hidden-item, move-equation}
 use Rattle.forms.specs.declared.Form.{Form}
 use Rattle.forms.specs.declared.Block.{Block}
 use Rattle.forms.specs.Memory.{part, Kept, KeptTwo}
-use Rattle.forms.specs.Forms.{items-at, visible-at, Stands}
+use Rattle.forms.specs.Forms.{slot-at, slots-at, items-at, visible-at, Stands}
 use Rattle.forms.specs.Blocks.{Lies}
 use Rattle.translation.specs.declared.Mode.{Mode}
 use Rattle.translation.specs.Translation.{sort-name, function-name}
@@ -54,11 +54,16 @@ with-items f parameters visible hidden = record {
 
 -- ---- normal forms
 
+-- the parameters of b that are none of a's
+unfoldable pub other-slots : Visible → Visible → List Slot
+other-slots a b = keep (λ (q : Slot). not (is-parameter-of a b q)) (b .parameters)
+
 module _ (σ : Name → Name) (φ : Name → FunctionType → Name) where
-  -- what comes of a visible part and of another that is moved onto it: what is one becomes one
+  -- what comes of a visible part and of another that is moved onto it: what is one becomes one; the other's parameters are held against it
+  -- as they are, for nothing is moved but onto nothing, or as it is
   unfoldable pub visible-onto : Visible → Visible → Visible
   visible-onto to from = record {
-    parameters = to .parameters ++ from .parameters;
+    parameters = to .parameters ++ other-slots to from;
     items = union one-item (to .items) (map (move-item σ φ) (from .items));
   }
 
@@ -77,15 +82,25 @@ within room h = record { items = h .items; equations = take room (h .equations) 
 
 -- ---- memory
 
--- the c words from a on stand from b on too
-pub record Copied (w : List ℕ) (a b c : ℕ) (w′ : List ℕ) : Type 0 where
-  pub words : (i : ℕ) → i < c → getD w′ (b + i) 0 ≡ getD w (a + i) 0
-  pub kept : Kept b (b + c) w w′
+-- the k-th parameter of g went behind n at f, unless it is one of f's
+pub record SlotUnited (text : List ℕ) (t : ℕ) (w : List ℕ) (g f : Form) (k n r : ℕ) (w′ : List ℕ) : Type 0 where
+  pub slots : slots-at text w′ (f .parameters) r
+      ≡ slots-at text w (f .parameters) n
+      ++ keep (λ (q : Slot). not (is-parameter-of (visible-at text (part w 0 t) w f) (visible-at text (part w 0 t) w g) q))
+      (slot-at text w (g .parameters + k * 2) ∷ [])
+  pub few : r ≤ n + 1
+  pub grows : n ≤ r
+  pub kept : Kept (f .parameters + n * 2) (f .parameters + (n + 1) * 2) w w′
 
--- the names of g's parameters stand behind those of f
-pub record NamesUnited (w : List ℕ) (g f r : Form) (w′ : List ℕ) : Type 0 where
-  pub form : r ≡ with-items f (f .«parameter_count» + g .«parameter_count») (f .«visible_count») (f .«hidden_count»)
-  pub copied : Copied w (g .parameters) (f .parameters + f .«parameter_count») (g .«parameter_count») w′
+-- the parameters of g that are none of f's stand behind those of f
+pub record SlotsUnited (text : List ℕ) (t : ℕ) (w : List ℕ) (g f r : Form) (w′ : List ℕ) : Type 0 where
+  pub form : r ≡ with-items f (r .«parameter_count») (f .«visible_count») (f .«hidden_count»)
+  pub few : r .«parameter_count» ≤ f .«parameter_count» + g .«parameter_count»
+  pub grows : f .«parameter_count» ≤ r .«parameter_count»
+  pub slots : slots-at text w′ (f .parameters) (r .«parameter_count»)
+      ≡ slots-at text w (f .parameters) (f .«parameter_count»)
+      ++ other-slots (visible-at text (part w 0 t) w f) (visible-at text (part w 0 t) w g)
+  pub kept : Kept (f .parameters + f .«parameter_count» * 2) (f .parameters + (f .«parameter_count» + g .«parameter_count») * 2) w w′
 
 -- the visible items of g are absorbed into those of f
 pub record VisibleUnited (text : List ℕ) (t : ℕ) (w : List ℕ) (m : Mode) (drop : Bool) (g f : Form) (notes : ℕ) (r : Form) (w′ : List ℕ) : Type 0 where
@@ -146,7 +161,7 @@ pub record HiddenUnitedWithin (text : List ℕ) (t : ℕ) (w : List ℕ) (m : Mo
 -- all of g came into f
 pub record United (text : List ℕ) (t : ℕ) (w : List ℕ) (m : Mode) (g f : Form) (b : Block) (r : Form) (w′ : List ℕ) : Type 0 where
   pub lies : Lies b r
-  pub names : r .«parameter_count» ≡ f .«parameter_count» + g .«parameter_count»
+  pub names : r .«parameter_count» ≤ f .«parameter_count» + g .«parameter_count»
   pub visible : r .«visible_count» ≤ f .«visible_count» + g .«visible_count»
   pub hidden : r .«hidden_count» ≤ f .«hidden_count» + g .«hidden_count»
   pub equations : r .«equation_count» ≤ b .«equation_room»

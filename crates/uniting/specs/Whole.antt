@@ -23,12 +23,12 @@ use Rattle.translation.specs.MovedLaws.{sort-name-apart, function-name-apart}
 use Rattle.absorb.specs.Turns.{Room}
 use Rattle.joining.specs.Joined.{with-counts}
 use Rattle.joining.specs.Found.{Noted}
-use Rattle.uniting.specs.Rooms.{NamesRoom, HiddenRoom, Inside, UniteRoom}
-use Rattle.uniting.specs.United.{with-items, visible-onto, hidden-onto, within, NamesUnited, VisibleUnited, sorts, functions, HiddenUnited, United}
-use Rattle.uniting.specs.InBlock.{inside-as, outside-notes, outside-names, outside-rows, hidden-room-in}
+use Rattle.uniting.specs.Rooms.{SlotsRoom, HiddenRoom, Inside, UniteRoom}
+use Rattle.uniting.specs.United.{with-items, other-slots, visible-onto, hidden-onto, within, SlotsUnited, VisibleUnited, sorts, functions, HiddenUnited, United}
+use Rattle.uniting.specs.InBlock.{inside-as, outside-notes, outside-slots, outside-rows, hidden-room-in}
 use Rattle.uniting.specs.Noting.{all-noted}
 use Rattle.uniting.specs.Hiding.{keep-all}
-use Rattle.uniting.specs.Showing.{names-stand, visible-stands}
+use Rattle.uniting.specs.Showing.{slots-stand, visible-stands}
 
 -- ---- frames
 
@@ -63,20 +63,23 @@ module _ (text : List ℕ) (t : ℕ) (w : List ℕ) (m : Mode) (g f : Form) (b :
   abbrev lies : Lies b f
   lies = room .inside .lies
 
-  pub names-room : NamesRoom (length w) g f
-  names-room = record {
+  pub slots-room : SlotsRoom (length w) t g f
+  slots-room = record {
+    tape = omega (arith, laid, lies);
     few = room .few-parameters;
     room = omega (arith, room, laid, lies);
-    apart = apart-within (b .low) (b .high) _ _ _ _ (omega (arith, room, laid, lies)) (omega (arith, room, laid, lies)) (room .outside .parameters);
+    own-rows = inr (omega (arith, room, laid, lies));
+    source = apart-within (b .low) (b .high) _ _ _ _ (omega (arith, room, laid, lies)) (omega (arith, room, laid, lies)) (room .outside .parameters);
+    source-rows = apart-within (b .low) (b .high) _ _ _ _ (omega (arith, room, laid, lies)) (omega (arith, room, laid, lies)) (room .outside .visible);
   }
 
-  -- ---- after the names
+  -- ---- after the parameters
 
-  module _ (named : Form) (w₁ : List ℕ) (x : NamesUnited w g f named w₁) where
+  module _ (named : Form) (w₁ : List ℕ) (x : SlotsUnited text t w g f named w₁) where
     pub visible-room : Room (length w₁) t m (g .visible) (g .«visible_count») (named .visible) (named .«visible_count») (b .«visible_notes»)
     unfolding with-items
     visible-room =
-        let size = x .copied .kept .size in
+        let size = x .kept .size in
         subst (λ (z : Form). Room (length w₁) t m (g .visible) (g .«visible_count») (z .visible) (z .«visible_count») (b .«visible_notes»)) (sym (x .form))
         (record {
           tape-table = omega (arith, room, laid, lies);
@@ -91,19 +94,21 @@ module _ (text : List ℕ) (t : ℕ) (w : List ℕ) (m : Mode) (g f : Form) (b :
           note-mode = apart-within (b .low) (b .high) _ _ _ _ (omega (arith, room, laid, lies)) (omega (arith, room, laid, lies)) (room .mode);
         })
 
+    named-few : named .«parameter_count» ≤ room .names
+    named-few = omega (arith, room, x .few)
+
     named-inside : Inside b (room .names) (room .rows) (room .hidden-rows) named
     named-inside =
         subst (Inside b (room .names) (room .rows) (room .hidden-rows)) (sym (x .form))
-        (inside-as (length w) t b _ _ _ _ laid f (room .inside) _ _ _ (room .parameters) (room .inside .visible) (room .inside .hidden))
+        (inside-as (length w) t b _ _ _ _ laid f (room .inside) _ _ _ named-few (room .inside .visible) (room .inside .hidden))
 
-    names-kept : Kept (b .low) (b .high) w w₁
-    names-kept =
-        kept-wider _ _ (b .low) (b .high) w w₁ (omega (arith, room, laid, lies)) (omega (arith, room, laid, lies)) (x .copied .kept)
+    slots-kept : Kept (b .low) (b .high) w w₁
+    slots-kept = kept-wider _ _ (b .low) (b .high) w w₁ (omega (arith, room, laid, lies)) (omega (arith, room, laid, lies)) (x .kept)
 
     -- ---- after the visible items
 
     module _ (seen : Form) (w₂ : List ℕ) (y : VisibleUnited text t w₁ m false g named (b .«visible_notes») seen w₂) where
-      seen-form : seen ≡ with-items f (f .«parameter_count» + g .«parameter_count») (seen .«visible_count») (f .«hidden_count»)
+      seen-form : seen ≡ with-items f (named .«parameter_count») (seen .«visible_count») (f .«hidden_count»)
       unfolding with-items
       seen-form = y .form ∙ ap (λ (z : Form). with-items z (z .«parameter_count») (seen .«visible_count») (z .«hidden_count»)) (x .form)
 
@@ -114,7 +119,7 @@ module _ (text : List ℕ) (t : ℕ) (w : List ℕ) (m : Mode) (g f : Form) (b :
       seen-inside : Inside b (room .names) (room .rows) (room .hidden-rows) seen
       seen-inside =
           subst (Inside b (room .names) (room .rows) (room .hidden-rows)) (sym seen-form)
-          (inside-as (length w) t b _ _ _ _ laid f (room .inside) _ _ _ (room .parameters) (omega (arith, room, seen-few)) (room .inside .hidden))
+          (inside-as (length w) t b _ _ _ _ laid f (room .inside) _ _ _ named-few (omega (arith, room, seen-few)) (room .inside .hidden))
 
       visible-kept : Kept (b .low) (b .high) w₁ w₂
       unfolding with-items
@@ -127,7 +132,7 @@ module _ (text : List ℕ) (t : ℕ) (w : List ℕ) (m : Mode) (g f : Form) (b :
       pub hidden-room : HiddenRoom (length w₂) t m g seen b (b .«visible_notes»)
       unfolding with-items
       hidden-room =
-          let size : length w₂ ≡ length w = visible-kept .size ∙ names-kept .size in
+          let size : length w₂ ≡ length w = visible-kept .size ∙ slots-kept .size in
           let have : seen .«hidden_count» ≡ f .«hidden_count» = ap (λ (z : Form). z .«hidden_count») seen-form in
           hidden-room-in (length w₂) t b (room .names) (room .rows) (room .hidden-rows) (room .sources)
           (subst (λ (n : ℕ). BlockLaid n t b (room .names) (room .rows) (room .hidden-rows) (room .sources)) (sym size) laid) seen seen-inside m g
@@ -138,7 +143,7 @@ module _ (text : List ℕ) (t : ℕ) (w : List ℕ) (m : Mode) (g f : Form) (b :
 
       module _ (r : Form) (w₃ : List ℕ) (z : HiddenUnited text t w₂ m g seen b (b .«visible_notes») r w₃) where
         made-form : r
-            ≡ with-counts (with-items f (f .«parameter_count» + g .«parameter_count») (seen .«visible_count») (r .«hidden_count»))
+            ≡ with-counts (with-items f (named .«parameter_count») (seen .«visible_count») (r .«hidden_count»))
             (r .«equation_count») (r .«node_count»)
         unfolding with-items
         made-form =
@@ -153,7 +158,7 @@ module _ (text : List ℕ) (t : ℕ) (w : List ℕ) (m : Mode) (g f : Form) (b :
             let nodes : seen .nodes ≡ f .nodes = ap (λ (u : Form). u .nodes) seen-form in
             let last = kept-both (b .low) (b .high) _ _ _ _ w₂ w₃ (omega (arith, room, laid, lies)) (omega (arith, room, laid, lies))
             (omega (arith, room, laid, lies)) (omega (arith, room, laid, lies)) (z .kept) in
-            kept-then (b .low) (b .high) w w₂ w₃ (kept-then (b .low) (b .high) w w₁ w₂ names-kept visible-kept) last
+            kept-then (b .low) (b .high) w w₂ w₃ (kept-then (b .low) (b .high) w w₁ w₂ slots-kept visible-kept) last
 
         -- ---- what it stands for
 
@@ -167,10 +172,10 @@ module _ (text : List ℕ) (t : ℕ) (w : List ℕ) (m : Mode) (g f : Form) (b :
         φ = functions text t w m
 
         sorts-named : sorts text t w₁ m ≡ σ
-        sorts-named = sorts-stay text t w w₁ m (b .low) (b .high) behind names-kept (room .mode)
+        sorts-named = sorts-stay text t w w₁ m (b .low) (b .high) behind slots-kept (room .mode)
 
         functions-named : functions text t w₁ m ≡ φ
-        functions-named = functions-stay text t w w₁ m (b .low) (b .high) behind names-kept (room .mode)
+        functions-named = functions-stay text t w w₁ m (b .low) (b .high) behind slots-kept (room .mode)
 
         sorts-seen : sorts text t w₂ m ≡ sorts text t w₁ m
         sorts-seen = sorts-stay text t w₁ w₂ m (b .low) (b .high) behind visible-kept (room .mode)
@@ -201,11 +206,10 @@ module _ (text : List ℕ) (t : ℕ) (w : List ℕ) (m : Mode) (g f : Form) (b :
         all-stands from to s u =
             let low = b .low in
             let high = b .high in
-            let s₁ = stands-kept text t w w₁ low high g from behind names-kept (room .outside) s in
+            let s₁ = stands-kept text t w w₁ low high g from behind slots-kept (room .outside) s in
             let s₂ = stands-kept text t w₁ w₂ low high g from behind visible-kept (room .outside) s₁ in
-            let u₁ = names-stand text t w w₁ g f named to (from .visible .parameters) x (omega (arith, laid, lies))
-            (outside-names (length w) t b _ _ _ _ laid f (room .inside) (g .«parameter_count») (room .parameters)) u
-            (ap (λ (v : Visible). v .parameters) (s .visible)) in
+            let u₁ = slots-stand text t w w₁ g f named (from .visible) to x (omega (arith, laid, lies))
+            (outside-slots (length w) t b _ _ _ _ laid f (room .inside) (g .«parameter_count») (room .parameters)) (s .visible) u in
             let have : named .«visible_count» ≡ f .«visible_count» = ap (λ (v : Form). v .«visible_count») (x .form) in
             let u₂ = visible-stands text t w₁ w₂ m false g named (b .«visible_notes») seen y (visible-room .tape-table) (visible-room .tape-note) _
             (from .visible .items) (outside-rows (length w) t b _ _ _ _ laid named named-inside (g .«visible_count») (omega (arith, room)))
@@ -217,7 +221,7 @@ module _ (text : List ℕ) (t : ℕ) (w : List ℕ) (m : Mode) (g f : Form) (b :
             subst (Stands text (part w₃ 0 t) w₃ r)
             (λ i. record {
               visible = record {
-                parameters = to .visible .parameters ++ from .visible .parameters;
+                parameters = to .visible .parameters ++ other-slots (to .visible) (from .visible);
                 items = union one-item (to .visible .items) (map (move-item (sorts-named i) (functions-named i)) (all i));
               };
               hidden = within (b .«equation_room») (hidden-onto (σs i) (φs i) (to .hidden) (from .hidden));
@@ -235,7 +239,7 @@ module _ (text : List ℕ) (t : ℕ) (w : List ℕ) (m : Mode) (g f : Form) (b :
                 equations = ap (λ (u : Form). u .equations) made-form ∙ lies .equations;
                 nodes = ap (λ (u : Form). u .nodes) made-form ∙ lies .nodes;
               };
-              names = ap (λ (u : Form). u .«parameter_count») made-form;
+              names = omega (arith, x .few, ap (λ (u : Form). u .«parameter_count») made-form);
               visible = omega (arith, seen-few, ap (λ (u : Form). u .«visible_count») made-form);
               hidden = omega (arith, z .few, ap (λ (u : Form). u .«hidden_count») seen-form);
               equations = z .equations;

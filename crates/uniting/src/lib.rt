@@ -1,21 +1,21 @@
-// One normal form united with another, which lies in a block of the working memory, through a translation: the names of its parameters go
-// behind, its items are absorbed and noted, and its equations are joined through the notes.
+// One normal form united with another, which lies in a block of the working memory, through a translation: its parameters that are no
+// others go behind, its items are absorbed and noted, and its equations are joined through the notes.
 use absorb::absorb_items;
 use absorb::absorb_within;
+use clauses::parameters::copy_parameter;
 use forms::Block;
 use forms::Form;
 use joining::Notes;
 use joining::equations::absorb_equations;
-use tables::entries::put_word;
-use tables::entries::word_at;
+use same_parameters::is_parameter_of;
 use translation::Mode;
 ghost use mathlib.Core.Path.{_≡_};
 ghost use Prim.Native.Nat.{_≤_};
-ghost use lib.ListN.{length, getD, set};
+ghost use lib.ListN.{length};
 ghost use Rattle.names.specs.Joint.{joint};
 ghost use Rattle.absorb.specs.Turns.{RoomWithin, Room};
-ghost use Rattle.uniting.specs.Rooms.{CopyRoom, NamesRoom, HiddenRoom, HiddenRoomWithin, UniteRoom};
-ghost use Rattle.uniting.specs.United.{empty-in, with-items, Copied, NamesUnited, VisibleUnited, ItemsUnited, HiddenUnited, HiddenUnitedWithin, United};
+ghost use Rattle.uniting.specs.Rooms.{SlotRoom, SlotsRoom, HiddenRoom, HiddenRoomWithin, UniteRoom};
+ghost use Rattle.uniting.specs.United.{empty-in, with-items, SlotUnited, SlotsUnited, VisibleUnited, ItemsUnited, HiddenUnited, HiddenUnitedWithin, United};
 
 // The form in the block that has nothing.
 pub fn empty_form(b: Block) -> Form
@@ -53,38 +53,50 @@ fn with_items(f: Form, parameters: u32, visible: u32, hidden: u32) -> Form
     }
 }
 
-// The word at a, to b.
-fn copy_word(work: &mut [u32], a: usize, b: usize)
-    ensures { λ r. ⌜ now (work .exit) ≡ set (now (work .entry)) b (getD (now (work .entry)) a 0) ⌝ }
-{
-    let v = word_at(work, a);
-    put_word(work, b, v);
-}
-
-// The c words from a on, to b.
-fn copy_words(work: &mut [u32], a: usize, b: usize, c: u32)
-    requires { ⌜ CopyRoom (length (now work)) a b c ⌝ }
-    ensures { λ r. ⌜ Copied (now (work .entry)) a b c (now (work .exit)) ⌝ }
-{
-    let n = c as usize;
-    let mut i = 0;
-    while i < n {
-        copy_word(work, a + i, b + i);
-        i += 1;
-    }
-}
-
-// The names of g's parameters behind those of f.
-pub fn unite_parameters(work: &mut [u32], g: Form, f: Form) -> Form
-    requires { ⌜ NamesRoom (length (now work)) g f ⌝ }
-    ensures { λ r. ⌜ NamesUnited (now (work .entry)) g f r (now (work .exit)) ⌝ }
+// The k-th parameter of g behind n of the form f, unless it is one of f's own. How many there are after.
+fn unite_parameter(
+    library: &[u8],
+    text: &[u8],
+    work: &mut [u32],
+    t: usize,
+    g: Form,
+    f: Form,
+    k: u32,
+    n: u32,
+) -> u32
+    requires { ⌜ SlotRoom (length (now work)) t g f k n ⌝ }
+    ensures { λ r. ⌜ SlotUnited (joint (now (library .entry)) (now (text .entry))) t (now (work .entry)) g f k n r (now (work .exit)) ⌝ }
 {
     let source = g.parameters;
     let base = f.parameters;
+    let q = source as usize + k as usize * 2;
+    if is_parameter_of(library, text, work, t, f, g, q) {
+        return n;
+    }
+    copy_parameter(work, q, base as usize + n as usize * 2);
+    n + 1
+}
+
+// The parameters of g that are none of f's, behind those of f.
+pub fn unite_parameters(
+    library: &[u8],
+    text: &[u8],
+    work: &mut [u32],
+    t: usize,
+    g: Form,
+    f: Form,
+) -> Form
+    requires { ⌜ SlotsRoom (length (now work)) t g f ⌝ }
+    ensures { λ r. ⌜ SlotsUnited (joint (now (library .entry)) (now (text .entry))) t (now (work .entry)) g f r (now (work .exit)) ⌝ }
+{
     let more = g.parameter_count;
-    let have = f.parameter_count;
-    copy_words(work, source as usize, base as usize + have as usize, more);
-    with_items(f, have + more, f.visible_count, f.hidden_count)
+    let mut n = f.parameter_count;
+    let mut k = 0;
+    while k < more {
+        n = unite_parameter(library, text, work, t, g, f, k, n);
+        k += 1;
+    }
+    with_items(f, n, f.visible_count, f.hidden_count)
 }
 
 // The visible items of g, moved, absorbed into those of f, and noted from `notes` on. Where `drop` says so, those that stand in the mode's
@@ -225,7 +237,7 @@ pub fn unite(
     ensures { λ r. ⌜ United (joint (now (library .entry)) (now (text .entry))) t (now (work .entry)) m g f b r (now (work .exit)) ⌝ }
 {
     let notes = b.visible_notes;
-    let named = unite_parameters(work, g, f);
+    let named = unite_parameters(library, text, work, t, g, f);
     let seen = unite_visible(library, text, work, t, m, false, g, named, notes);
     unite_hidden(library, text, work, t, m, g, seen, b, notes)
 }

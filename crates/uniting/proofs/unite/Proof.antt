@@ -1,6 +1,6 @@
 -- `uniting::unite` meets its contract.
 -- Assumes nothing.
-use Rattle.uniting.specs.Whole.{names-room, visible-room, hidden-room, united}
+use Rattle.uniting.specs.Whole.{slots-room, visible-room, hidden-room, united}
 use borrow.Author.Needs.{needs}
 use Rattle.uniting.proofs.unite.Statement.{statement}
 use Rattle.uniting.proofs.unite.Tie as tie
@@ -9,7 +9,7 @@ pub unite-spec : {M : Type 1} → statement M
 unite-spec =
     tie.close
     (tie.spec
-    (λ c κs. search (names-room, needs))  -- unite-parameters-requires
+    (λ c κs. search (slots-room, needs))  -- unite-parameters-requires
     (λ c κs. search (visible-room, needs))  -- unite-visible-requires
     (λ c κs. hidden-room _ _ _ _ _ _ _ (c .before .before .before .before .before .before .before .before .before .before .before .before .pre) _ _
     (c .before .before .before .before .before .before .before .unite-parameters .ensures) _ _

@@ -1,13 +1,16 @@
 -- `clauses::parameters::has_parameter` meets its contract.
 -- Assumes nothing.
-use Rattle.clauses.proofs.RowSearches.{seeks, Seeking}
+use Rattle.clauses.proofs.RowSearches.{seeks}
+use Rattle.clauses.specs.Searches.{slot-called}
+use Rattle.clauses.specs.Walks.{Seeking}
 use Prim.Native.Nat.{_-_}
+use Rattle.names.specs.Word.{name-of}
 use Rattle.names.specs.Joint.{joint}
 use Rattle.clauses.proofs.parameters.has_parameter.Statement.{statement}
 use Rattle.clauses.proofs.parameters.has_parameter.Tie as tie
 
 abbrev Inv-loop : tie.InvT-loop
-Inv-loop library text work p parameters count i₀ i = Seeking (joint library text) work parameters count p i
+Inv-loop library text work p parameters count i₀ i = Seeking (slot-called (name-of (joint library text) p)) (joint library text) work parameters count i
 
 abbrev μ-loop : tie.MeasureT-loop
 μ-loop library text work p parameters count i₀ i = count - i
@@ -21,6 +24,7 @@ has-parameter-spec =
     (λ c. search seeks)  -- loop-holds
     (λ c. search seeks)  -- cast-word-at
     (λ c. search seeks)  -- cast-word-at-2
+    (λ c. search seeks)  -- mul-word-at
     (λ c. search seeks)  -- add-word-at
     (λ c κs. search seeks)  -- word-at-requires
     (λ c κs. search seeks)  -- same-word-requires

@@ -1,6 +1,6 @@
 -- `clauses::parameters::keep_parameters` meets its contract.
 -- Assumes nothing.
-use Rattle.clauses.proofs.NameCases.{keepings, Keeping}
+use Rattle.clauses.proofs.ParameterCases.{keepings, Keeping}
 use Prim.Native.Nat.{_-_}
 use Rattle.names.specs.Joint.{joint}
 use Rattle.clauses.proofs.parameters.keep_parameters.Statement.{statement}

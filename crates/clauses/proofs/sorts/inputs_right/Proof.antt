@@ -1,6 +1,8 @@
 -- `clauses::sorts::inputs_right` meets its contract.
 -- Assumes nothing.
-use Rattle.clauses.proofs.SortCases.{fittings, Fitting}
+use Rattle.clauses.proofs.SortCases.{fittings}
+use Rattle.clauses.specs.Walks.{Fitting}
+use Rattle.clauses.specs.Fits.{sort-fits}
 use Prim.Native.Nat.{_-_}
 use Rattle.names.specs.Joint.{joint}
 use Rattle.forms.specs.Memory.{part}
@@ -8,7 +10,7 @@ use Rattle.clauses.proofs.sorts.inputs_right.Statement.{statement}
 use Rattle.clauses.proofs.sorts.inputs_right.Tie as tie
 
 abbrev Inv-loop : tie.InvT-loop
-Inv-loop library text work t m actual kind sorts end i₀ i = Fitting (joint library text) (part work 0 t) work m actual kind sorts i
+Inv-loop library text work t m actual kind sorts end i₀ i = Fitting (joint library text) (part work 0 t) (sort-fits (joint library text) (part work 0 t) work m actual) kind sorts i
 
 abbrev μ-loop : tie.MeasureT-loop
 μ-loop library text work t m actual kind sorts end i₀ i = 9 - i
