@@ -8,10 +8,11 @@ use Rattle.translation.specs.declared.Mode.{Mode}
 use Rattle.uniting.specs.United.{empty-in, with-items}
 use Rattle.binding.specs.Rooms.{as-is, binding-mode}
 use Rattle.binding.specs.Binding.{named-in}
-use Rattle.binding.specs.NameSteps.{keep-room, more-room, names-bound}
-use Rattle.binding.specs.VisibleSteps.{own-room, actual-room, rows-bound, note-room, visible-bound}
+use Rattle.binding.specs.Places.{own-step}
+use Rattle.binding.specs.OwnSteps.{keep-room, own-room, own-bound}
+use Rattle.binding.specs.VisibleSteps.{slots-room, actual-room, rows-bound, note-room, front-bound}
 use Rattle.binding.specs.HiddenSteps.{own-hidden-room, actual-hidden-room, hidden-bound}
-use Rattle.binding.specs.WholeSteps.{step-names, visible-step, front-bound, hidden-step, check-step, bound-form}
+use Rattle.binding.specs.WholeSteps.{hidden-step, check-step, bound-form}
 use Rattle.binding.specs.Outcomes.{pairs-stop, pairs-fine, mode-binds, mode-kind, tape-within, no-parameter, wrong-pairs, right-pairs}
 
 -- ---- what is built of fields
@@ -45,15 +46,13 @@ pub ruleset built = (plain, binding, named, needs)
 
 -- ---- what is made step by step
 
-pub ruleset names = (keep-room, more-room, names-bound, needs)
+pub ruleset own = (keep-room, own-room, own-bound, needs)
 
-pub ruleset rows = (own-room, actual-room, rows-bound, needs)
+pub ruleset rows = (own-step, slots-room, actual-room, rows-bound, needs)
 
-pub ruleset visible = (note-room, visible-bound, needs)
+pub ruleset front = (note-room, front-bound, needs)
 
 pub ruleset hidden = (own-hidden-room, actual-hidden-room, hidden-bound, needs)
-
-pub ruleset front = (step-names, visible-step, front-bound, needs)
 
 pub ruleset whole = (hidden-step, check-step, bound-form, needs)
 

@@ -9,10 +9,9 @@ use native.Mathlib.Omega.{arith}
 use lib.ListN.{getD}
 use Rattle.meaning.specs.Lists.{pick, union}
 use Rattle.meaning.specs.Names.{Name}
-use Rattle.meaning.specs.Origins.{FunctionType, Shape, sort-shape, function-shape, variable-shape, is-function, Item, one-item}
-use Rattle.meaning.specs.Normal.{Visible, move-shape, move-item}
-use Rattle.meaning.specs.Checks.{in-parameter}
-use Rattle.meaning.specs.Clauses.{formals, wrong-pair, unpaired}
+use Rattle.meaning.specs.Origins.{FunctionType, Shape, sort-shape, function-shape, variable-shape, is-function, Item, one-item, in-parameter}
+use Rattle.meaning.specs.Normal.{Visible, move-shape, move-item, formals}
+use Rattle.meaning.specs.Clauses.{wrong-pair, unpaired}
 use Rattle.names.specs.Word.{name-of}
 use Rattle.tables.specs.Rows.{item-of, row-at}
 use Rattle.forms.specs.declared.Form.{Form}

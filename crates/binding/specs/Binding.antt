@@ -2,32 +2,30 @@
 use mathlib.Core.Path.{_≡_}
 use mathlib.Core.Bool.{true, false, not}
 use mathlib.Core.Option.{none}
-use mathlib.Core.List.{List, [], _++_, map}
-use Prim.Native.Nat.{ℕ, _+_, _≤_}
+use mathlib.Core.List.{List, []}
+use Prim.Native.Nat.{ℕ, _+_}
 use lib.ListN.{length}
-use Rattle.meaning.specs.Lists.{keep, union}
 use Rattle.meaning.specs.Names.{Name}
 use Rattle.meaning.specs.Numbers.{bad-binding}
 use Rattle.meaning.specs.Syntax.{Pair}
-use Rattle.meaning.specs.Origins.{Item, one-item}
-use Rattle.meaning.specs.Normal.{Visible, nothing-visible, nothing-hidden, Normal, unite-hidden, unite, move-item, move}
-use Rattle.meaning.specs.Checks.{_>>_, Check, unless, in-parameter, checked}
-use Rattle.meaning.specs.Clauses.{formals, new-sort, new-function, wrong-pair, unpaired, without}
+use Rattle.meaning.specs.Normal.{Visible, nothing-visible, nothing-hidden, Normal, unite-visible, unite-hidden, unite, move-visible, move, formals}
+use Rattle.meaning.specs.Checks.{_>>_, Check, unless, checked}
+use Rattle.meaning.specs.Clauses.{new-sort, new-function, wrong-pair, unpaired, without-visible, without}
 use Rattle.names.specs.Word.{name-of}
 use Rattle.forms.specs.declared.Form.{Form}
 use Rattle.forms.specs.declared.Block.{Block}
 use Rattle.forms.specs.declared.Made.{Made}
 use Rattle.forms.specs.Memory.{part, Kept}
-use Rattle.forms.specs.Forms.{names-at, items-at, visible-at, Stands}
+use Rattle.forms.specs.Forms.{visible-at, Stands}
 use Rattle.forms.specs.Blocks.{Makes, MadeIn}
 use Rattle.translation.specs.declared.Mode.{Mode}
 use Rattle.translation.specs.Translation.{pairs-at, mode-formals}
 use Rattle.joining.specs.Found.{Noted}
-use Rattle.uniting.specs.United.{empty-in, with-items, hidden-onto, VisibleUnited, sorts, functions}
+use Rattle.uniting.specs.United.{empty-in, with-items, hidden-onto, SlotsUnited, VisibleUnited, sorts, functions}
 use Rattle.clauses.specs.Fits.{mode-whole}
-use Rattle.clauses.specs.KeptNames.{but}
+use Rattle.clauses.specs.KeptParameters.{SlotsKept}
 use Rattle.making.specs.Checked.{CheckRoom}
-use Rattle.binding.specs.Rooms.{as-is, Named}
+use Rattle.binding.specs.Rooms.{as-is, Seen}
 
 -- 16, of the words of a mode and of an actual form
 unfoldable pub pairs-checked : List ℕ → List ℕ → List ℕ → Mode → Form → Check
@@ -42,70 +40,50 @@ pub record PairsRight (p : Name) (rs : List Pair) (whole actual : Visible) : Typ
   pub right : wrong-pair (formals p whole) rs whole actual [] rs ≡ none
   pub paired : unpaired (formals p whole) rs whole actual ≡ none
 
--- ---- names
+-- ---- what is left of the form that is bound
 
 -- the form in the block that has so many parameters, and nothing else
 unfoldable pub named-in : Block → ℕ → Form
 named-in b names = with-items (empty-in b) names 0 0
 
-unfoldable pub names-alone : List Name → Normal
-names-alone names = record { visible = record { parameters = names; items = [] }; hidden = nothing-hidden }
-
--- the names of g's parameters but p, and then those of the actual form
-pub record NamesBound (text w : List ℕ) (p : ℕ) (g actual : Form) (b : Block) (r : Form) (w′ : List ℕ) : Type 0 where
-  pub named : Named g actual b r
-  pub kept : Kept (b .low) (b .high) w w′
-  pub stands : (t : ℕ) → t ≤ b .low
-      → Stands text (part w′ 0 t) w′ r (names-alone (but (name-of text p) (names-at text w (g .parameters) (g .«parameter_count»))
-      ++ names-at text w (actual .parameters) (actual .«parameter_count»)))
-
--- ---- visible items
-
 module _ (text : List ℕ) (t : ℕ) (w : List ℕ) (m : Mode) where
-  -- the items that are not formal, under new names
-  unfoldable pub replaced : List Item → List Item
-  replaced items = map (move-item (sorts text t w m) (functions text t w m))
-      (keep (λ (i : Item). not (in-parameter (name-of text (m .parameter)) (i .standing))) items)
+  -- without the parameter, under new names
+  unfoldable pub left-of : Visible → Visible
+  left-of v = move-visible (sorts text t w m) (functions text t w m) (without-visible (name-of text (m .parameter)) v)
 
-  -- the visible items of g that are not formal are absorbed, and then those of the actual form
-  pub record RowsBound (g actual f : Form) (b : Block) (r : Form) (w′ : List ℕ) : Type 0 where
-    pub own : Form
+  -- the parameters of g but the bound one, and then its visible items that are not formal
+  pub record OwnBound (g : Form) (b : Block) (r : Form) (w′ : List ℕ) : Type 0 where
+    pub count : ℕ
     pub between : List ℕ
-    pub first : VisibleUnited text t w m true g f (b .«visible_notes») own between
-    pub then : VisibleUnited text t between as-is false actual own (b .«visible_notes» + 1024) r w′
+    pub parameters : SlotsKept text w between (g .parameters) (g .«parameter_count») (m .parameter) (b .parameters) count
+    pub rows : VisibleUnited text t between m true g (named-in b count) (b .«visible_notes») r w′
 
-  -- that, and where each row went is noted
-  pub record VisibleBound (g actual f : Form) (b : Block) (r : Form) (w′ : List ℕ) : Type 0 where
-    pub form : r ≡ with-items f (f .«parameter_count») (r .«visible_count») (f .«hidden_count»)
-    pub items : r .«visible_count» ≤ g .«visible_count» + actual .«visible_count»
+  -- ---- that, and what the actual form shows
+
+  -- its parameters that are none of those that are left, and then its visible items
+  pub record RowsBound (g actual : Form) (b : Block) (r : Form) (w′ : List ℕ) : Type 0 where
+    pub own : Form
+    pub left : List ℕ
+    pub first : OwnBound g b own left
+    pub named : Form
+    pub between : List ℕ
+    pub parameters : SlotsUnited text t left actual own named between
+    pub rows : VisibleUnited text t between as-is false actual named (b .«visible_notes» + 1024) r w′
+
+  -- and where each row went is noted
+  pub record FrontBound (g actual : Form) (b : Block) (r : Form) (w′ : List ℕ) : Type 0 where
+    pub seen : Seen g actual b r
     pub kept : Kept (b .low) (b .high) w w′
-    pub stands : (to : Normal) (own others : List Item) → Stands text (part w 0 t) w f to
-        → items-at text (part w 0 t) w (g .visible) (g .«visible_count») ≡ own
-        → items-at text (part w 0 t) w (actual .visible) (actual .«visible_count») ≡ others
-        → Stands text (part w′ 0 t) w′ r (record {
-          visible = record {
-            parameters = to .visible .parameters;
-            items = union one-item (union one-item (to .visible .items) (replaced own)) others;
-          };
-          hidden = to .hidden;
-        })
-    pub own-noted : (whole others : Visible) → items-at text (part w 0 t) w (g .visible) (g .«visible_count») ≡ whole .items
-        → items-at text (part w 0 t) w (actual .visible) (actual .«visible_count») ≡ others .items
-        → PairsRight (name-of text (m .parameter)) (pairs-at text (part w 0 t) (m .pairs)) whole others
+    pub stands : (n a : Normal) → Stands text (part w 0 t) w g n → Stands text (part w 0 t) w actual a
+        → Stands text (part w′ 0 t) w′ r (record { visible = unite-visible (left-of (n .visible)) (a .visible); hidden = nothing-hidden })
+    pub own-noted : (n a : Normal) → Stands text (part w 0 t) w g n → Stands text (part w 0 t) w actual a
+        → PairsRight (name-of text (m .parameter)) (pairs-at text (part w 0 t) (m .pairs)) (n .visible) (a .visible)
         → Noted (sorts text t w′ m) (functions text t w′ m) text (part w′ 0 t) w′ true (b .«visible_notes») (g .visible) (g .«visible_count»)
         (r .visible) (r .«visible_count»)
     pub actual-noted :
         Noted (sorts text t w′ as-is) (functions text t w′ as-is) text (part w′ 0 t) w′ true (b .«visible_notes» + 1024) (actual .visible)
         (actual .«visible_count») (r .visible) (r .«visible_count»)
 
--- names and visible items
-pub record FrontBound (text : List ℕ) (t : ℕ) (w : List ℕ) (m : Mode) (g actual : Form) (b : Block) (r : Form) (w′ : List ℕ) : Type 0 where
-  pub named : Form
-  pub between : List ℕ
-  pub names : NamesBound text w (m .parameter) g actual b named between
-  pub visible : VisibleBound text t between m g actual named b r w′
-
-module _ (text : List ℕ) (t : ℕ) (w : List ℕ) (m : Mode) where
   -- ---- hidden items and equations
 
   pub record HiddenBound (g actual f : Form) (b : Block) (r : Form) (w′ : List ℕ) : Type 0 where

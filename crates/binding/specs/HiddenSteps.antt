@@ -29,7 +29,7 @@ use Rattle.uniting.specs.Corollaries.{united-as-is, hidden-stands}
 use Rattle.making.specs.Checked.{CheckRoom}
 use Rattle.binding.specs.Rooms.{as-is, StepRoom, SeenRoom}
 use Rattle.binding.specs.Binding.{HiddenBound}
-use Rattle.binding.specs.Places.{Laid, Counts, block-laid, counts, mode-apart, InsideBlock, seen-inside, inside-more}
+use Rattle.binding.specs.Places.{Laid, Counts, block-laid, counts, mode-apart, own-step, InsideBlock, seen-inside, inside-more}
 use Rattle.binding.specs.VisibleSteps.{as-is-kind, as-is-apart, sorts-as-is, functions-as-is}
 
 module _ (text : List ℕ) (t : ℕ) (w : List ℕ) (m : Mode) (g actual f : Form) (b : Block) (given : SeenRoom (length w) t m g actual f b) where
@@ -37,7 +37,7 @@ module _ (text : List ℕ) (t : ℕ) (w : List ℕ) (m : Mode) (g actual f : For
   room = given .step
 
   abbrev laid : Laid (length w) t b
-  laid = block-laid (length w) t g actual b (room .room)
+  laid = block-laid (length w) t b (room .room .own .room)
 
   abbrev fit : Counts g actual
   fit = counts (length w) t g actual b (room .room)
@@ -52,7 +52,7 @@ module _ (text : List ℕ) (t : ℕ) (w : List ℕ) (m : Mode) (g actual f : For
   notes = b .«visible_notes»
 
   table-apart : Apart low high (m .visible) (m .visible + m .count * 16)
-  table-apart = mode-apart (length w) t g actual b (room .room) m (room .mode)
+  table-apart = mode-apart (length w) t m g b (own-step (length w) t m g actual b room)
 
   inside : InsideBlock b f
   inside = seen-inside g actual b fit f (given .seen)

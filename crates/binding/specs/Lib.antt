@@ -2,7 +2,7 @@ pub mod Rooms
 pub mod Binding
 pub mod Places
 pub mod ActualNotes
-pub mod NameSteps
+pub mod OwnSteps
 pub mod VisibleSteps
 pub mod HiddenSteps
 pub mod WholeSteps

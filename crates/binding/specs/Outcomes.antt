@@ -10,9 +10,9 @@ use Rattle.meaning.specs.Names.{Name, member}
 use Rattle.meaning.specs.Numbers.{bad-binding}
 use Rattle.meaning.specs.Syntax.{Pair}
 use Rattle.meaning.specs.Origins.{Item}
-use Rattle.meaning.specs.Normal.{Visible, nothing-visible, Normal}
+use Rattle.meaning.specs.Normal.{Visible, nothing-visible, Normal, slot-names, formals}
 use Rattle.meaning.specs.Checks.{Outcome, fine, stop, _>>_, Check, unless, checked}
-use Rattle.meaning.specs.Clauses.{formals, wrong-pair, unpaired, bound-to, bind}
+use Rattle.meaning.specs.Clauses.{wrong-pair, unpaired, bound-to, bind}
 use Rattle.names.specs.Word.{name-of}
 use Rattle.forms.specs.declared.Form.{Form}
 use Rattle.forms.specs.declared.Block.{Block}
@@ -21,7 +21,7 @@ use Rattle.forms.specs.declared.Made.the-variants.{Refused}
 use Rattle.forms.specs.declared.Verdict.{Verdict}
 use Rattle.forms.specs.declared.Verdict.the-variants.{Fine, Stop}
 use Rattle.forms.specs.Memory.{part}
-use Rattle.forms.specs.Forms.{names-at, items-at, visible-at, Stands}
+use Rattle.forms.specs.Forms.{slots-at, items-at, visible-at, Stands}
 use Rattle.forms.specs.FormLaws.{kept-all}
 use Rattle.forms.specs.Verdicts.{told}
 use Rattle.translation.specs.declared.Mode.{Mode}
@@ -98,7 +98,7 @@ unfolding binding-mode
 mode-kind p pairs m g e = ap (λ (z : Mode). z .kind) e
 
 pub tape-within : (size t : ℕ) (g actual : Form) (b : Block) → BindRoom size t g actual b → t ≤ size
-tape-within size t g actual b room = omega (arith, block-laid size t g actual b room)
+tape-within size t g actual b room = omega (arith, block-laid size t b (room .own .room))
 
 module _ (text : List ℕ) (t : ℕ) (w : List ℕ) (p pairs : ℕ) (g actual : Form) (b : Block) where
   abbrev rs : List Pair
@@ -107,12 +107,12 @@ module _ (text : List ℕ) (t : ℕ) (w : List ℕ) (p pairs : ℕ) (g actual : 
   abbrev name : Name
   name = name-of text p
 
-  parameters-meant : (n : Normal) → Stands text (part w 0 t) w g n → names-at text w (g .parameters) (g .«parameter_count») ≡ n .visible .parameters
-  unfolding visible-at
-  parameters-meant n s = ap (λ (v : Visible). v .parameters) (s .visible)
-
   abbrev there : Bool
-  there = member name (names-at text w (g .parameters) (g .«parameter_count»))
+  there = member name (slot-names (slots-at text w (g .parameters) (g .«parameter_count»)))
+
+  there-meant : (n : Normal) → Stands text (part w 0 t) w g n → member name (slot-names (n .visible .parameters)) ≡ there
+  unfolding visible-at
+  there-meant n s = ap (λ (v : Visible). member name (slot-names (v .parameters))) (sym (s .visible))
 
   -- 15
   pub no-parameter : (r : Bool) → r ≡ there → r ≡ false → Bound text t w p pairs g actual b (Refused 15 p) w
@@ -121,7 +121,7 @@ module _ (text : List ℕ) (t : ℕ) (w : List ℕ) (p pairs : ℕ) (g actual : 
     kept = kept-all (b .low) (b .high) w;
     made-in = tt;
     made = λ n a s u.
-        let missing : member name (n .visible .parameters) ≡ false = ap (member name) (sym (parameters-meant n s)) ∙ sym known ∙ e in
+        let missing = there-meant n s ∙ sym known ∙ e in
         refused-makes text (part w 0 t) w 15 p (bind name rs n a) (rw missing);
   }
 
@@ -133,8 +133,7 @@ module _ (text : List ℕ) (t : ℕ) (w : List ℕ) (p pairs : ℕ) (g actual : 
     has-parameter : (n a : Normal) → Stands text (part w 0 t) w g n → bind name rs n a ≡ bound-to name rs n a
     unfolding bind pick
     has-parameter n a s =
-        let found : member name (n .visible .parameters) ≡ true = ap (member name) (sym (parameters-meant n s)) ∙ sym known ∙ has in
-        rw found
+        let found = there-meant n s ∙ sym known ∙ has in rw found
 
     module _ (n a : Normal) (s : Stands text (part w 0 t) w g n) (u : Stands text (part w 0 t) w actual a) where
       abbrev formal : List Item

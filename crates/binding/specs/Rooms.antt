@@ -3,7 +3,6 @@ use mathlib.Core.Path.{_≡_}
 use Prim.Native.Nat.{ℕ, _+_, _≤_}
 use Rattle.forms.specs.declared.Form.{Form}
 use Rattle.forms.specs.declared.Block.{Block}
-use Rattle.forms.specs.FormLaws.{Apart}
 use Rattle.forms.specs.Blocks.{Outside, Fits}
 use Rattle.translation.specs.declared.Mode.{Mode}
 use Rattle.uniting.specs.United.{empty-in, with-items}
@@ -25,6 +24,11 @@ pub record Binds (m : Mode) (g : Form) : Type 0 where
 
 -- ---- room
 
+-- a form that fits, outside the block, whose items the mode binds
+pub record OwnRoom (size t : ℕ) (m : Mode) (g : Form) (b : Block) : Type 0 where
+  pub room : MakeRoom size t g b
+  pub mode : Binds m g
+
 -- two forms that fit, outside the block, which has room for both
 pub record BindRoom (size t : ℕ) (g actual : Form) (b : Block) : Type 0 where
   pub own : MakeRoom size t g b
@@ -36,37 +40,12 @@ pub record StepRoom (size t : ℕ) (m : Mode) (g actual : Form) (b : Block) : Ty
   pub room : BindRoom size t g actual b
   pub mode : Binds m g
 
--- the names of both stand in front of the block's other parts, and apart from these
-pub record NamesPlaces (size : ℕ) (g actual : Form) (b : Block) : Type 0 where
-  pub first : b .low ≤ b .parameters
-  pub few : g .«parameter_count» + actual .«parameter_count» ≤ 65536
-  pub room : b .parameters + (g .«parameter_count» + actual .«parameter_count») ≤ b .visible
-  pub hidden : b .visible ≤ b .hidden
-  pub equations : b .hidden ≤ b .equations
-  pub nodes : b .equations ≤ b .nodes
-  pub high : b .nodes ≤ b .high
-  pub within : b .high ≤ size
-  pub own-names : Apart (b .low) (b .high) (g .parameters) (g .parameters + g .«parameter_count»)
-  pub actual-names : Apart (b .low) (b .high) (actual .parameters) (actual .parameters + actual .«parameter_count»)
+-- ---- the form that is made has parameters and visible items, and room for the rest
 
--- ---- the form that is made, step by step
-
--- it has names alone
-pub record Named (g actual : Form) (b : Block) (f : Form) : Type 0 where
-  pub form : f ≡ with-items (empty-in b) (f .«parameter_count») 0 0
-  pub names : f .«parameter_count» ≤ g .«parameter_count» + actual .«parameter_count»
-
--- names and visible items
 pub record Seen (g actual : Form) (b : Block) (f : Form) : Type 0 where
   pub form : f ≡ with-items (empty-in b) (f .«parameter_count») (f .«visible_count») 0
-  pub names : f .«parameter_count» ≤ g .«parameter_count» + actual .«parameter_count»
+  pub parameters : f .«parameter_count» ≤ g .«parameter_count» + actual .«parameter_count»
   pub items : f .«visible_count» ≤ g .«visible_count» + actual .«visible_count»
-
--- ---- room for the next step
-
-pub record NamedRoom (size t : ℕ) (m : Mode) (g actual f : Form) (b : Block) : Type 0 where
-  pub step : StepRoom size t m g actual b
-  pub named : Named g actual b f
 
 pub record SeenRoom (size t : ℕ) (m : Mode) (g actual f : Form) (b : Block) : Type 0 where
   pub step : StepRoom size t m g actual b

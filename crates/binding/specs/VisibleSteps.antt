@@ -1,20 +1,20 @@
--- The visible items of a binding: the room for them, what they are, and where each row went.
+-- What the actual form shows joins what is left: the room for its parameters and its items, what they are, and where each row went.
 use mathlib.Core.Path.{_≡_, refl, sym, ap, ap₂, _∙_, subst, transport}
 use mathlib.Core.Logic.{inl, inr}
-use mathlib.Core.Bool.{Bool, true, false}
-use mathlib.Core.List.{List, map}
+use mathlib.Core.Bool.{true, false}
+use mathlib.Core.List.{List, _++_, map}
 use Prim.Native.Nat.{ℕ, _+_, _*_, _≤_}
 use native.Mathlib.Omega.{arith}
 use lib.ListN.{length}
 use Rattle.meaning.specs.Lists.{pick, keep, union}
 use Rattle.meaning.specs.Origins.{Item, one-item}
-use Rattle.meaning.specs.Normal.{Visible, Normal, move-item}
+use Rattle.meaning.specs.Normal.{Visible, nothing-hidden, Normal, unite-visible, move-item}
 use Rattle.names.specs.Word.{name-of}
 use Rattle.forms.specs.declared.Form.{Form}
 use Rattle.forms.specs.declared.Block.{Block}
 use Rattle.forms.specs.Memory.{part, Kept}
-use Rattle.forms.specs.Forms.{items-at, Stands}
-use Rattle.forms.specs.FormLaws.{Apart, apart-within, kept-wider, kept-then, kept-same, kept-two-same, items-same, tape-same}
+use Rattle.forms.specs.Forms.{items-at, visible-at, Stands}
+use Rattle.forms.specs.FormLaws.{Apart, apart-within, kept-wider, kept-then, kept-same, kept-two-same, tape-same}
 use Rattle.forms.specs.Frames.{stands-kept}
 use Rattle.translation.specs.declared.Mode.{Mode}
 use Rattle.translation.specs.Translation.{pairs-at, sort-name, function-name, moved, moved-in}
@@ -23,16 +23,18 @@ use Rattle.absorb.specs.Absorb.{Absorbed, taken}
 use Rattle.absorb.specs.Turns.{Room}
 use Rattle.joining.specs.Found.{Noted}
 use Rattle.joining.specs.Pointed.{noted-stays}
-use Rattle.uniting.specs.United.{with-items, VisibleUnited, sorts, functions}
-use Rattle.uniting.specs.InBlock.{inside-as, outside-notes, outside-rows}
+use Rattle.uniting.specs.Rooms.{SlotsRoom}
+use Rattle.uniting.specs.United.{empty-in, with-items, other-slots, SlotsUnited, VisibleUnited, sorts, functions}
+use Rattle.uniting.specs.InBlock.{inside-as, outside-notes, outside-slots, outside-rows}
 use Rattle.uniting.specs.Noting.{all-noted}
 use Rattle.uniting.specs.Hiding.{keep-all, absorbed-all}
-use Rattle.uniting.specs.Showing.{visible-stands}
+use Rattle.uniting.specs.Showing.{slots-stand, visible-stands}
 use Rattle.uniting.specs.Whole.{kept-both, sorts-stay, functions-stay}
 use Rattle.clauses.specs.Notes.{NoteRoom, FormalsNoted}
-use Rattle.binding.specs.Rooms.{as-is, StepRoom, Named, NamedRoom}
-use Rattle.binding.specs.Binding.{PairsRight, replaced, RowsBound, VisibleBound}
-use Rattle.binding.specs.Places.{Laid, Counts, block-laid, counts, mode-apart, InsideBlock, named-inside}
+use Rattle.binding.specs.Rooms.{as-is, OwnRoom, StepRoom, Seen}
+use Rattle.binding.specs.Binding.{PairsRight, named-in, left-of, OwnBound, RowsBound, FrontBound}
+use Rattle.binding.specs.Places.{Laid, Counts, block-laid, counts, mode-apart, own-step, InsideBlock}
+use Rattle.binding.specs.OwnSteps.{first-kept, rows-kept, own-kept, own-form, own-few, own-slots, own-inside, own-stands}
 use Rattle.binding.specs.ActualNotes.{StaysNoted, bound-noted}
 
 -- ---- modes that leave all as it is
@@ -55,15 +57,25 @@ module _ (text tape tape′ w w′ : List ℕ) (o : Mode) (e : o ≡ as-is) wher
 
 -- ---- step by step
 
-module _ (text : List ℕ) (t : ℕ) (w : List ℕ) (m : Mode) (g actual f : Form) (b : Block) (given : NamedRoom (length w) t m g actual f b) where
-  abbrev room : StepRoom (length w) t m g actual b
-  room = given .step
+pub rows-bound : (text : List ℕ) (t : ℕ) (w : List ℕ) (m : Mode) (g actual : Form) (b : Block) (own : Form) (w₂ : List ℕ) (named : Form) (w₃ : List ℕ)
+    (o : Mode) (all : Form) (w₄ : List ℕ) → OwnBound text t w m g b own w₂ → SlotsUnited text t w₂ actual own named w₃ → o ≡ as-is
+    → VisibleUnited text t w₃ o false actual named (b .«visible_notes» + 1024) all w₄ → RowsBound text t w m g actual b all w₄
+rows-bound text t w m g actual b own w₂ named w₃ o all w₄ x y plain z = record {
+  own = own;
+  left = w₂;
+  first = x;
+  named = named;
+  between = w₃;
+  parameters = y;
+  rows = subst (λ (q : Mode). VisibleUnited text t w₃ q false actual named (b .«visible_notes» + 1024) all w₄) plain z;
+}
 
-  abbrev named : Named g actual b f
-  named = given .named
+module _ (text : List ℕ) (t : ℕ) (w : List ℕ) (m : Mode) (g actual : Form) (b : Block) (room : StepRoom (length w) t m g actual b) where
+  abbrev mine : OwnRoom (length w) t m g b
+  mine = own-step (length w) t m g actual b room
 
   abbrev laid : Laid (length w) t b
-  laid = block-laid (length w) t g actual b (room .room)
+  laid = block-laid (length w) t b (room .room .own .room)
 
   abbrev fit : Counts g actual
   fit = counts (length w) t g actual b (room .room)
@@ -78,277 +90,325 @@ module _ (text : List ℕ) (t : ℕ) (w : List ℕ) (m : Mode) (g actual f : For
   notes = b .«visible_notes»
 
   table-apart : Apart low high (m .visible) (m .visible + m .count * 16)
-  table-apart = mode-apart (length w) t g actual b (room .room) m (room .mode)
+  table-apart = mode-apart (length w) t m g b mine
 
-  first-inside : InsideBlock b f
-  first-inside = named-inside g actual b fit f named
+  module _ (own : Form) (w₂ : List ℕ) (x : OwnBound text t w m g b own w₂) where
+    own-there : InsideBlock b own
+    own-there = own-inside text t w m g b mine own w₂ x
 
-  no-items : f .«visible_count» ≡ 0
-  unfolding with-items
-  no-items = ap (λ (z : Form). z .«visible_count») (named .form)
+    own-stays : Kept low high w w₂
+    own-stays = own-kept text t w m g b mine own w₂ x
 
-  pub own-room : Room (length w) t m (g .visible) (g .«visible_count») (f .visible) (f .«visible_count») notes
-  own-room =
-      let y = first-inside .lies in
-      let z = no-items in
-      record {
-        tape-table = omega (arith, y, fit, laid);
-        tape-note = omega (arith, fit, laid);
-        table = omega (arith, y, z, fit, laid);
-        note = omega (arith, fit, laid);
-        few = omega (arith, z, fit, laid);
-        table-note = inr (omega (arith, y, z, fit, laid));
-        table-source = apart-within low high _ _ _ _ (omega (arith, y, fit, laid)) (omega (arith, y, z, fit, laid)) (room .room .own .outside .visible);
-        note-source = apart-within low high _ _ _ _ (omega (arith, fit, laid)) (omega (arith, fit, laid)) (room .room .own .outside .visible);
-        table-mode = apart-within low high _ _ _ _ (omega (arith, y, fit, laid)) (omega (arith, y, z, fit, laid)) table-apart;
-        note-mode = apart-within low high _ _ _ _ (omega (arith, fit, laid)) (omega (arith, fit, laid)) table-apart;
-      }
+    few-slots : own .«parameter_count» ≤ g .«parameter_count»
+    few-slots = own-slots text t w m g b mine own w₂ x
 
-  module _ (drop : Bool) (own : Form) (w₁ : List ℕ) (x : VisibleUnited text t w m drop g f notes own w₁) where
-    first-few : own .«visible_count» ≤ g .«visible_count»
-    first-few = omega (arith, x .absorbed .few, no-items)
+    few-items : own .«visible_count» ≤ g .«visible_count»
+    few-items = own-few text t w m g b mine own w₂ x
 
-    then-inside : InsideBlock b own
-    then-inside =
-        let y = first-inside in
-        subst (InsideBlock b) (sym (x .form))
-        (inside-as (length w) t b 16 1024 1024 2048 laid f y _ _ _ (y .parameters) (omega (arith, first-few, fit)) (y .hidden))
+    pub slots-room : SlotsRoom (length w₂) t actual own
+    slots-room =
+        let y = own-there .lies in
+        let n = few-slots in
+        let start : low ≤ own .parameters + own .«parameter_count» * 2 = omega (arith, y, laid) in
+        let end : own .parameters + (own .«parameter_count» + actual .«parameter_count») * 2 ≤ high = omega (arith, y, n, fit, laid) in
+        record {
+          tape = omega (arith, y, laid);
+          few = omega (arith, n, fit);
+          room = omega (arith, end, laid, own-stays .size);
+          own-rows = inr (omega (arith, y, n, fit, laid));
+          source = apart-within low high _ _ _ _ start end (room .room .outside .parameters);
+          source-rows = apart-within low high _ _ _ _ start end (room .room .outside .visible);
+        }
 
-    first-kept : Kept low high w w₁
-    first-kept =
-        let y = first-inside .lies in
-        let z = no-items in
-        kept-both low high _ _ _ _ w w₁ (omega (arith, y, laid)) (omega (arith, y, z, fit, laid)) (omega (arith, laid)) (omega (arith, fit, laid))
-        (x .absorbed .kept)
+    module _ (named : Form) (w₃ : List ℕ) (y : SlotsUnited text t w₂ actual own named w₃) where
+      named-few : named .«visible_count» ≡ own .«visible_count»
+      unfolding with-items
+      named-few = ap (λ (z : Form). z .«visible_count») (y .form)
 
-    module _ (o : Mode) (plain : o ≡ as-is) where
-      pub actual-room : Room (length w₁) t o (actual .visible) (actual .«visible_count») (own .visible) (own .«visible_count») (notes + 1024)
-      actual-room =
-          let y = then-inside .lies in
-          let n = first-few in
-          let s = first-kept .size in
-          record {
-            tape-table = omega (arith, y, fit, laid);
-            tape-note = omega (arith, fit, laid);
-            table = omega (arith, y, n, fit, laid, s);
-            note = omega (arith, fit, laid, s);
-            few = omega (arith, n, fit, laid);
-            table-note = inr (omega (arith, y, n, fit, laid));
-            table-source = apart-within low high _ _ _ _ (omega (arith, y, fit, laid)) (omega (arith, y, n, fit, laid)) (room .room .outside .visible);
-            note-source = apart-within low high _ _ _ _ (omega (arith, fit, laid)) (omega (arith, fit, laid)) (room .room .outside .visible);
-            table-mode = as-is-apart _ _ o plain;
-            note-mode = as-is-apart _ _ o plain;
-          }
+      named-slots : named .«parameter_count» ≤ g .«parameter_count» + actual .«parameter_count»
+      named-slots = omega (arith, y .few, few-slots)
 
-  pub rows-bound : (own : Form) (w₁ : List ℕ) (o : Mode) (all : Form) (w₂ : List ℕ) → VisibleUnited text t w m true g f notes own w₁ → o ≡ as-is
-      → VisibleUnited text t w₁ o false actual own (notes + 1024) all w₂ → RowsBound text t w m g actual f b all w₂
-  rows-bound own w₁ o all w₂ x plain y =
-      record { own = own; between = w₁; first = x; then = subst (λ (q : Mode). VisibleUnited text t w₁ q false actual own (notes + 1024) all w₂) plain y }
+      named-inside : InsideBlock b named
+      named-inside =
+          let i = own-there in
+          subst (InsideBlock b) (sym (y .form))
+          (inside-as (length w) t b 16 1024 1024 2048 laid own i _ _ _ (omega (arith, named-slots, fit)) (i .visible) (i .hidden))
 
-  -- ---- both
+      slots-kept : Kept low high w₂ w₃
+      slots-kept =
+          let e = own-there .lies in
+          let n = few-slots in
+          kept-wider _ _ low high w₂ w₃ (omega (arith, e, laid)) (omega (arith, e, n, fit, laid)) (y .kept)
 
-  module _ (all : Form) (w₂ : List ℕ) (both : RowsBound text t w m g actual f b all w₂) where
+      named-kept : Kept low high w w₃
+      named-kept = kept-then low high w w₂ w₃ own-stays slots-kept
+
+      module _ (o : Mode) (plain : o ≡ as-is) where
+        pub actual-room : Room (length w₃) t o (actual .visible) (actual .«visible_count») (named .visible) (named .«visible_count») (notes + 1024)
+        actual-room =
+            let e = named-inside .lies in
+            let c = named-few in
+            let n = few-items in
+            let s = named-kept .size in
+            record {
+              tape-table = omega (arith, e, fit, laid);
+              tape-note = omega (arith, fit, laid);
+              table = omega (arith, e, c, n, fit, laid, s);
+              note = omega (arith, fit, laid, s);
+              few = omega (arith, c, n, fit, laid);
+              table-note = inr (omega (arith, e, c, n, fit, laid));
+              table-source = apart-within low high _ _ _ _ (omega (arith, e, fit, laid)) (omega (arith, e, c, n, fit, laid)) (room .room .outside .visible);
+              note-source = apart-within low high _ _ _ _ (omega (arith, fit, laid)) (omega (arith, fit, laid)) (room .room .outside .visible);
+              table-mode = as-is-apart _ _ o plain;
+              note-mode = as-is-apart _ _ o plain;
+            }
+
+  -- ---- all of it
+
+  module _ (all : Form) (w₄ : List ℕ) (both : RowsBound text t w m g actual b all w₄) where
     abbrev own : Form
     own = both .own
 
+    abbrev named : Form
+    named = both .named
+
     abbrev w₁ : List ℕ
-    w₁ = both .between
+    w₁ = both .first .between
 
-    abbrev x : VisibleUnited text t w m true g f notes own w₁
-    x = both .first
+    abbrev w₂ : List ℕ
+    w₂ = both .left
 
-    abbrev y : VisibleUnited text t w₁ as-is false actual own (notes + 1024) all w₂
-    y = both .then
+    abbrev w₃ : List ℕ
+    w₃ = both .between
 
-    own-few : own .«visible_count» ≤ g .«visible_count»
-    own-few = first-few true own w₁ x
+    abbrev x : VisibleUnited text t w₁ m true g (named-in b (both .first .count)) notes own w₂
+    x = both .first .rows
 
-    own-inside : InsideBlock b own
-    own-inside = then-inside true own w₁ x
+    abbrev y : VisibleUnited text t w₃ as-is false actual named (notes + 1024) all w₄
+    y = both .rows
 
-    own-kept : Kept low high w w₁
-    own-kept = first-kept true own w₁ x
+    there : InsideBlock b named
+    there = named-inside own w₂ (both .first) named w₃ (both .parameters)
+
+    few-own : own .«visible_count» ≤ g .«visible_count»
+    few-own = few-items own w₂ (both .first)
+
+    same-count : named .«visible_count» ≡ own .«visible_count»
+    same-count = named-few own w₂ (both .first) named w₃ (both .parameters)
+
+    three-kept : Kept low high w w₃
+    three-kept = named-kept own w₂ (both .first) named w₃ (both .parameters)
 
     all-few : all .«visible_count» ≤ g .«visible_count» + actual .«visible_count»
-    all-few = omega (arith, y .absorbed .few, own-few)
+    all-few = omega (arith, y .absorbed .few, same-count, few-own)
 
     all-inside : InsideBlock b all
     all-inside =
-        let e = own-inside in
+        let e = there in
         subst (InsideBlock b) (sym (y .form))
-        (inside-as (length w) t b 16 1024 1024 2048 laid own e _ _ _ (e .parameters) (omega (arith, all-few, fit)) (e .hidden))
+        (inside-as (length w) t b 16 1024 1024 2048 laid named e _ _ _ (e .parameters) (omega (arith, all-few, fit)) (e .hidden))
 
-    all-kept : Kept low high w₁ w₂
-    all-kept =
-        let e = own-inside .lies in
-        let n = own-few in
-        kept-both low high _ _ _ _ w₁ w₂ (omega (arith, e, laid)) (omega (arith, e, n, fit, laid)) (omega (arith, laid)) (omega (arith, fit, laid))
+    last-kept : Kept low high w₃ w₄
+    last-kept =
+        let e = there .lies in
+        let c = same-count in
+        let n = few-own in
+        kept-both low high _ _ _ _ w₃ w₄ (omega (arith, e, laid)) (omega (arith, e, c, n, fit, laid)) (omega (arith, laid)) (omega (arith, fit, laid))
         (y .absorbed .kept)
 
-    pub note-room : NoteRoom (length w₂) t m all notes
+    four-kept : Kept low high w w₄
+    four-kept = kept-then low high w w₃ w₄ three-kept last-kept
+
+    pub note-room : NoteRoom (length w₄) t m all notes
     note-room =
         let c = room .mode .count in
         let e = all-inside .lies in
         record {
           tape = omega (arith, fit, laid);
-          within = omega (arith, c, fit, laid, own-kept .size, all-kept .size);
+          within = omega (arith, c, fit, laid, four-kept .size);
           table = apart-within low high _ _ _ _ (omega (arith, fit, laid)) (omega (arith, c, fit, laid)) table-apart;
           rows = inl (omega (arith, e, all-inside .visible, laid));
         }
 
-    module _ (w₃ : List ℕ) (z : FormalsNoted text (part w₂ 0 t) w₂ w₃ m all notes) where
-      formals-kept : Kept low high w₂ w₃
+    module _ (w₅ : List ℕ) (z : FormalsNoted text (part w₄ 0 t) w₄ w₅ m all notes) where
+      formals-kept : Kept low high w₄ w₅
       formals-kept =
-          let c = room .mode .count in kept-wider _ _ low high w₂ w₃ (omega (arith, fit, laid)) (omega (arith, c, fit, laid)) (z .kept)
+          let c = room .mode .count in kept-wider _ _ low high w₄ w₅ (omega (arith, fit, laid)) (omega (arith, c, fit, laid)) (z .kept)
 
-      two-kept : Kept low high w w₂
-      two-kept = kept-then low high w w₁ w₂ own-kept all-kept
+      all-kept : Kept low high w w₅
+      all-kept = kept-then low high w w₄ w₅ four-kept formals-kept
 
-      three-kept : Kept low high w w₃
-      three-kept = kept-then low high w w₂ w₃ two-kept formals-kept
+      one-kept : Kept low high w w₁
+      one-kept = first-kept text t w m g b mine own w₂ (both .first)
 
-      tape₁ : part w₁ 0 t ≡ part w 0 t
-      tape₁ = tape-same w w₁ t (own-kept .size) (λ i h l. own-kept .below i (omega (arith, laid .tape)))
+      -- from where the rows of g were taken up
+      rows-all : Kept low high w₁ w₄
+      rows-all =
+          kept-then low high w₁ w₃ w₄
+          (kept-then low high w₁ w₂ w₃ (rows-kept text t w m g b mine own w₂ (both .first)) (slots-kept own w₂ (both .first) named w₃ (both .parameters)))
+          last-kept
 
-      tape₂ : part w₂ 0 t ≡ part w 0 t
-      tape₂ = tape-same w w₂ t (two-kept .size) (λ i h l. two-kept .below i (omega (arith, laid .tape)))
+      rows-last : Kept low high w₁ w₅
+      rows-last = kept-then low high w₁ w₄ w₅ rows-all formals-kept
 
-      tape₃ : part w₃ 0 t ≡ part w 0 t
-      tape₃ = tape-same w w₃ t (three-kept .size) (λ i h l. three-kept .below i (omega (arith, laid .tape)))
+      tape-at : (v v′ : List ℕ) → Kept low high v v′ → part v′ 0 t ≡ part v 0 t
+      tape-at v v′ k = tape-same v v′ t (k .size) (λ i h l. k .below i (omega (arith, laid .tape)))
 
       -- ---- what the form stands for
 
-      others-then : (others : List Item) → items-at text (part w 0 t) w (actual .visible) (actual .«visible_count») ≡ others
-          → items-at text (part w₁ 0 t) w₁ (actual .visible) (actual .«visible_count») ≡ others
-      others-then others e =
-          ap (λ (tape : List ℕ). items-at text tape w₁ (actual .visible) (actual .«visible_count»)) tape₁
-          ∙ items-same w w₁ text (part w 0 t) (actual .visible) (actual .«visible_count»)
-          (kept-same low high _ _ w w₁ (room .room .outside .visible) own-kept) ∙ e
+      -- the actual form stays
+      seen-then : (w′ : List ℕ) → Kept low high w w′ → (a : Normal) → Stands text (part w 0 t) w actual a → visible-at text (part w′ 0 t) w′ actual ≡ a .visible
+      seen-then w′ k a u = stands-kept text t w w′ low high actual a (laid .tape) k (room .room .outside) u .visible
 
-      as-they-are : (others : List Item) → map (moved-in text (part w₁ 0 t) w₁ as-is true) others ≡ others
+      others-then : (w′ : List ℕ) → Kept low high w w′ → (a : Normal) → Stands text (part w 0 t) w actual a
+          → items-at text (part w′ 0 t) w′ (actual .visible) (actual .«visible_count») ≡ a .visible .items
+      unfolding visible-at
+      others-then w′ k a u = ap (λ (v : Visible). v .items) (seen-then w′ k a u)
+
+      as-they-are : (others : List Item) → map (moved-in text (part w₃ 0 t) w₃ as-is true) others ≡ others
       as-they-are others =
-          map-kept (moved-in text (part w₁ 0 t) w₁ as-is true) others (moved-same text (part w₁ 0 t) w₁ as-is (as-is-kind as-is refl) true)
+          map-kept (moved-in text (part w₃ 0 t) w₃ as-is true) others (moved-same text (part w₃ 0 t) w₃ as-is (as-is-kind as-is refl) true)
 
       others-as-is : (others : List Item)
-          → map (move-item (sorts text t w₁ as-is) (functions text t w₁ as-is)) (keep (taken text false (as-is .parameter)) others) ≡ others
+          → map (move-item (sorts text t w₃ as-is) (functions text t w₃ as-is)) (keep (taken text false (as-is .parameter)) others) ≡ others
       unfolding moved-in moved pick
       others-as-is others =
-          ap (map (move-item (sorts text t w₁ as-is) (functions text t w₁ as-is))) (keep-all text (as-is .parameter) others) ∙ as-they-are others
+          ap (map (move-item (sorts text t w₃ as-is) (functions text t w₃ as-is))) (keep-all text (as-is .parameter) others) ∙ as-they-are others
 
-      all-stands : (to : Normal) (mine others : List Item) → Stands text (part w 0 t) w f to
-          → items-at text (part w 0 t) w (g .visible) (g .«visible_count») ≡ mine
-          → items-at text (part w 0 t) w (actual .visible) (actual .«visible_count») ≡ others
-          → Stands text (part w₃ 0 t) w₃ all (record {
+      all-stands : (n a : Normal) → Stands text (part w 0 t) w g n → Stands text (part w 0 t) w actual a
+          → Stands text (part w₅ 0 t) w₅ all (record { visible = unite-visible (left-of text t w m (n .visible)) (a .visible); hidden = nothing-hidden })
+      unfolding unite-visible other-slots
+      all-stands n a s u =
+          let e₂ = own-there own w₂ (both .first) in
+          let e₃ = there in
+          let n₂ = few-slots own w₂ (both .first) in
+          let n₃ = few-own in
+          let c = same-count in
+          let lies₂ = e₂ .lies in
+          let lies₃ = e₃ .lies in
+          let s₂ = subst (λ (v : Visible). Stands text (part w₂ 0 t) w₂ own (record { visible = left-of text t w m v; hidden = nothing-hidden })) (s .visible)
+          (own-stands text t w m g b mine own w₂ (both .first)) in
+          let s₃ = slots-stand text t w₂ w₃ actual own named (a .visible) _ (both .parameters) (omega (arith, lies₂, laid))
+          (outside-slots (length w) t b 16 1024 1024 2048 laid own e₂ (actual .«parameter_count») (omega (arith, n₂, fit)))
+          (seen-then w₂ (own-stays own w₂ (both .first)) a u) s₂ in
+          let s₄ = visible-stands text t w₃ w₄ as-is false actual named (notes + 1024) all y (omega (arith, lies₃, fit, laid)) (omega (arith, fit, laid)) _
+          (a .visible .items)
+          (outside-rows (length w) t b 16 1024 1024 2048 laid named e₃ (actual .«visible_count») (omega (arith, c, n₃, fit)))
+          (outside-notes (length w) t b 16 1024 1024 2048 laid named e₃ _ _ (omega arith)) s₃ (others-then w₃ three-kept a u) in
+          let s₅ = stands-kept text t w₄ w₅ notes (notes + m .count) all _ (omega (arith, fit, laid)) (z .kept)
+          (outside-notes (length w) t b 16 1024 1024 2048 laid all all-inside _ _ (omega arith)) s₄ in
+          subst (λ (is : List Item). Stands text (part w₅ 0 t) w₅ all (record {
             visible = record {
-              parameters = to .visible .parameters;
-              items = union one-item (union one-item (to .visible .items) (replaced text t w m mine)) others;
+              parameters = left-of text t w m (n .visible) .parameters ++ other-slots (left-of text t w m (n .visible)) (a .visible);
+              items = union one-item (left-of text t w m (n .visible) .items) is;
             };
-            hidden = to .hidden;
-          })
-      unfolding replaced taken pick
-      all-stands to mine others s d e =
-          let y₀ = first-inside .lies in
-          let y₁ = own-inside .lies in
-          let n₀ = no-items in
-          let n₁ = own-few in
-          let s₁ = visible-stands text t w w₁ m true g f notes own x (omega (arith, y₀, fit, laid)) (omega (arith, fit, laid)) to mine
-          (outside-rows (length w) t b 16 1024 1024 2048 laid f first-inside (g .«visible_count») (omega (arith, n₀, fit)))
-          (outside-notes (length w) t b 16 1024 1024 2048 laid f first-inside _ _ (omega arith)) s d in
-          let s₂ = visible-stands text t w₁ w₂ as-is false actual own (notes + 1024) all y (omega (arith, y₁, fit, laid)) (omega (arith, fit, laid)) _ others
-          (outside-rows (length w) t b 16 1024 1024 2048 laid own own-inside (actual .«visible_count») (omega (arith, n₁, fit)))
-          (outside-notes (length w) t b 16 1024 1024 2048 laid own own-inside _ _ (omega arith)) s₁ (others-then others e) in
-          let s₃ = stands-kept text t w₂ w₃ notes (notes + m .count) all _ (omega (arith, fit, laid)) (z .kept)
-          (outside-notes (length w) t b 16 1024 1024 2048 laid all all-inside _ _ (omega arith)) s₂ in
-          subst (λ (is : List Item). Stands text (part w₃ 0 t) w₃ all (record {
-            visible = record {
-              parameters = to .visible .parameters;
-              items = union one-item (union one-item (to .visible .items) (replaced text t w m mine)) is;
-            };
-            hidden = to .hidden;
-          })) (others-as-is others) s₃
+            hidden = nothing-hidden;
+          })) (others-as-is (a .visible .items)) s₅
 
       -- ---- where each row went
 
-      base : all .visible ≡ f .visible
-      base = all-inside .lies .visible ∙ sym (first-inside .lies .visible)
+      base : all .visible ≡ named-in b (both .first .count) .visible
+      unfolding named-in with-items empty-in
+      base = all-inside .lies .visible
 
-      own-base : all .visible ≡ own .visible
-      own-base = all-inside .lies .visible ∙ sym (own-inside .lies .visible)
+      named-base : all .visible ≡ named .visible
+      named-base = all-inside .lies .visible ∙ sym (there .lies .visible)
 
-      own-absorbed : Absorbed text (part w 0 t) w m true true (m .visible) (m .count) (all .visible) (f .«visible_count») notes (own .«visible_count») w₁
+      own-absorbed : Absorbed text (part w₁ 0 t) w₁ m true true (m .visible) (m .count) (all .visible) (named-in b (both .first .count) .«visible_count») notes
+          (own .«visible_count») w₂
       own-absorbed =
-          transport (λ i. Absorbed text (part w 0 t) w m true true (sym (room .mode .table) i) (sym (room .mode .count) i) (sym base i) (f .«visible_count»)
-          notes (own .«visible_count») w₁) (x .absorbed)
+          transport (λ i. Absorbed text (part w₁ 0 t) w₁ m true true (sym (room .mode .table) i) (sym (room .mode .count) i) (sym base i)
+          (named-in b (both .first .count) .«visible_count») notes (own .«visible_count») w₂) (x .absorbed)
 
       -- the actual items were joined to what was there
-      actual-joined : (others : List Item) → items-at text (part w 0 t) w (actual .visible) (actual .«visible_count») ≡ others
-          → items-at text (part w 0 t) w₂ (all .visible) (all .«visible_count»)
-          ≡ union one-item (items-at text (part w₁ 0 t) w₁ (own .visible) (own .«visible_count»)) others
-      actual-joined others e =
-          ap₂ (λ (tape : List ℕ) (i : ℕ). items-at text tape w₂ i (all .«visible_count»)) (sym tape₁) own-base
-          ∙ absorbed-all text (part w₁ 0 t) w₁ as-is true (actual .visible) (actual .«visible_count») (own .visible) (own .«visible_count») (notes + 1024)
-          (all .«visible_count») w₂ _ others (y .absorbed) refl (others-then others e)
-          ∙ ap (union one-item _) (as-they-are others)
+      actual-joined : (a : Normal) → Stands text (part w 0 t) w actual a
+          → items-at text (part w₁ 0 t) w₄ (all .visible) (all .«visible_count»)
+          ≡ union one-item (items-at text (part w₃ 0 t) w₃ (named .visible) (named .«visible_count»)) (a .visible .items)
+      actual-joined a u =
+          ap₂ (λ (tape : List ℕ) (i : ℕ). items-at text tape w₄ i (all .«visible_count»)) (tape-at w w₁ one-kept ∙ sym (tape-at w w₃ three-kept)) named-base
+          ∙ absorbed-all text (part w₃ 0 t) w₃ as-is true (actual .visible) (actual .«visible_count») (named .visible) (named .«visible_count») (notes + 1024)
+          (all .«visible_count») w₄ _ (a .visible .items) (y .absorbed) refl (others-then w₃ three-kept a u)
+          ∙ ap (union one-item _) (as-they-are (a .visible .items))
 
-      stays : StaysNoted w w₁ w₂ w₃ m notes (own .«visible_count») all
+      stays : StaysNoted w₁ w₂ w₄ w₅ m notes (own .«visible_count») all
       stays =
           let c = room .mode .count in
-          let e = own-inside .lies in
-          let n = own-few in
+          let e = own-there own w₂ (both .first) .lies in
+          let d = there .lies in
+          let n = few-own in
+          let k = few-slots own w₂ (both .first) in
+          let q = same-count in
           let a = all-inside .lies in
           let grows = y .absorbed .grows in
-          let rows-stay = kept-two-same _ _ _ _ (all .visible) (all .visible + own .«visible_count» * 16) w₁ w₂
-          (inl (omega (arith, e, a))) (inl (omega (arith, a, n, fit, laid))) (y .absorbed .kept) in
-          let rows-left = kept-same _ _ (all .visible) (all .visible + all .«visible_count» * 16) w₂ w₃ (inl (omega (arith, a, fit, laid))) (z .kept) in
+          let slots-first = kept-same _ _ (all .visible) (all .visible + own .«visible_count» * 16) w₂ w₃
+          (inr (omega (arith, e, a, k, fit, laid))) (both .parameters .kept) in
+          let rows-stay = kept-two-same _ _ _ _ (all .visible) (all .visible + own .«visible_count» * 16) w₃ w₄
+          (inl (omega (arith, d, a, q))) (inl (omega (arith, a, n, fit, laid))) (y .absorbed .kept) in
+          let rows-left = kept-same _ _ (all .visible) (all .visible + all .«visible_count» * 16) w₄ w₅ (inl (omega (arith, a, fit, laid))) (z .kept) in
+          let notes-first = kept-same _ _ notes (notes + m .count) w₂ w₃ (inr (omega (arith, e, k, fit, laid))) (both .parameters .kept) in
+          let notes-then = kept-two-same _ _ _ _ notes (notes + m .count) w₃ w₄ (inr (omega (arith, d, q, n, fit, laid))) (inl (omega (arith, c, fit, laid)))
+          (y .absorbed .kept) in
           record {
-            table = kept-same low high _ _ w w₂ table-apart two-kept;
-            table-last = kept-same low high _ _ w w₃ table-apart three-kept;
-            notes-stay =
-                kept-two-same _ _ _ _ notes (notes + m .count) w₁ w₂ (inr (omega (arith, e, n, fit, laid))) (inl (omega (arith, c, fit, laid)))
-                (y .absorbed .kept);
-            rows = λ i h l. rows-left i h (omega (arith, l, grows)) ∙ rows-stay i h l;
+            table = kept-same low high _ _ w₁ w₄ table-apart rows-all;
+            table-last = kept-same low high _ _ w₁ w₅ table-apart rows-last;
+            notes-stay = λ i h l. notes-then i h l ∙ notes-first i h l;
+            rows = λ i h l. rows-left i h (omega (arith, l, grows, q)) ∙ rows-stay i h l ∙ slots-first i h l;
             rows-last = rows-left;
           }
 
-      own-noted : (whole others : Visible) → items-at text (part w 0 t) w (g .visible) (g .«visible_count») ≡ whole .items
-          → items-at text (part w 0 t) w (actual .visible) (actual .«visible_count») ≡ others .items
-          → PairsRight (name-of text (m .parameter)) (pairs-at text (part w 0 t) (m .pairs)) whole others
-          → Noted (sorts text t w₃ m) (functions text t w₃ m) text (part w₃ 0 t) w₃ true notes (g .visible) (g .«visible_count»)
+      own-noted : (n a : Normal) → Stands text (part w 0 t) w g n → Stands text (part w 0 t) w actual a
+          → PairsRight (name-of text (m .parameter)) (pairs-at text (part w 0 t) (m .pairs)) (n .visible) (a .visible)
+          → Noted (sorts text t w₅ m) (functions text t w₅ m) text (part w₅ 0 t) w₅ true notes (g .visible) (g .«visible_count»)
           (all .visible) (all .«visible_count»)
-      own-noted whole others d e pairs =
+      unfolding visible-at
+      own-noted n a s u pairs =
           let few : all .«visible_count» ≤ 65536 = omega (arith, all-few, fit) in
-          let table = ap₂ (items-at text (part w 0 t) w) (room .mode .table) (room .mode .count) ∙ d in
-          let right = bound-noted text (part w 0 t) w w₁ w₂ w₃ m (f .«visible_count») notes (own .«visible_count») all own-absorbed (y .absorbed .grows)
-          (subst (λ (tape : List ℕ). FormalsNoted text tape w₂ w₃ m all notes) tape₂ z) stays whole others table (room .mode .kind) _
-          (actual-joined (others .items) e) (pairs .right) (pairs .paired) few in
-          let same-sorts = sorts-stay text t w w₃ m low high (laid .tape) three-kept table-apart in
-          let same-functions = functions-stay text t w w₃ m low high (laid .tape) three-kept table-apart in
-          transport (λ i. Noted (sym same-sorts i) (sym same-functions i) text (sym tape₃ i) w₃ true notes (room .mode .table i) (room .mode .count i)
-          (all .visible) (all .«visible_count»)) right
+          let mine-then = stands-kept text t w w₁ low high g n (laid .tape) one-kept (room .room .own .outside) s .visible in
+          let table = ap₂ (items-at text (part w₁ 0 t) w₁) (room .mode .table) (room .mode .count) ∙ ap (λ (v : Visible). v .items) mine-then in
+          let pass = subst (λ (tape : List ℕ). PairsRight (name-of text (m .parameter)) (pairs-at text tape (m .pairs)) (n .visible) (a .visible))
+          (sym (tape-at w w₁ one-kept)) pairs in
+          let right = bound-noted text (part w₁ 0 t) w₁ w₂ w₄ w₅ m (named-in b (both .first .count) .«visible_count») notes (own .«visible_count») all
+          own-absorbed (subst (λ (c : ℕ). c ≤ all .«visible_count») same-count (y .absorbed .grows))
+          (subst (λ (tape : List ℕ). FormalsNoted text tape w₄ w₅ m all notes) (tape-at w₁ w₄ rows-all) z) stays (n .visible) (a .visible) table
+          (room .mode .kind) _ (actual-joined a u) (pass .right) (pass .paired) few in
+          let same-sorts = sorts-stay text t w₁ w₅ m low high (laid .tape) rows-last table-apart in
+          let same-functions = functions-stay text t w₁ w₅ m low high (laid .tape) rows-last table-apart in
+          transport (λ i. Noted (sym same-sorts i) (sym same-functions i) text (sym (tape-at w₁ w₅ rows-last) i) w₅ true notes (room .mode .table i)
+          (room .mode .count i) (all .visible) (all .«visible_count»)) right
 
-      actual-noted : Noted (sorts text t w₃ as-is) (functions text t w₃ as-is) text (part w₃ 0 t) w₃ true (notes + 1024) (actual .visible)
+      actual-noted : Noted (sorts text t w₅ as-is) (functions text t w₅ as-is) text (part w₅ 0 t) w₅ true (notes + 1024) (actual .visible)
           (actual .«visible_count») (all .visible) (all .«visible_count»)
       actual-noted =
           let c = room .mode .count in
           let few : all .«visible_count» ≤ 65536 = omega (arith, all-few, fit) in
-          let at = sorts-as-is text (part w₁ 0 t) (part w₃ 0 t) w₁ w₃ as-is refl in
-          let by = functions-as-is text (part w₁ 0 t) (part w₃ 0 t) w₁ w₃ as-is refl in
-          let right = all-noted text (part w₁ 0 t) w₁ as-is true (actual .visible) (actual .«visible_count») (own .visible) (own .«visible_count»)
-          (notes + 1024) (all .«visible_count») w₂ (y .absorbed) few (kept-same low high _ _ w₁ w₂ (room .room .outside .visible) all-kept) in
-          let last = noted-stays _ _ text (part w₁ 0 t) w₂ w₃ true (notes + 1024) (actual .visible) (actual .«visible_count»)
-          (own .visible) (all .«visible_count»)
-          (kept-same _ _ _ _ w₂ w₃ (inr (omega (arith, c, fit, laid))) (z .kept))
-          (kept-same low high _ _ w₂ w₃ (room .room .outside .visible) formals-kept)
-          (kept-same _ _ _ _ w₂ w₃ (inl (omega (arith, own-inside .lies, own-inside, all-inside .lies, all-inside, fit, laid))) (z .kept)) right in
-          transport (λ i. Noted (at i) (by i) text ((tape₁ ∙ sym tape₃) i) w₃ true (notes + 1024) (actual .visible) (actual .«visible_count»)
-          (sym own-base i) (all .«visible_count»)) last
+          let at = sorts-as-is text (part w₃ 0 t) (part w₅ 0 t) w₃ w₅ as-is refl in
+          let by = functions-as-is text (part w₃ 0 t) (part w₅ 0 t) w₃ w₅ as-is refl in
+          let right = all-noted text (part w₃ 0 t) w₃ as-is true (actual .visible) (actual .«visible_count») (named .visible) (named .«visible_count»)
+          (notes + 1024) (all .«visible_count») w₄ (y .absorbed) few (kept-same low high _ _ w₃ w₄ (room .room .outside .visible) last-kept) in
+          let last = noted-stays _ _ text (part w₃ 0 t) w₄ w₅ true (notes + 1024) (actual .visible) (actual .«visible_count»)
+          (named .visible) (all .«visible_count»)
+          (kept-same _ _ _ _ w₄ w₅ (inr (omega (arith, c, fit, laid))) (z .kept))
+          (kept-same low high _ _ w₄ w₅ (room .room .outside .visible) formals-kept)
+          (kept-same _ _ _ _ w₄ w₅ (inl (omega (arith, there .lies, there, all-inside .lies, all-inside, fit, laid))) (z .kept)) right in
+          transport (λ i. Noted (at i) (by i) text ((tape-at w w₃ three-kept ∙ sym (tape-at w w₅ all-kept)) i) w₅ true (notes + 1024) (actual .visible)
+          (actual .«visible_count») (sym named-base i) (all .«visible_count»)) last
 
-      pub visible-bound : VisibleBound text t w m g actual f b all w₃
+      seen-now : Seen g actual b all
       unfolding with-items
-      visible-bound = record {
-        form = y .form ∙ ap (λ (u : Form). with-items u (u .«parameter_count») (all .«visible_count») (u .«hidden_count»)) (x .form);
-        items = all-few;
-        kept = three-kept;
+      seen-now =
+          let count : all .«parameter_count» ≡ named .«parameter_count» = ap (λ (u : Form). u .«parameter_count») (y .form) in
+          let more : Form → Form = λ u. with-items u (named .«parameter_count») (all .«visible_count») (u .«hidden_count») in
+          record {
+            form = y .form ∙ ap more (both .parameters .form) ∙ ap more (own-form text t w m g b mine own w₂ (both .first))
+                ∙ ap (λ (c : ℕ). with-items (empty-in b) c (all .«visible_count») 0) (sym count);
+            parameters = omega (arith, count, named-slots own w₂ (both .first) named w₃ (both .parameters));
+            items = all-few;
+          }
+
+      pub front-bound : FrontBound text t w m g actual b all w₅
+      front-bound = record {
+        seen = seen-now;
+        kept = all-kept;
         stands = all-stands;
         own-noted = own-noted;
         actual-noted = actual-noted;

@@ -20,8 +20,8 @@ ghost use Rattle.names.specs.Joint.{joint};
 ghost use Rattle.forms.specs.Memory.{part};
 ghost use Rattle.forms.specs.Verdicts.{told};
 ghost use Rattle.making.specs.Steps.{Bound};
-ghost use Rattle.binding.specs.Rooms.{as-is, binding-mode, NamesPlaces, BindRoom, StepRoom, NamedRoom, SeenRoom};
-ghost use Rattle.binding.specs.Binding.{named-in, pairs-checked, NamesBound, RowsBound, VisibleBound, FrontBound, HiddenBound, BoundForm};
+ghost use Rattle.binding.specs.Rooms.{as-is, binding-mode, OwnRoom, BindRoom, StepRoom, SeenRoom};
+ghost use Rattle.binding.specs.Binding.{named-in, pairs-checked, OwnBound, RowsBound, FrontBound, HiddenBound, BoundForm};
 
 // The mode that leaves rows as they are.
 fn as_is() -> Mode
@@ -67,27 +67,30 @@ fn named_form(b: Block, names: u32) -> Form
     }
 }
 
-// The parameters' names: those of g but the bound one, and then the actual form's.
-fn bound_names(
+// What is left of g's parameters, and of its visible items: those that are not formal, moved. The notes of g's rows stand from
+// b.visible_notes on.
+fn bound_own(
     library: &[u8],
     text: &[u8],
     work: &mut [u32],
-    p: u32,
+    t: usize,
+    m: Mode,
     g: Form,
-    actual: Form,
     b: Block,
 ) -> Form
-    requires { ⌜ NamesPlaces (length (now work)) g actual b ⌝ }
-    ensures { λ r. ⌜ NamesBound (joint (now (library .entry)) (now (text .entry))) (now (work .entry)) p g actual b r (now (work .exit)) ⌝ }
+    requires { ⌜ OwnRoom (length (now work)) t m g b ⌝ }
+    ensures { λ r. ⌜ OwnBound (joint (now (library .entry)) (now (text .entry))) t (now (work .entry)) m g b r (now (work .exit)) ⌝ }
 {
+    let p = m.parameter;
+    let notes = b.visible_notes;
     let none = named_form(b, 0);
     let n = keep_parameters(library, text, work, g, p, none);
     let f = named_form(b, n);
-    unite_parameters(work, actual, f)
+    unite_visible(library, text, work, t, m, true, g, f, notes)
 }
 
-// The visible items: those of g that are not formal, moved, and then the actual form's. The notes of g's rows stand from b.visible_notes on,
-// those of the actual form's rows 1024 words behind.
+// These, and then the actual form's: its parameters are held against what is left of g, before its visible items join that. Their notes
+// stand 1024 words behind those of g's rows.
 fn bound_rows(
     library: &[u8],
     text: &[u8],
@@ -96,14 +99,14 @@ fn bound_rows(
     m: Mode,
     g: Form,
     actual: Form,
-    f: Form,
     b: Block,
 ) -> Form
-    requires { ⌜ NamedRoom (length (now work)) t m g actual f b ⌝ }
-    ensures { λ r. ⌜ RowsBound (joint (now (library .entry)) (now (text .entry))) t (now (work .entry)) m g actual f b r (now (work .exit)) ⌝ }
+    requires { ⌜ StepRoom (length (now work)) t m g actual b ⌝ }
+    ensures { λ r. ⌜ RowsBound (joint (now (library .entry)) (now (text .entry))) t (now (work .entry)) m g actual b r (now (work .exit)) ⌝ }
 {
     let notes = b.visible_notes;
-    let own = unite_visible(library, text, work, t, m, true, g, f, notes);
+    let own = bound_own(library, text, work, t, m, g, b);
+    let named = unite_parameters(library, text, work, t, actual, own);
     unite_visible(
         library,
         text,
@@ -112,33 +115,12 @@ fn bound_rows(
         as_is(),
         false,
         actual,
-        own,
+        named,
         notes + 1024,
     )
 }
 
 // These, and each formal row's note: where the actual item is.
-fn bound_visible(
-    library: &[u8],
-    text: &[u8],
-    work: &mut [u32],
-    t: usize,
-    m: Mode,
-    g: Form,
-    actual: Form,
-    f: Form,
-    b: Block,
-) -> Form
-    requires { ⌜ NamedRoom (length (now work)) t m g actual f b ⌝ }
-    ensures { λ r. ⌜ VisibleBound (joint (now (library .entry)) (now (text .entry))) t (now (work .entry)) m g actual f b r (now (work .exit)) ⌝ }
-{
-    let notes = b.visible_notes;
-    let all = bound_rows(library, text, work, t, m, g, actual, f, b);
-    note_formals(library, text, work, t, m, all, notes);
-    all
-}
-
-// The names, and the visible items.
 fn bound_front(
     library: &[u8],
     text: &[u8],
@@ -152,9 +134,10 @@ fn bound_front(
     requires { ⌜ StepRoom (length (now work)) t m g actual b ⌝ }
     ensures { λ r. ⌜ FrontBound (joint (now (library .entry)) (now (text .entry))) t (now (work .entry)) m g actual b r (now (work .exit)) ⌝ }
 {
-    let p = m.parameter;
-    let named = bound_names(library, text, work, p, g, actual, b);
-    bound_visible(library, text, work, t, m, g, actual, named, b)
+    let notes = b.visible_notes;
+    let all = bound_rows(library, text, work, t, m, g, actual, b);
+    note_formals(library, text, work, t, m, all, notes);
+    all
 }
 
 // The hidden items and the equations: those of g, moved, and then the actual form's.

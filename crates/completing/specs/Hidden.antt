@@ -35,8 +35,8 @@ pub record SameNoted (w : List ℕ) (o n : ℕ) (w′ : List ℕ) : Type 0 where
   pub words : (i : ℕ) → i < n → getD w′ (o + i) 0 ≡ i
   pub kept : Kept o (o + n) w w′
 
--- f lies in the block, which has room for 1,024 hidden rows and 512 equations; g has its names and its visible rows, its own hidden rows behind them, and its
--- equations and nodes behind the block
+-- f lies in the block, which has room for 1,024 hidden rows and 512 equations; g has its parameters and its visible rows, its own hidden rows
+-- behind them, and its equations and nodes behind the block
 pub record JoinRoom (size t : ℕ) (g f : Form) (b : Block) : Type 0 where
   pub names : ℕ
   pub rows : ℕ

@@ -109,9 +109,9 @@ module _ (t : ℕ) (own : Own) (f : Form) (b : Block) (scratch : ℕ) (totals : 
           let lies = room .there .lies in
           let fits = room .there .fits in
           let entries = few-entries (length w) room in
-          let names-low : b .low ≤ f .parameters + f .«parameter_count» = omega (arith, laid, lies .parameters) in
+          let names-low : b .low ≤ f .parameters + f .«parameter_count» * 2 = omega (arith, laid, lies .parameters) in
           let rows-low : b .low ≤ own .rows + own .count * 16 = omega (arith, laid, lies .visible, room .rows) in
-          let names-high : f .parameters + (f .«parameter_count» + (own .end - own .from)) ≤ scratch + 131072 =
+          let names-high : f .parameters + (f .«parameter_count» + (own .end - own .from)) * 2 ≤ scratch + 131072 =
           omega (arith, laid, lies .parameters, fits .parameters, entries, room .behind) in
           let rows-high : own .rows + (own .count + (own .end - own .from)) * 16 ≤ scratch + 131072 =
           omega (arith, laid, lies .visible, fits .items, entries, room .rows, room .count, room .behind) in
@@ -129,7 +129,7 @@ module _ (t : ℕ) (own : Own) (f : Form) (b : Block) (scratch : ℕ) (totals : 
           let entries = few-entries (length w) room in
           let rows = room .rows in
           let count = room .count in
-          stands-kept-two text t w w₁ (f .parameters + f .«parameter_count») (f .parameters + (f .«parameter_count» + (own .end - own .from)))
+          stands-kept-two text t w w₁ (f .parameters + f .«parameter_count» * 2) (f .parameters + (f .«parameter_count» + (own .end - own .from)) * 2)
           (own .rows + own .count * 16) (own .rows + (own .count + (own .end - own .from)) * 16) f n
           (omega (arith, laid, lies .parameters)) (omega (arith, laid, lies .visible, rows)) (x .kept)
           (record {
@@ -248,7 +248,7 @@ module _ (t from end : ℕ) (f : Form) (totals : Totals) (b c : Block) (eb : b �
   pub rooms-laid : (size : ℕ) → CompleteRoom size t from end f totals → Rooms size t own-of f b (c .low) totals
   unfolding joining-block first-block block-at
   rooms-laid size room =
-      let low : c .low ≡ 816656 = ap (λ (z : Block). z .low) ec in
+      let low : c .low ≡ 849432 = ap (λ (z : Block). z .low) ec in
       rw eb (record {
         laid = room .laid .joining;
         enough-equations = omega arith;

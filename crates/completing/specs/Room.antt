@@ -23,7 +23,7 @@ use Rattle.forms.specs.Memory.{part}
 use Rattle.forms.specs.Forms.{visible-at, Stands}
 use Rattle.forms.specs.FormLaws.{length-items}
 use Rattle.forms.specs.Blocks.{Lies, Makes, MadeIn}
-use Rattle.making.specs.Checked.{enough, length-names, and-true}
+use Rattle.making.specs.Checked.{enough, length-slots, and-true}
 use Rattle.uniting.specs.United.{within}
 use Rattle.completing.specs.declared.Totals.{Totals}
 use Rattle.completing.specs.Hidden.{HiddenJoined}
@@ -168,7 +168,7 @@ module _ (text : List ℕ) (t : ℕ) (w : List ℕ) (g f : Form) (b : Block) (r 
 
   names-counted : length (to .visible .parameters) ≡ r .«parameter_count»
   unfolding visible-at
-  names-counted = ap (λ (v : Visible). length (v .parameters)) (sym (x .seen to u)) ∙ length-names text w′ (r .parameters) (r .«parameter_count»)
+  names-counted = ap (λ (v : Visible). length (v .parameters)) (sym (x .seen to u)) ∙ length-slots text w′ (r .parameters) (r .«parameter_count»)
 
   seen-counted : length (to .visible .items) ≡ r .«visible_count»
   unfolding visible-at

@@ -21,7 +21,7 @@ fn note_same(work: &mut [u32], base: u32, n: u32)
     }
 }
 
-// The hidden items and the equations of g into f, which has its names and its visible rows: no more than 1,024 hidden items.
+// The hidden items and the equations of g into f, which has its parameters and its visible rows: no more than 1,024 hidden items.
 pub fn join_hidden(
     library: &[u8],
     text: &[u8],

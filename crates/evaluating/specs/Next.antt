@@ -66,13 +66,13 @@ pub record LastStepping (text : List ℕ) (t : ℕ) (w : List ℕ) (h : Heads) (
 
 -- ---- places
 
-kept-space : (size t : ℕ) → Laid size t → kept-start + (64 * 8 + 1024 * 16 + 512 * 8 + 4096) ≤ table-start
+kept-space : (size t : ℕ) → Laid size t → kept-start + (64 * 8 * 2 + 1024 * 16 + 512 * 8 + 4096) ≤ table-start
 kept-space size t l = l .kept-table
 
 -- the next form behind those of k modules
 next-space : (t : ℕ) (w : List ℕ) (h : Heads) (k : ℕ) (s : State) (f : Form) → Ready t w h k s → MadeThere joining-block f
     → s .cursor + form-space f
-    ≤ kept-start + ((k + 1) * 8 + with-form (s .totals) f .items * 16 + with-form (s .totals) f .equations * 8 + with-form (s .totals) f .nodes)
+    ≤ kept-start + ((k + 1) * 8 * 2 + with-form (s .totals) f .items * 16 + with-form (s .totals) f .equations * 8 + with-form (s .totals) f .nodes)
 unfolding with-form
 next-space t w h k s f ready made = omega (arith, ready .space, made .fits .parameters)
 

@@ -43,7 +43,7 @@ pub record Ready (t : ℕ) (w : List ℕ) (h : Heads) (k : ℕ) (s : State) : Ty
   pub few-entries : (j : ℕ) → j < h .count → getD (h .places) (j + 1) 0 - getD (h .places) j 0 ≤ 32768
   pub below : TableBelow w (s .cursor)
   pub start : kept-start ≤ s .cursor
-  pub space : s .cursor ≤ kept-start + (k * 8 + s .totals .items * 16 + s .totals .equations * 8 + s .totals .nodes)
+  pub space : s .cursor ≤ kept-start + (k * 8 * 2 + s .totals .items * 16 + s .totals .equations * 8 + s .totals .nodes)
   pub right : TotalsRight (s .totals)
 
 -- of the modules ms those of env are evaluated, and what is kept stands for their normal forms

@@ -404,10 +404,10 @@ one-there text tape i c cs s =
 -- ---- places
 
 pub kept-table : (size t : ℕ) → Laid size t → kept-start ≤ table-start
-kept-table size t l = within (l .kept-table)
+kept-table size t l = within _ (l .kept-table)
   where
-    within : kept-start + (module-limit * 8 + 1024 * 16 + 512 * 8 + 4096) ≤ table-start → kept-start ≤ table-start
-    within k = omega (arith, k)
+    within : (room : ℕ) → kept-start + room ≤ table-start → kept-start ≤ table-start
+    within room k = omega (arith, k)
 
 pub tape-short : (w : List ℕ) (t : ℕ) (h : Heads) (i : ℕ) (g : Form) (first : Bool) → ClausesRoom w t h i g first → length (part w 0 t) ≤ 65536
 unfolding tape-end

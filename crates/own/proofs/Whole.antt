@@ -1,5 +1,5 @@
--- The way through all of a module's own names and items: w₁, w₂ and w₃ are the memories after the names, the visible items and the hidden
--- ones, r, s and u the numbers of names, of visible rows and of all rows.
+-- The way through all of a module's own parameters and items: w₁, w₂ and w₃ are the memories after the parameters, the visible items and the
+-- hidden ones, r, s and u the numbers of parameters, of visible rows and of all rows.
 use mathlib.Core.Path.{_≡_, sym, ap, _∙_}
 use mathlib.Core.Bool.{true, false}
 use mathlib.Core.List.{List, _++_, append-cancel-left}
@@ -14,8 +14,8 @@ use Rattle.meaning.specs.Normal.{Visible}
 use Rattle.meaning.specs.Own.{own-hidden-items}
 use Rattle.meaning.specs.Evaluate.{seen-sorts, joined-visible}
 use Rattle.forms.specs.Memory.{part, Same, Kept, KeptTwo}
-use Rattle.forms.specs.Forms.{names-at, items-at}
-use Rattle.forms.specs.FormLaws.{kept-wider, kept-then, kept-same, kept-is-two, kept-two-swap, kept-two-then, names-same}
+use Rattle.forms.specs.Forms.{slots-at, items-at}
+use Rattle.forms.specs.FormLaws.{kept-wider, kept-then, kept-same, kept-is-two, kept-two-swap, kept-two-then, slots-same}
 use Rattle.forms.specs.FormLaws.{items-split}
 use Rattle.declarations.specs.Sorts.{Ready}
 use Rattle.declarations.specs.Items.{own-count, own-items, Roomy, Appended}
@@ -23,7 +23,7 @@ use Rattle.declarations.specs.DeclarationLaws.{Stands}
 use Rattle.declarations.specs.ItemLaws.{FewInputs, hidden-items}
 use Rattle.declarations.specs.Frames.{count-short, counts-short}
 use Rattle.declarations.specs.declared.Own.{Own}
-use Rattle.own.specs.Parameters.{NamesAppended}
+use Rattle.own.specs.Parameters.{SlotsAppended}
 use Rattle.own.specs.Joined.{Joined, OwnRoom, OwnStands, OwnMade}
 use Rattle.own.specs.JoinLaws.{tape-kept, items-kept, stands-kept, visible-joined, parameters-joined}
 
@@ -32,9 +32,9 @@ module _ (text : List ℕ) (t : ℕ) (own : Own) (q n : ℕ) (w : List ℕ) (rea
   abbrev size : ℕ
   size = own .end - own .from
 
-  module _ (w₁ : List ℕ) (r : ℕ) (named : NamesAppended t (own .from) (own .end) q n w w₁ r) where
+  module _ (w₁ : List ℕ) (r : ℕ) (named : SlotsAppended t (own .from) (own .end) q n w w₁ r) where
     tape₁ : part w₁ 0 t ≡ part w 0 t
-    tape₁ = tape-kept text w w₁ t (q + n) (q + r) (named .kept) (room .behind-names)
+    tape₁ = tape-kept text w w₁ t (q + n * 2) (q + r * 2) (named .kept) (room .behind-names)
 
     pub whole-ready : Ready w₁ t own
     whole-ready = record { tape = omega (arith, named .kept .size, ready .tape); small = ready .small }
@@ -96,26 +96,26 @@ module _ (text : List ℕ) (t : ℕ) (own : Own) (q n : ℕ) (w : List ℕ) (rea
         rows-kept : Kept low high w₁ w₃
         rows-kept = kept-then low high w₁ w₂ w₃ visible-kept hidden-kept
 
-        names-two : KeptTwo (q + n) (q + (n + size)) low high w w₁
+        names-two : KeptTwo (q + n * 2) (q + (n + size) * 2) low high w w₁
         names-two =
-            kept-is-two (q + n) (q + (n + size)) low high w w₁
-            (kept-wider (q + n) (q + r) (q + n) (q + (n + size)) w w₁ (omega arith) (omega (arith, named .few)) (named .kept))
+            kept-is-two (q + n * 2) (q + (n + size) * 2) low high w w₁
+            (kept-wider (q + n * 2) (q + r * 2) (q + n * 2) (q + (n + size) * 2) w w₁ (omega arith) (omega (arith, named .few)) (named .kept))
 
-        all-kept : KeptTwo (q + n) (q + (n + size)) low high w w₃
+        all-kept : KeptTwo (q + n * 2) (q + (n + size) * 2) low high w w₃
         all-kept =
-            kept-two-then (q + n) (q + (n + size)) low high w w₁ w₃ names-two
-            (kept-two-swap low high (q + n) (q + (n + size)) w₁ w₃ (kept-is-two low high (q + n) (q + (n + size)) w₁ w₃ rows-kept))
+            kept-two-then (q + n * 2) (q + (n + size) * 2) low high w w₁ w₃ names-two
+            (kept-two-swap low high (q + n * 2) (q + (n + size) * 2) w₁ w₃ (kept-is-two low high (q + n * 2) (q + (n + size) * 2) w₁ w₃ rows-kept))
 
-        names-stay : Same q (q + r) w₁ w₃
+        names-stay : Same q (q + r * 2) w₁ w₃
         names-stay =
-            kept-same low high q (q + r) w₁ w₃
+            kept-same low high q (q + r * 2) w₁ w₃
             (⊎-elim (λ x. inr (omega arith)) (λ x. inl (omega (arith, named .few))) (room .apart)) rows-kept
 
-        module _ (m : Module) (v : Visible) (stands : Stands text (part w 0 t) w own m v) (imported : names-at text w q n ≡ v .parameters)
+        module _ (m : Module) (v : Visible) (stands : Stands text (part w 0 t) w own m v) (imported : slots-at text w q n ≡ v .parameters)
             (few : FewInputs m) where
           stands₁ : Stands text (part w₁ 0 t) w₁ own m v
           stands₁ =
-              stands-kept text w w₁ t (q + n) (q + r) (named .kept) (room .behind-names) own m v
+              stands-kept text w w₁ t (q + n * 2) (q + r * 2) (named .kept) (room .behind-names) own m v
               (⊎-elim (λ x. inl (omega arith)) (λ x. inr (omega (arith, named .few))) (room .apart)) stands
 
           stands₂ : Stands text (part w₂ 0 t) w₂ own m v
@@ -150,7 +150,7 @@ module _ (text : List ℕ) (t : ℕ) (own : Own) (q n : ℕ) (w : List ℕ) (rea
           all-stands : OwnStands text (part w₃ 0 t) w₃ own q (record { «parameter_count» = r; «visible_count» = s; «hidden_count» = u - s }) m v
           all-stands = record {
             imported = stands₃;
-            parameters = names-same w₁ w₃ text q r names-stay ∙ parameters-joined text t own w m v stands w₁ q n r imported named;
+            parameters = slots-same w₁ w₃ text q r names-stay ∙ parameters-joined text t own w m v stands w₁ q n r imported named;
             visible = visible-there;
             hidden = hidden-there;
           }

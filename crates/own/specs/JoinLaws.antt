@@ -5,16 +5,15 @@ use mathlib.Core.Logic.{inl, inr, ⊎-elim}
 use Prim.Native.Nat.{ℕ, _+_, _*_, _≤_}
 use native.Mathlib.Omega.{arith}
 use Rattle.meaning.specs.Lists.{union}
-use Rattle.meaning.specs.Names.{Name}
 use Rattle.meaning.specs.Syntax.{Module}
 use Rattle.meaning.specs.Origins.{Item, one-item}
-use Rattle.meaning.specs.Normal.{Visible, unite-visible}
+use Rattle.meaning.specs.Normal.{Slot, Visible}
 use Rattle.meaning.specs.Checks.{Check, _>>_, consistent}
 use Rattle.meaning.specs.Own.{own-visible, own-hidden-items}
 use Rattle.meaning.specs.Evaluate.{seen-sorts, joined-visible, own-checks}
 use Rattle.forms.specs.Memory.{part, Kept}
-use Rattle.forms.specs.Forms.{names-at, items-at}
-use Rattle.forms.specs.FormLaws.{Apart, kept-same, tape-same, items-same, names-same}
+use Rattle.forms.specs.Forms.{slots-at, items-at}
+use Rattle.forms.specs.FormLaws.{Apart, kept-same, tape-same, items-same, slots-same}
 use Rattle.declarations.specs.DeclarationLaws.{Stands}
 use Rattle.declarations.specs.ItemLaws.{FewInputs, visible-items}
 use Rattle.declarations.specs.CheckLaws.{available-told}
@@ -22,7 +21,7 @@ use Rattle.declarations.specs.VariableLaws.{variables-told}
 use Rattle.declarations.specs.Frames.{stands-same}
 use Rattle.declarations.specs.declared.Own.{Own}
 use Rattle.own.specs.declared.OwnRows.{OwnRows}
-use Rattle.own.specs.Parameters.{NamesAppended}
+use Rattle.own.specs.Parameters.{SlotsAppended}
 use Rattle.own.specs.ParameterLaws.{parameters-told}
 use Rattle.own.specs.Joined.{Joined, OwnStands}
 use Rattle.own.specs.Checking.{with-rows, declarations-by, variables-by}
@@ -42,11 +41,11 @@ module _ (text w w′ : List ℕ) (t a e : ℕ) (k : Kept a e w w′) (behind : 
       rw tape-kept (stands-same text (part w 0 t) w w′ own (kept-same a e (own .rows) (own .rows + own .count * 16) w w′ h k) m v s)
 
   pub own-stands-kept : (own : Own) (q : ℕ) (r : OwnRows) (m : Module) (v : Visible) → own .count ≤ r .«visible_count»
-      → Apart a e q (q + r .«parameter_count») → Apart a e (own .rows) (own .rows + (r .«visible_count» + r .«hidden_count») * 16)
+      → Apart a e q (q + r .«parameter_count» * 2) → Apart a e (own .rows) (own .rows + (r .«visible_count» + r .«hidden_count») * 16)
       → OwnStands text (part w 0 t) w own q r m v → OwnStands text (part w′ 0 t) w′ own q r m v
   own-stands-kept own q r m v few apart-names apart-rows s = record {
     imported = stands-kept own m v (narrower (own .rows) (own .count * 16) (omega arith) (omega (arith, few))) (s .imported);
-    parameters = names-same w w′ text q (r .«parameter_count») (kept-same a e q (q + r .«parameter_count») w w′ apart-names k) ∙ s .parameters;
+    parameters = slots-same w w′ text q (r .«parameter_count») (kept-same a e q (q + r .«parameter_count» * 2) w w′ apart-names k) ∙ s .parameters;
     visible = items-kept (own .rows) (r .«visible_count») (narrower (own .rows) (r .«visible_count» * 16) (omega arith) (omega arith)) ∙ s .visible;
     hidden = items-kept (own .rows + r .«visible_count» * 16) (r .«hidden_count»)
         (narrower (own .rows + r .«visible_count» * 16) (r .«hidden_count» * 16) (omega arith) (omega arith))
@@ -62,14 +61,14 @@ module _ (text : List ℕ) (t : ℕ) (own : Own) (w : List ℕ) (m : Module) (v 
   -- the own visible items joined are what the meaning has as visible
   pub visible-joined : (w′ : List ℕ) (r : ℕ) → FewInputs m → Joined text t own (own .rows) (own .count) w w′ r
       → items-at text (part w 0 t) w′ (own .rows) r ≡ joined-visible m v .items
-  unfolding joined-visible unite-visible
+  unfolding joined-visible
   visible-joined w′ r few j =
       j .items ∙ ap₂ (λ (x y : List Item). union one-item x y) (s .rows) (visible-items text (part w 0 t) w own m v s few)
 
-  pub parameters-joined : (w′ : List ℕ) (q n r : ℕ) → names-at text w q n ≡ v .parameters → NamesAppended t (own .from) (own .end) q n w w′ r
-      → names-at text w′ q r ≡ joined-visible m v .parameters
-  unfolding joined-visible unite-visible own-visible
-  parameters-joined w′ q n r e a = a .names text ∙ ap₂ (λ (x y : List Name). x ++ y) e (parameters-told text (part w 0 t) w own m v s)
+  pub parameters-joined : (w′ : List ℕ) (q n r : ℕ) → slots-at text w q n ≡ v .parameters → SlotsAppended t (own .from) (own .end) q n w w′ r
+      → slots-at text w′ q r ≡ joined-visible m v .parameters
+  unfolding joined-visible own-visible
+  parameters-joined w′ q n r e a = a .slots text ∙ ap₂ (λ (x y : List Slot). x ++ y) e (parameters-told text (part w 0 t) w own m v s)
 
 -- 13 and then 12 by places and rows are the meaning's
 pub declarations-told : (text tape w : List ℕ) (own : Own) (q : ℕ) (r : OwnRows) (m : Module) (v : Visible) → FewInputs m → OwnStands text tape w own q r m v

@@ -10,7 +10,7 @@ use Rattle.meaning.specs.Normal.{Visible}
 use Rattle.meaning.specs.Own.{own-hidden-items}
 use Rattle.meaning.specs.Evaluate.{seen-sorts, joined-visible}
 use Rattle.forms.specs.Memory.{part, Kept, KeptTwo}
-use Rattle.forms.specs.Forms.{names-at, items-at}
+use Rattle.forms.specs.Forms.{slots-at, items-at}
 use Rattle.forms.specs.FormLaws.{Apart}
 use Rattle.declarations.specs.Items.{own-item, own-count, own-items}
 use Rattle.declarations.specs.DeclarationLaws.{Stands}
@@ -43,32 +43,32 @@ pub record Joined (text : List ℕ) (t : ℕ) (own : Own) (base n : ℕ) (w w′
 
 -- ---- parameters and all items
 
--- behind the tape there is room: a word for each entry behind the n words at q, a row for each entry behind the rows; both parts are apart
+-- behind the tape there is room: a parameter for each entry behind the n at q, a row for each entry behind the rows; both parts are apart
 pub record OwnRoom (size t : ℕ) (own : Own) (q n : ℕ) : Type 0 where
   pub few-names : n ≤ 1073741824
   pub few-rows : own .count + (own .end - own .from) ≤ 1073741824
-  pub behind-names : t ≤ q + n
+  pub behind-names : t ≤ q + n * 2
   pub behind-rows : t ≤ own .rows + own .count * 16
-  pub names : q + (n + (own .end - own .from)) ≤ size
+  pub names : q + (n + (own .end - own .from)) * 2 ≤ size
   pub rows : own .rows + (own .count + (own .end - own .from)) * 16 ≤ size
-  pub apart : Apart q (q + (n + (own .end - own .from))) (own .rows) (own .rows + (own .count + (own .end - own .from)) * 16)
+  pub apart : Apart q (q + (n + (own .end - own .from)) * 2) (own .rows) (own .rows + (own .count + (own .end - own .from)) * 16)
 
--- the module m sees v of what it imports: its first rows. The names at q, the visible rows and the hidden ones behind them stand for all that
+-- the module m sees v of what it imports: its first rows. The parameters at q, the visible rows and the hidden ones behind them stand for all that
 -- m sees and for its own hidden items
 pub record OwnStands (text tape w : List ℕ) (own : Own) (q : ℕ) (r : OwnRows) (m : Module) (v : Visible) : Type 0 where
   pub imported : Stands text tape w own m v
-  pub parameters : names-at text w q (r .«parameter_count») ≡ joined-visible m v .parameters
+  pub parameters : slots-at text w q (r .«parameter_count») ≡ joined-visible m v .parameters
   pub visible : items-at text tape w (own .rows) (r .«visible_count») ≡ joined-visible m v .items
   pub hidden : items-at text tape w (own .rows + r .«visible_count» * 16) (r .«hidden_count») ≡ own-hidden-items m (seen-sorts m v)
 
--- the module's own names and items, behind the n words at q and the rows
+-- the module's own parameters and items, behind the n parameters at q and the rows
 pub record OwnMade (text : List ℕ) (t : ℕ) (own : Own) (q n : ℕ) (w w′ : List ℕ) (r : OwnRows) : Type 0 where
   pub kept :
-      KeptTwo (q + n) (q + (n + (own .end - own .from))) (own .rows + own .count * 16) (own .rows + (own .count + (own .end - own .from)) * 16) w w′
+      KeptTwo (q + n * 2) (q + (n + (own .end - own .from)) * 2) (own .rows + own .count * 16) (own .rows + (own .count + (own .end - own .from)) * 16) w w′
   pub names-grow : n ≤ r .«parameter_count»
   pub few-names : r .«parameter_count» ≤ n + (own .end - own .from)
   pub rows-grow : own .count ≤ r .«visible_count»
   pub few-rows : r .«visible_count» + r .«hidden_count» ≤ own .count + (own .end - own .from)
   pub meant :
-      (m : Module) (v : Visible) → Stands text (part w 0 t) w own m v → names-at text w q n ≡ v .parameters → FewInputs m
+      (m : Module) (v : Visible) → Stands text (part w 0 t) w own m v → slots-at text w q n ≡ v .parameters → FewInputs m
       → OwnStands text (part w′ 0 t) w′ own q r m v

@@ -1,23 +1,43 @@
--- The names of a module's own parameters are the meaning's (meaning/specs/Own.antt).
+-- A module's own parameters by places are the meaning's (meaning/specs/Own.antt).
 use mathlib.Core.Path.{_≡_, refl, ap, ap₂, _∙_}
+use mathlib.Core.Bool.{Bool, true, false}
 use mathlib.Core.List.{List, [], _∷_, _++_, map, append-nil}
-use Prim.Native.Nat.{ℕ, suc, _-_, _≤_}
+use Prim.Native.Nat.{ℕ, suc, _+_, _-_, _<_, _≤_}
 use native.Mathlib.Omega.{arith}
+use lib.Dec.{eqb}
 use lib.ListN.{length}
 use Rattle.meaning.specs.Lists.{pick, each}
 use Rattle.meaning.specs.Names.{Name}
 use Rattle.meaning.specs.Syntax.{Parameter, Module}
-use Rattle.meaning.specs.Normal.{Visible}
+use Rattle.meaning.specs.Normal.{Slot, Visible}
+use Rattle.meaning.specs.Own.{own-slot}
+use Rattle.meaning.specs.Evaluate.{seen-sorts}
+use Rattle.names.specs.Word.{name-of}
 use Rattle.tape.specs.Tape.{Entry, flat-signature, flat-parameter, flat-import, flat-group, flat-equation, flat-module}
-use Rattle.declarations.specs.Spelled.{Spells, Above, names-with, names-append, names-above, all-append, all-signature, all-imports, all-groups, all-equations}
+use Rattle.tables.specs.Entries.{home-at}
+use Rattle.declarations.specs.Spelled.{Spells, Above, names-with, names-append, names-above, home-there}
+use Rattle.declarations.specs.Spelled.{all-append, all-signature, all-imports, all-groups, all-equations}
 use Rattle.declarations.specs.DeclarationLaws.{Stands}
 use Rattle.declarations.specs.declared.Own.{Own}
-use Rattle.own.specs.Parameters.{parameter-names}
+use Rattle.own.specs.Parameters.{declared-slot, declared-slots}
 
-names-spelled : (text tape : List ℕ) (es : List Entry) (i : ℕ) → Spells text tape i es → parameter-names text tape i (length es) ≡ names-with 2 es
-unfolding parameter-names names-with
-names-spelled text tape [] i h = refl
-names-spelled text tape (e ∷ es) i h = rw (h .0, h .1, names-spelled text tape es (suc i) (h .2))
+-- the parameter of that name that the module declares
+abbrev of-module : Name → Name → Slot
+of-module home a = record { name = a; home = home }
+
+slots-spelled : (text tape : List ℕ) (home : Name) (es : List Entry) (i : ℕ) → Spells text tape i es
+    → ((d : ℕ) → i ≤ d → d < i + length es → name-of text (home-at tape d) ≡ home)
+    → declared-slots text tape i (length es) ≡ map (of-module home) (names-with 2 es)
+unfolding declared-slots declared-slot names-with pick
+slots-spelled text tape home [] i h k = refl
+slots-spelled text tape home (e ∷ es) i h k =
+    rw (h .0, h .1, k i (omega arith) (omega arith), slots-spelled text tape home es (suc i) (h .2) (λ d l n. k d (omega arith) (omega arith)))
+    (go (eqb (e .role) 2))
+  where
+    go : (b : Bool) → pick b (of-module home (e .name) ∷ map (of-module home) (names-with 2 es)) (map (of-module home) (names-with 2 es))
+        ≡ map (of-module home) (pick b (e .name ∷ names-with 2 es) (names-with 2 es))
+    go true = refl
+    go false = refl
 
 names-parameters : (ps : List Parameter) → names-with 2 (each flat-parameter ps) ≡ map (λ (p : Parameter). p .name) ps
 unfolding each flat-parameter names-with pick
@@ -54,9 +74,17 @@ module _ (m : Module) where
       ∙ ap₂ (λ (x y : List Name). x ++ y) (names-parameters (m .parameters)) (names-above 2 3 (omega arith) behind-parameters behind-above)
       ∙ append-nil (map (λ (p : Parameter). p .name) (m .parameters))
 
--- the names by places are those of the parameters of the module that the entries spell
+slots-named : (m : Module) (seen : List Name) (ps : List Parameter) → map (of-module (m .name)) (map (λ (p : Parameter). p .name) ps) ≡ map (own-slot m seen) ps
+unfolding own-slot
+slots-named m seen [] = refl
+slots-named m seen (p ∷ ps) = ap (of-module (m .name) (p .name) ∷_) (slots-named m seen ps)
+
+-- the parameters by places are those of the module that the entries spell
 pub parameters-told : (text tape w : List ℕ) (own : Own) (m : Module) (v : Visible) → Stands text tape w own m v
-    → parameter-names text tape (own .from) (own .end - own .from) ≡ map (λ (p : Parameter). p .name) (m .parameters)
+    → declared-slots text tape (own .from) (own .end - own .from) ≡ map (own-slot m (seen-sorts m v)) (m .parameters)
 parameters-told text tape w own m v s =
     let z : own .end - own .from ≡ length (flat-module m) = omega (arith, s .end) in
-    rw z (names-spelled text tape (flat-module m) (own .from) (s .entries) ∙ names-module m)
+    rw z
+    (slots-spelled text tape (m .name) (flat-module m) (own .from) (s .entries) (λ d l n. home-there text tape m (own .from) d (s .entries) l n)
+    ∙ ap (map (of-module (m .name))) (names-module m)
+    ∙ slots-named m (seen-sorts m v) (m .parameters))

@@ -1,39 +1,45 @@
--- The names of a module's own parameters by places of the tape, and what storing their words leaves.
+-- A module's own parameters by places of the tape, and what storing their words leaves.
 use mathlib.Core.Path.{_≡_}
 use mathlib.Core.List.{List, [], _∷_, _++_}
-use Prim.Native.Nat.{ℕ, zero, suc, _+_, _-_, _≤_, _<_}
+use Prim.Native.Nat.{ℕ, zero, suc, _+_, _-_, _*_, _≤_, _<_}
 use lib.Dec.{eqb}
 use lib.ListN.{length, getD}
 use Rattle.meaning.specs.Lists.{pick}
-use Rattle.meaning.specs.Names.{Name}
+use Rattle.meaning.specs.Normal.{Slot}
+use Rattle.names.specs.Word.{name-of}
 use Rattle.tape.specs.Tape.{parameter-role}
-use Rattle.tables.specs.Entries.{role-at, word-at, name-at}
+use Rattle.tables.specs.Entries.{role-at, word-at, name-at, home-at}
 use Rattle.forms.specs.Memory.{part, Kept}
-use Rattle.forms.specs.Forms.{names-at}
+use Rattle.forms.specs.Forms.{slots-at}
 
--- the names of the parameters among c entries from i on
-unfoldable pub parameter-names : List ℕ → List ℕ → ℕ → ℕ → List Name
-parameter-names text tape i zero = []
-parameter-names text tape i (suc c) =
-    let more = parameter-names text tape (suc i) c in
-    let here = name-at text tape i ∷ more in
+-- the parameter that is declared at i
+unfoldable pub declared-slot : List ℕ → List ℕ → ℕ → Slot
+declared-slot text tape i = record { name = name-at text tape i; home = name-of text (home-at tape i) }
+
+-- the parameters among c entries from i on
+unfoldable pub declared-slots : List ℕ → List ℕ → ℕ → ℕ → List Slot
+declared-slots text tape i zero = []
+declared-slots text tape i (suc c) =
+    let more = declared-slots text tape (suc i) c in
+    let here = declared-slot text tape i ∷ more in
     pick (eqb (role-at tape i) parameter-role) here more
 
--- the word of the name at i stored at a place
-pub record NamePut (t place i : ℕ) (w w′ : List ℕ) : Type 0 where
-  pub word : place < length w → getD w′ place 0 ≡ word-at (part w 0 t) i
-  pub kept : Kept place (place + 1) w w′
+-- the two words of the parameter at i stored at a place
+pub record SlotPut (t place i : ℕ) (w w′ : List ℕ) : Type 0 where
+  pub name : place < length w → getD w′ place 0 ≡ word-at (part w 0 t) i
+  pub home : place + 1 < length w → getD w′ (place + 1) 0 ≡ home-at (part w 0 t) i
+  pub kept : Kept place (place + 2) w w′
 
--- behind the tape and the n words at base there is room for a word for each entry
-pub record NameRoom (size t from end base n : ℕ) : Type 0 where
+-- behind the tape and the n parameters at base there is room for one for each entry
+pub record SlotsRoom (size t from end base n : ℕ) : Type 0 where
   pub few : n ≤ 1073741824
-  pub behind : t ≤ base + n
-  pub room : base + (n + (end - from)) ≤ size
+  pub behind : t ≤ base + n * 2
+  pub room : base + (n + (end - from)) * 2 ≤ size
 
--- the names of the module's parameters are the words from n up to r at base, and all else stays
-pub record NamesAppended (t from end base n : ℕ) (w w′ : List ℕ) (r : ℕ) : Type 0 where
-  pub kept : Kept (base + n) (base + r) w w′
+-- the module's parameters are those from n up to r at base, and all else stays
+pub record SlotsAppended (t from end base n : ℕ) (w w′ : List ℕ) (r : ℕ) : Type 0 where
+  pub kept : Kept (base + n * 2) (base + r * 2) w w′
   pub grows : n ≤ r
   pub few : r ≤ n + (end - from)
-  pub names :
-      (text : List ℕ) → names-at text w′ base r ≡ names-at text w base n ++ parameter-names text (part w 0 t) (from) (end - from)
+  pub slots :
+      (text : List ℕ) → slots-at text w′ base r ≡ slots-at text w base n ++ declared-slots text (part w 0 t) (from) (end - from)

@@ -9,7 +9,7 @@ ghost use Rattle.names.specs.Joint.{joint};
 ghost use Rattle.declarations.specs.Sorts.{Ready};
 ghost use Rattle.own.specs.Joined.{OwnRoom, OwnMade};
 
-// The names of the module's parameters behind the n words at `parameters`; its visible items joined to the rows of `own`, and its hidden ones
+// The module's parameters behind the n at `parameters`; its visible items joined to the rows of `own`, and its hidden ones
 // behind them.
 pub fn own_items(
     library: &[u8],

@@ -1,34 +1,38 @@
-// The names of a module's own parameters, behind those of the parameters that it imports.
+// A module's own parameters, each with the module's name, behind those that it imports.
 use declarations::Own;
+use tables::entries::home_at;
 use tables::entries::name_at;
 use tables::entries::put_word;
 use tables::entries::role_at;
-ghost use Prim.Native.Nat.{_≤_};
+ghost use Prim.Native.Nat.{_^_, _≤_, _<_};
 ghost use lib.ListN.{length};
 ghost use Rattle.declarations.specs.Sorts.{Ready};
-ghost use Rattle.own.specs.Parameters.{NamePut, NameRoom, NamesAppended};
+ghost use Rattle.own.specs.Parameters.{SlotPut, SlotsRoom, SlotsAppended};
 
-// The word of the name at i, stored at `place`.
-fn put_name(work: &mut [u32], t: usize, place: usize, i: u32)
+// The parameter that is declared at i, its name and its module's, stored at `place`.
+fn put_parameter(work: &mut [u32], t: usize, place: usize, i: u32)
     requires { ⌜ t ≤ length (now work) ⌝ }
-    ensures { λ r. ⌜ NamePut t place i (now (work .entry)) (now (work .exit)) ⌝ }
+    requires { ⌜ place < 2 ^ 40 ⌝ }
+    ensures { λ r. ⌜ SlotPut t place i (now (work .entry)) (now (work .exit)) ⌝ }
 {
-    let w = name_at(&work[0..t], i as usize);
-    put_word(work, place, w);
+    let name = name_at(&work[0..t], i as usize);
+    let home = home_at(&work[0..t], i);
+    put_word(work, place, name);
+    put_word(work, place + 1, home);
 }
 
-// The words of the names of the module's parameters, in text order, behind the n words at `base`. The number of words after.
+// The module's parameters, in text order, behind the n at `base`. Their number after.
 pub fn own_parameters(work: &mut [u32], t: usize, own: Own, base: u32, n: u32) -> u32
     requires { ⌜ Ready (now work) t own ⌝ }
-    requires { ⌜ NameRoom (length (now work)) t (own .from) (own .end) base n ⌝ }
-    ensures { λ r. ⌜ NamesAppended t (own .from) (own .end) base n (now (work .entry)) (now (work .exit)) r ⌝ }
+    requires { ⌜ SlotsRoom (length (now work)) t (own .from) (own .end) base n ⌝ }
+    ensures { λ r. ⌜ SlotsAppended t (own .from) (own .end) base n (now (work .entry)) (now (work .exit)) r ⌝ }
 {
     let end = own.end;
     let mut k = n;
     let mut i = own.from;
     while i < end {
         if role_at(&work[0..t], i as usize) == 2 {
-            put_name(work, t, base as usize + k as usize, i);
+            put_parameter(work, t, base as usize + k as usize * 2, i);
             k += 1;
             i += 1;
         } else {

@@ -7,10 +7,10 @@ use Rattle.meaning.specs.Laws.{by-cases}
 use Rattle.meaning.specs.Lists.{each, union}
 use Rattle.meaning.specs.Names.{Name}
 use Rattle.meaning.specs.Syntax.{Signature, Parameter, Pair, Clause, renamed-by, bound-by, Import, Module}
-use Rattle.meaning.specs.Origins.{Section, export-section, parameter-section, FunctionType, ResolvedEquation, Shape, sort-shape, function-shape, variable-shape, Item, one-item}
+use Rattle.meaning.specs.Origins.{Section, export-section, parameter-section, FunctionType, ResolvedEquation, Shape, sort-shape, function-shape, variable-shape, Item, one-item, in-parameter}
 use Rattle.meaning.specs.Normal.{Visible, Normal, nothing-visible, empty, unite-visible, unite, move-shape, move-item, move-visible, move}
 use Rattle.meaning.specs.Written.{visible-order, visible-in-order, in-order}
-use Rattle.meaning.specs.Checks.{Outcome, fine, stop, _>>=_, _>>_, Check, in-parameter, Size, size, add-sizes, room, total-room, checked}
+use Rattle.meaning.specs.Checks.{Outcome, fine, stop, _>>=_, _>>_, Check, Size, size, add-sizes, room, total-room, checked}
 use Rattle.meaning.specs.Clauses.{rename, without-visible, without, bound-to, bind}
 use Rattle.meaning.specs.Own.{own-sort, own-function, own-section, own-visible}
 use Rattle.meaning.specs.Typing.{is-variable}
@@ -100,7 +100,7 @@ module _ (m : Module) (seen : List Name) where
 -- the visible part in which M's equations are typed
 pub joined-seen : (m : Module) (v : Visible) → Every Seen (v .items) → Every Seen (joined-visible m v .items)
 unfolding joined-visible
-joined-seen m v h = unite-seen v (own-visible m (seen-sorts m v)) h (own-seen m (seen-sorts m v))
+joined-seen m v h = every-union Seen one-item (v .items) (own-visible m (seen-sorts m v) .items) h (own-seen m (seen-sorts m v))
 
 -- ---- a module
 

@@ -9,8 +9,8 @@ pub bound-front-spec : {M : Type 1} → statement M
 bound-front-spec =
     tie.close
     (tie.spec
-    (λ c κs. search front)  -- bound-names-requires
-    (λ c κs. search front)  -- bound-visible-requires
+    (λ c κs. search needs)  -- bound-rows-requires
+    (λ c κs. search front)  -- note-formals-requires
     (λ c. search needs)  -- same-length
-    (λ c. search needs)  -- returns
+    (λ c. search front)  -- returns
     )

@@ -23,9 +23,10 @@ own-parameters-spec =
     (λ c. search naming)  -- part-role-at-end
     (λ c. search naming)  -- cast-role-at
     (λ c κs. search naming)  -- role-at-requires
-    (λ c. search naming)  -- cast-put-name
-    (λ c. search naming)  -- add-put-name
-    (λ c κs. search naming)  -- put-name-requires
+    (λ c. search naming)  -- cast-put-parameter
+    (λ c. search naming)  -- mul-put-parameter
+    (λ c. search naming)  -- add-put-parameter
+    (λ c κs. search naming)  -- put-parameter-requires
     (λ c. search naming)  -- add-k
     (λ c. search naming)  -- add-i
     (λ c. search naming)  -- loop-less
@@ -33,7 +34,7 @@ own-parameters-spec =
     let test = c .before .before .before .before in
     let turn = test .before .before .before .before in
     naming-put _ _ _ _ _ _ _ _ _ (turn .before .loop .inv) _ (test .before .role-at .ensures) (turn .loop-test .taken) (test .if1 .taken) _
-    (c .before .before .put-name .ensures))  -- loop-again
+    (c .before .before .put-parameter .ensures))  -- loop-again
     (λ c. search naming)  -- add-i-2
     (λ c. search naming)  -- loop-less-2
     (λ c.
