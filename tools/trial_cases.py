@@ -130,6 +130,35 @@ tried('operators-too-many', 'normalise=M\nmodule M begin %s equations [e] %s+a e
 joined = 'normalise=N\nmodule M begin %s end M\n' % ground + 'module N begin imports M equations [e] a+a = - (a + -- c -- a) end N\n'
 tried('operators-divided', divided(joined, joined.index('module N') - joined.index('module M')), 0)
 
+# ---- parameters that arrive twice: where a type's sort is shown, the least of several in the order of names, and the 8
+
+
+def listed(parameters):
+    return 'parameters ' + ', '.join('%s begin %s end %s' % (name, inside, name) for name, inside in parameters)
+
+
+base = 'module Ground begin exports begin sorts N end end Ground\n'
+both = listed([('P', 'sorts X'), ('Q', 'functions f : X -> X')])
+bound = 'P bound by [ X -> N ] to '
+top = 'module M begin imports H { %sA } end M\n' % bound
+tried('parameters-by-actual', 'normalise=M\n%smodule H begin %s end H\nmodule A begin imports H { %sGround } end A\n%s'
+      % (base, both, bound, top), 0)
+tried('parameters-two-origins', 'normalise=M\n%smodule H begin %s exports begin sorts N end end H\n'
+      'module A begin imports H { renamed by [ N -> K ] %sGround } end A\n%s' % (base, both, bound, top), 15)
+least = listed([('P10', 'sorts A'), ('P9', 'sorts B'), ('P1', 'sorts C')])
+tried('parameters-least', 'normalise=M\nmodule N begin %s end N\nmodule M begin imports N, N { renamed by [ A -> D, B -> E ] } end M\n' % least, 15)
+
+
+def shared(count):
+    """so many parameters, all but one of which arrive by two ways"""
+    most = listed([('P%d' % i, '') for i in range(count - 1)])
+    return ('normalise=M\nmodule N begin %s end N\nmodule K begin parameters Q begin end Q end K\n'
+            'module O begin imports N end O\nmodule M begin imports N, K, O end M\n') % most
+
+
+tried('parameters-8', shared(8), 0)
+tried('parameters-9', shared(9), 18)
+
 # ---- the listing's size: all that the program lends, and one byte more. An equation's tag makes it longer byte by byte
 
 

@@ -441,6 +441,7 @@ fn misfit(specification: &Specification, index: usize, random: &mut Random) -> O
 fn parameter(specification: &mut Specification, index: usize, random: &mut Random) {
     let mut generic = Generic::new(random);
     let index = generic.place(specification, index);
+    let parted = parted(specification, random);
     let module = &mut specification.modules[index];
     let bound = Clause::Binding(generic.binding.clone());
     let imported = name("Generic'");
@@ -456,7 +457,7 @@ fn parameter(specification: &mut Specification, index: usize, random: &mut Rando
         }
         2..=4 => {
             insert(&mut module.imports, import(&imported, Vec::new()), random);
-            insert(&mut module.imports, import(&imported, Vec::new()), random);
+            insert(&mut module.imports, import(&imported, parted), random);
         }
         5 => {
             insert(&mut module.imports, import(&imported, Vec::new()), random);
@@ -471,6 +472,22 @@ fn parameter(specification: &mut Specification, index: usize, random: &mut Rando
             module.imports.push(import(&imported, vec![bound]));
             insert(&mut module.imports, import(&imported, Vec::new()), random);
         }
+    }
+}
+
+/// Renames something of some parameters, which are then other ones than by a way without it; now and then nothing.
+fn parted(specification: &Specification, random: &mut Random) -> Vec<Clause> {
+    let seen = view(specification, &name("Generic'")).unwrap_or_default();
+    let mut pairs = Vec::new();
+    for parameter in &seen.parameters {
+        let sort = random.pick(&parameter.signature.sorts);
+        if let (Some(sort), true) = (sort, random.chance(60)) {
+            pairs.push(pair(sort, &names::fresh(random)));
+        }
+    }
+    match pairs.is_empty() {
+        true => Vec::new(),
+        false => vec![Clause::Renaming(pairs)],
     }
 }
 

@@ -9,6 +9,7 @@ use crate::draft::{self, Plan};
 use crate::names;
 use crate::numbering;
 use crate::operators;
+use crate::parameterised;
 use crate::random::Random;
 use crate::sizes;
 use crate::spelling::{self, Tokens};
@@ -64,17 +65,18 @@ pub fn undivided(seed: u64) -> Case {
 
 fn of_one_text(random: &mut Random) -> Case {
     let mut case = match random.below(100) {
-        0..=13 => accepted(random),
-        14..=23 => diamonds(random),
-        24..=32 => loose(random),
-        33..=65 => aimed(random),
-        66..=71 => damaged_tokens("names moved", damage::identifiers, random),
-        72..=76 => damaged_tokens("tokens damaged", damage::tokens, random),
-        77..=80 => damaged_tokens("no token", damage::lexical, random),
-        81..=82 => damaged_text("comments", damage::comments, random),
-        83..=84 => damaged_tokens("closing name", damage::closing_name, random),
-        85..=87 => damaged_text("bytes damaged", damage::bytes, random),
-        88 => soup(random),
+        0..=10 => accepted(random),
+        11..=18 => diamonds(random),
+        19..=26 => parameterised(random),
+        27..=33 => loose(random),
+        34..=66 => aimed(random),
+        67..=72 => damaged_tokens("names moved", damage::identifiers, random),
+        73..=77 => damaged_tokens("tokens damaged", damage::tokens, random),
+        78..=81 => damaged_tokens("no token", damage::lexical, random),
+        82..=83 => damaged_text("comments", damage::comments, random),
+        84..=85 => damaged_tokens("closing name", damage::closing_name, random),
+        86..=88 => damaged_text("bytes damaged", damage::bytes, random),
+        89 => soup(random),
         _ => sized(random),
     };
     other_asked(&mut case, random);
@@ -139,6 +141,11 @@ fn accepted(random: &mut Random) -> Case {
 fn diamonds(random: &mut Random) -> Case {
     let specification = diamonds::specification(random);
     from_draft("diamonds", specification, random)
+}
+
+fn parameterised(random: &mut Random) -> Case {
+    let specification = parameterised::specification(random);
+    from_draft("parameterised", specification, random)
 }
 
 fn loose(random: &mut Random) -> Case {

@@ -78,11 +78,14 @@ fn deep_row(nodes: usize) -> String {
     format!("{}{row}{}=x", "-(".repeat(15), ")".repeat(15))
 }
 
-/// 16 imports, the last of them with as many clauses as there may be, over functions of eight inputs.
+/// 16 imports, the last of them with as many clauses as there may be, over functions of eight inputs; a parameter arrives with each import and
+/// with each binding, and is one.
 fn deep_imports() -> String {
+    let asked = format!("sorts Y functions q: {}->Y", eight("Y", "#"));
+    let shared = format!("module Shared begin parameters Q begin {asked} end Q end Shared");
     let exported = format!("sorts A functions f: {}->A", eight("A", "#"));
     let actual = format!(
-        "module Actual begin exports begin {exported} end {} end Actual",
+        "module Actual begin exports begin {exported} end imports Shared {} end Actual",
         hidden_items("A")
     );
     let parameters = joined(4, ",", |p| {
@@ -94,7 +97,7 @@ fn deep_imports() -> String {
     });
     let shown = "sorts G functions g: X0#X1#X2#X3#X0#X1#X2#X3->G";
     let generic = format!(
-        "module Generic begin parameters {parameters} exports begin {shown} end {} end Generic",
+        "module Generic begin parameters {parameters} exports begin {shown} end imports Shared {} end Generic",
         hidden_items("X3")
     );
     let imports = joined(14, ",", |import| {
@@ -104,7 +107,7 @@ fn deep_imports() -> String {
         format!("P{p} bound by [X{p}->A,p{p}->f] to Actual")
     });
     last_of_64(
-        &[actual, generic],
+        &[shared, actual, generic],
         &format!("{imports},Generic {{renamed by [g->g'] {bindings}}}"),
     )
 }

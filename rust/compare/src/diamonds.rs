@@ -1,7 +1,7 @@
 //! One module that arrives by many ways under few names: items and equations of one origin split by renamings and
 //! become one again, or clash.
 
-use crate::random::Random;
+use crate::random::{one, Random};
 use crate::view::view;
 use reference::syntax::*;
 
@@ -14,10 +14,6 @@ const PARAMETERS: [&str; 4] = [
     "parameters P begin sorts X functions p: X -> S end P",
     "parameters P begin sorts U functions f: U -> U end P",
 ];
-
-fn one<'p>(phrases: &[&'p str], random: &mut Random) -> &'p str {
-    phrases[random.below(phrases.len())]
-}
 
 /// A base and some modules over it; one that is refused is kept now and then.
 pub fn specification(random: &mut Random) -> Specification {

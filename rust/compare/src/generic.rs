@@ -1,7 +1,7 @@
 //! A parameterised module, a module to bind it to and a common ground of both, in many variations: some bind well,
 //! some clash, some have a sort of the ground under another name or another sort under its name.
 
-use crate::random::Random;
+use crate::random::{one, Random};
 use reference::syntax::*;
 
 /// The three modules as text, and a binding of the first that is right for most of them.
@@ -17,11 +17,6 @@ const BEHIND_P: [&str; 4] = [
     ", Q begin end Q",
     ", Q begin end Q, R begin end R",
 ];
-
-/// One of some phrases.
-fn one<'p>(phrases: &[&'p str], random: &mut Random) -> &'p str {
-    phrases[random.below(phrases.len())]
-}
 
 impl Generic {
     pub fn new(random: &mut Random) -> Generic {

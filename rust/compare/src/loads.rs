@@ -85,6 +85,7 @@ fn undivided() -> Vec<Load> {
             imported_often(),
         ),
         load("15 renamings of 500 sorts", "m1", renamings()),
+        load("500 functions of a parameter, 16 times", "m1", met_often()),
     ]
 }
 
@@ -249,6 +250,17 @@ fn renamings() -> String {
         format!("m0 {{renamed by [{pairs}]}}")
     });
     format!("module m0 begin exports begin sorts {declared} end end m0\nmodule m1 begin imports {imports} end m1\n")
+}
+
+/// A parameter that 16 imports bring, alike: each time its functions are compared with those that are there.
+fn met_often() -> String {
+    let inputs = ["X"; 8].join("#");
+    let functions = joined(500, "\n", |function| format!("f{function}:{inputs}->X"));
+    let imports = ["m0"; 16].join(",");
+    format!(
+        "module m0 begin parameters P begin sorts X functions\n{functions} end P end m0\n\
+         module m1 begin imports {imports} end m1\n"
+    )
 }
 
 /// 64 modules, 992 items, 480 equations, close to 32,768 bytes: 16 modules of 31 items and 15 equations over 47 empty ones, and a top that

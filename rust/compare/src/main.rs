@@ -5,9 +5,11 @@ use compare::deep::deep_loads;
 use compare::divided;
 use compare::engines::{self, Difference};
 use compare::loads::loads;
+use compare::meetings::meetings;
 use compare::proved::Proved;
 use compare::shrink::shrink;
 use compare::timing;
+use reference::Answer;
 use std::collections::BTreeMap;
 use std::env;
 use std::error::Error;
@@ -83,6 +85,7 @@ fn tally(count: u64, first: u64) -> Result<ExitCode, Box<dyn Error>> {
         let mut kinds = vec!["all", case.kind];
         kinds.extend((!case.library.is_empty()).then_some("with a library"));
         kinds.extend(answer.in_library.then_some("in the library"));
+        kinds.extend(parameters_met(&case, &answer).then_some("parameters met"));
         for kind in kinds {
             counts.entry(kind).or_default()[answer.number as usize] += 1;
         }
@@ -97,6 +100,17 @@ fn tally(count: u64, first: u64) -> Result<ExitCode, Box<dyn Error>> {
         println!();
     }
     Ok(ExitCode::SUCCESS)
+}
+
+/// Whether parameters of one name have met and are one, or have met and are 15.
+fn parameters_met(case: &Case, answer: &Answer) -> bool {
+    match answer.number {
+        0 => !meetings(case).is_empty(),
+        15 => meetings(case)
+            .iter()
+            .any(|met| (&met.module, &met.parameter) == (&answer.module, &answer.name)),
+        _ => false,
+    }
 }
 
 /// Looks for the first seed with a difference, and tells it with the text made as small as it goes.

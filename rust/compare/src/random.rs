@@ -39,3 +39,8 @@ impl Random {
         elements.get(self.below(elements.len()))
     }
 }
+
+/// One of some phrases.
+pub fn one<'p>(phrases: &[&'p str], random: &mut Random) -> &'p str {
+    phrases[random.below(phrases.len())]
+}

@@ -8,7 +8,7 @@ use reference::{normalise, Lent, Texts};
 type Writer = fn(usize, &mut Random) -> String;
 
 /// Each limit with the writer of its texts.
-const LIMITS: [(&str, usize, Writer); 41] = [
+const LIMITS: [(&str, usize, Writer); 42] = [
     ("modules", 64, modules),
     ("name", 40, one_name),
     ("closing name", 40, closing_name),
@@ -29,6 +29,7 @@ const LIMITS: [(&str, usize, Writer); 41] = [
     ("depth of brackets", 15, bracket_depth),
     ("parameters", 8, parameters),
     ("parameters met", 8, parameters_met),
+    ("parameters that are one", 8, parameters_one),
     ("parameters on the way", 8, parameters_on_the_way),
     ("items", 512, items),
     ("items met", 512, items_met),
@@ -283,6 +284,24 @@ fn parameters_met(size: usize, random: &mut Random) -> String {
             trouble(random)
         ),
     }
+}
+
+/// Some parameters arrive by two ways and count once, by imports or from the module that one more is bound to.
+fn parameters_one(size: usize, random: &mut Random) -> String {
+    let twice = random.between(1, size - 1);
+    let shared = repeat(twice, ",", parameter);
+    let others = repeat(size - twice, ",", |index| parameter(twice + index));
+    let imports = match random.below(3) {
+        0 => "N, K",
+        1 => "K, N, K",
+        _ => "B { P bound by [X -> S] to K }",
+    };
+    format!(
+        "module N begin parameters {shared} end N \
+         module K begin parameters {others} exports begin sorts S end imports N end K \
+         module B begin parameters P begin sorts X end P imports N end B \
+         module M begin imports {imports} end M"
+    )
 }
 
 /// Something that is refused once the module's own are joined: what is beyond a size before that is told first.

@@ -1,6 +1,6 @@
-//! What is checked after each clause and each union: 15, 10, 11 and 18 ("Evaluating").
+//! What is checked after each clause and each union: 15, 10, 11 and 18 ("Evaluating"; document 02, Seven).
 
-use crate::form::{Form, Function, Section, Sort};
+use crate::form::{Form, Function, Parameter, Section, Sort};
 use crate::order;
 use crate::syntax::Name;
 
@@ -30,8 +30,9 @@ pub fn result(form: &Form) -> Result<(), Refusal> {
 
 /// 15, then 10, then 11. The hidden names that take part are those of the module that the form is for.
 pub fn names(form: &Form) -> Result<(), Refusal> {
-    if let Some(name) = least_twin(&form.parameters, |one, other| one == other, |name| name) {
-        return refuse(15, name);
+    let of_one_name = |one: &Parameter, other: &Parameter| one.name == other.name;
+    if let Some(twin) = least_twin(&form.parameters, of_one_name, |twin| &twin.name) {
+        return refuse(15, &twin.name);
     }
     let sorts = named_sorts(form);
     if let Some(clash) = least_twin(&sorts, |one, other| one.0 == other.0, |sort| sort.0) {

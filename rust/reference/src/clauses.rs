@@ -1,4 +1,4 @@
-//! Renaming and binding ("Evaluating", step 3; document 02, Two).
+//! Renaming and binding ("Evaluating", step 3; document 02, Two and Seven).
 
 use crate::checks::{refuse, Refusal};
 use crate::form::{Form, Function, Replacement, Section, Sort};
@@ -60,7 +60,8 @@ struct Bound<'b> {
 
 /// The module without the parameter, formal items replaced by actual ones, united with the actual normal form.
 pub fn bound(form: &Form, binding: &Binding, actual: &Form) -> Result<Form, Refusal> {
-    if !form.parameters.contains(&binding.parameter) {
+    let mut parameters = form.parameters.iter();
+    if !parameters.any(|parameter| parameter.name == binding.parameter) {
         return refuse(15, &binding.parameter);
     }
     let bound = Bound {
@@ -157,16 +158,20 @@ impl Bound<'_> {
             .cloned()
     }
 
-    /// Called only when every pair is right and every formal is paired.
+    /// Called only when every pair is right and every formal is paired. The parameter goes with its items; what stands for
+    /// them in types and equations comes with the actual form.
     fn without_parameter(&self, parameter: &Name) -> Form {
+        let mut rest = self.form.clone();
+        rest.parameters.retain(|other| other.name != *parameter);
+        rest.sorts.retain(|sort| !sort.in_section(&self.section));
+        rest.functions
+            .retain(|function| function.origin.section != self.section);
         let sort = |sort: &Sort| self.actual_sort(sort).unwrap_or_else(|| sort.clone());
         let function = |function: Function| self.bound_function(function);
-        let mut form = self.form.replaced(&Replacement {
+        rest.replaced(&Replacement {
             sort: &sort,
             function: &function,
-        });
-        form.parameters.retain(|name| name != parameter);
-        form
+        })
     }
 
     /// A formal function as the actual one that its pair has found; its type has followed already, so it is found by

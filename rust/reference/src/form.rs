@@ -1,6 +1,7 @@
-//! Origins, items, equations and normal forms as values ("Origins"). Two items are one exactly when their values are
-//! equal: a hidden item has no name of its own, so its origin (and type) is all it is.
+//! Origins, items, equations and normal forms as values ("Origins"; document 02, Seven). Two items are one exactly when
+//! their values are equal: a hidden item has no name of its own, so its origin (and type) is all it is.
 
+use crate::parameters;
 use crate::syntax::{FunctionDeclaration, Name};
 use std::rc::Rc;
 
@@ -79,6 +80,13 @@ pub struct Function {
     pub output: Sort,
 }
 
+impl Function {
+    /// The sorts of its type.
+    pub fn sorts(&self) -> impl Iterator<Item = &Sort> {
+        self.inputs.iter().chain([&self.output])
+    }
+}
+
 #[derive(Clone, Debug, PartialEq, Eq)]
 pub struct Variable {
     pub origin: Rc<Origin>,
@@ -101,12 +109,19 @@ pub struct Equation {
     pub conclusion: (Term, Term),
 }
 
+/// A parameter with the module that declared it: one without sorts and functions has nothing else to be known by.
+#[derive(Clone, Debug, PartialEq, Eq)]
+pub struct Parameter {
+    pub name: Name,
+    pub module: Name,
+}
+
 /// A normal form, or what is on the way to one. Visible items lie in the exports or in a parameter as the section of
 /// their origin says: parameters are never renamed.
 #[derive(Clone, Debug, Default)]
 pub struct Form {
     pub module: Name,
-    pub parameters: Vec<Name>,
+    pub parameters: Vec<Parameter>,
     pub sorts: Vec<Sort>,
     pub functions: Vec<Rc<Function>>,
     pub variables: Vec<Rc<Variable>>,
@@ -208,9 +223,12 @@ impl Form {
         add(&mut self.equations, equation);
     }
 
-    /// The union; parameters are not made one, so that the check after it can tell two of one name.
+    /// The union. Parameters are compared while the items of both are still apart; where two of one name are not one,
+    /// both stay, so that the check after it can tell them.
     pub fn unite(&mut self, other: &Form) {
-        self.parameters.extend(other.parameters.iter().cloned());
+        let mut added = other.parameters.clone();
+        added.retain(|parameter| !parameters::same(parameter, self, other));
+        self.parameters.extend(added);
         for sort in &other.sorts {
             self.add_sort(sort.clone());
         }

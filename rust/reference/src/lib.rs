@@ -10,6 +10,7 @@ mod lexis;
 mod listing;
 mod order;
 mod own;
+mod parameters;
 mod parts;
 mod program;
 mod reader;

@@ -19,10 +19,10 @@ pub fn write(form: &Form, specification: &Specification) -> Vec<u8> {
     line(&mut out, "module", &form.module);
     section(&mut out, form, &numbers, &Section::Export, "");
     let mut parameters = form.parameters.clone();
-    parameters.sort_by(|one, other| order::of_names(one, other));
-    for name in parameters {
-        line(&mut out, "parameter", &name);
-        let inside = Section::Parameter(name);
+    parameters.sort_by(|one, other| order::of_names(&one.name, &other.name));
+    for parameter in parameters {
+        line(&mut out, "parameter", &parameter.name);
+        let inside = Section::Parameter(parameter.name);
         section(&mut out, form, &numbers, &inside, "parameter-");
     }
     hidden(&mut out, &numbers);

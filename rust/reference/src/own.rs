@@ -1,7 +1,9 @@
 //! A module's own declarations: 9 before its imports, then joined to them, with 13, 12 and 17 ("Evaluating").
 
 use crate::checks::{named_functions, refuse, Refusal};
-use crate::form::{Declared, Equation, Form, Function, Origin, Section, Sort, Term, Variable};
+use crate::form::{
+    self, Declared, Equation, Form, Function, Origin, Section, Sort, Term, Variable,
+};
 use crate::syntax::*;
 use std::rc::Rc;
 
@@ -49,11 +51,15 @@ fn sections(module: &Module) -> Vec<(Section, &Signature)> {
     sections
 }
 
-/// Joins the module's own parameters, sorts, functions and variables to what it imports. A sort's name means the own
-/// hidden sort if there is one, else the visible sort.
+/// Joins the module's own parameters, sorts, functions and variables to what it imports. An own parameter is never one
+/// with an imported one, which another module has declared. A sort's name means the own hidden sort if there is one, else
+/// the visible sort.
 pub fn join(form: &mut Form, module: &Module) {
     for parameter in &module.parameters {
-        form.parameters.push(parameter.name.clone());
+        form.parameters.push(form::Parameter {
+            name: parameter.name.clone(),
+            module: module.name.clone(),
+        });
     }
     for (section, signature) in sections(module) {
         for name in &signature.sorts {

@@ -5,7 +5,7 @@ use std::env;
 use std::fs;
 use std::path::{Path, PathBuf};
 
-/// The folder with `appendix/`, `readings/`, `one/`, `nine/`, `twelve/` and `two/`: from the environment, or beside this crate.
+/// The folder with `appendix/`, `readings/`, `one/`, `nine/`, `twelve/`, `two/` and `seven/`: from the environment, or beside this crate.
 fn folder() -> PathBuf {
     match env::var_os("ASF_VECTORS") {
         Some(path) => PathBuf::from(path),
@@ -71,4 +71,9 @@ fn twelve() {
 #[test]
 fn two() {
     run("two", 118);
+}
+
+#[test]
+fn seven() {
+    run("seven", 37);
 }
