@@ -194,12 +194,6 @@ every-map P Q f g (x ∷ xs) h = (g x (h .0), every-map P Q f g xs (h .1))
 abbrev pub HasSort : Origin → List Item → Type 0
 HasSort o is = (i : Item) × List·Memᴰ i is × (is-sort (i .shape) ≡ true) × (o ≡ i .origin)
 
-pub union-left : (xs ys : List Item) (i : Item) → List·Memᴰ i xs → List·Memᴰ i (union one-item xs ys)
-unfolding union
-union-left xs [] i m = m
-union-left xs (y ∷ ys) i m =
-    by-cases (λ (us : List Item). List·Memᴰ i us) _ _ _ (λ e. union-left xs ys i m) (λ e. union-left (xs ++ (y ∷ [])) ys i (Memᴰ·append-left (y ∷ []) m))
-
 pub any-found : {A : Type 0} (p : A → Bool) (xs : List A) → any p xs ≡ true → (x : A) × List·Memᴰ x xs × (p x ≡ true)
 unfolding any pick
 any-found p [] e = absurd (false≢true e)
@@ -217,17 +211,43 @@ any-passes p xs x m e = go (any p xs) refl
     go true q = refl
     go false q = sym (every-member (λ y. p y ≡ false) xs (any-none p xs q) x m) ∙ e
 
+-- a union has what is in either of the two, where the test tells equal things, of all that pass P
+module _ {A : Type 0} (one : A → A → Bool) where
+  pub in-union-left : (xs ys : List A) (a : A) → List·Memᴰ a xs → List·Memᴰ a (union one xs ys)
+  unfolding union
+  in-union-left xs [] a m = m
+  in-union-left xs (y ∷ ys) a m =
+      by-cases (λ (us : List A). List·Memᴰ a us) _ _ _ (λ e. in-union-left xs ys a m)
+      (λ e. in-union-left (xs ++ (y ∷ [])) ys a (Memᴰ·append-left (y ∷ []) m))
+
+  pub in-union-right : (P : A → Type 0) → ((a b : A) → P a → P b → one a b ≡ true → a ≡ b) → (xs ys : List A) → Every P xs → Every P ys → (a : A)
+      → List·Memᴰ a ys → List·Memᴰ a (union one xs ys)
+  unfolding union
+  in-union-right P equal xs [] h k a m = elim m [ ]
+  in-union-right P equal xs (y ∷ ys) h k a m =
+      let there : List A → Type 0 = λ us. List·Memᴰ a us in
+      ⊎-elim
+      (λ (e : a ≡ y).
+      by-cases there _ _ _
+      (λ f.
+      let r = any-found (one y) xs f in
+      let q = e ∙ equal y (r .0) (k .0) (every-member P xs h (r .0) (r .1)) (r .2) in
+      in-union-left xs ys a (subst (λ (u : A). List·Memᴰ u xs) (sym q) (r .1)))
+      (λ f. in-union-left (xs ++ (y ∷ [])) ys a (Memᴰ·append-right xs (List·Memᴰ·head e))))
+      (λ (q : List·Memᴰ a ys).
+      by-cases there _ _ _ (λ f. in-union-right P equal xs ys h (k .1) a q)
+      (λ f. in-union-right P equal (xs ++ (y ∷ [])) ys (every-append P xs (y ∷ []) h (k .0, tt)) (k .1) a q))
+      (List·Memᴰ·cases-cons m)
+
+pub every-any : {A : Type 0} (xs : List A) → Every (λ x. Unit {0}) xs
+every-any [] = tt
+every-any (x ∷ xs) = (tt, every-any xs)
+
+pub union-left : (xs ys : List Item) (i : Item) → List·Memᴰ i xs → List·Memᴰ i (union one-item xs ys)
+union-left = in-union-left one-item
+
 pub union-right : (xs ys : List Item) (i : Item) → List·Memᴰ i ys → List·Memᴰ i (union one-item xs ys)
-unfolding union
-union-right xs [] i m = elim m [ ]
-union-right xs (y ∷ ys) i m =
-    let there : List Item → Type 0 = List·Memᴰ i in
-    ⊎-elim
-    (λ (e : i ≡ y).
-    by-cases there _ _ _ (λ f. let r = any-found (one-item y) xs f in union-left xs ys i (rw (e, item-equal y (r .0) (r .2)) (r .1)))
-    (λ f. union-left (xs ++ (y ∷ [])) ys i (Memᴰ·append-right xs (List·Memᴰ·head e))))
-    (λ (k : List·Memᴰ i ys). by-cases there _ _ _ (λ f. union-right xs ys i k) (λ f. union-right (xs ++ (y ∷ [])) ys i k))
-    (List·Memᴰ·cases-cons m)
+union-right xs ys = in-union-right one-item (λ i. Unit {0}) (λ a b p q. item-equal a b) xs ys (every-any xs) (every-any ys)
 
 pub member-keep : {A : Type 0} (p : A → Bool) (xs : List A) (x : A) → List·Memᴰ x xs → p x ≡ true → List·Memᴰ x (keep p xs)
 unfolding keep

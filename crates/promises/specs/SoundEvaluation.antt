@@ -135,7 +135,7 @@ module _ (env : List Evaluated) (whole : WholeEnv env) where
   clauses-whole [] n h w = w
   clauses-whole (c ∷ cs) n h w = gives-bound Whole Whole _ _ (clause-whole c n (h .0) w) (λ k t. clauses-whole cs k (h .1) t)
 
-  expressions-whole : (is : List Import) → Every (λ i. Every PlainClause (i .clauses)) is → Gives (Every Whole) (expressions env is)
+  pub expressions-whole : (is : List Import) → Every (λ i. Every PlainClause (i .clauses)) is → Gives (Every Whole) (expressions env is)
   unfolding expressions
   expressions-whole [] h = tt
   expressions-whole (i ∷ is) h =
@@ -432,7 +432,7 @@ pub record Accepted (k : Normal) : Type 0 where
   pub outputs : OneOutput (k .visible .items)
   pub few : Few k
 
-fits-fine : (b : Bool) → fits b ≡ fine tt → b ≡ true
+pub fits-fine : (b : Bool) → fits b ≡ fine tt → b ≡ true
 unfolding fits pick
 fits-fine true e = refl
 fits-fine false e = let z : _≡_ {A = ℕ} 0 1 = cc in absurd (omega arith)

@@ -51,13 +51,13 @@ module _ (visible hidden : List Item) where
       conditions = every-so (TypedSides visible hidden) PlainSides (e .conditions) sides-plain (d .typed .conditions);
     }
 
--- what is found passes the test, and is one of the list
 -- of what is found
-abbrev OfFound : {A : Type 0} → (A → Type 0) → Option A → Type 0
+abbrev pub OfFound : {A : Type 0} → (A → Type 0) → Option A → Type 0
 OfFound P none = Unit {0}
 OfFound P (some x) = P x
 
-first-found : {A : Type 0} (p : A → Bool) (xs : List A) → OfFound (λ x. List·Memᴰ x xs × (p x ≡ true)) (first p xs)
+-- it passes the test, and is one of the list
+pub first-found : {A : Type 0} (p : A → Bool) (xs : List A) → OfFound (λ x. List·Memᴰ x xs × (p x ≡ true)) (first p xs)
 unfolding first
 first-found p [] = tt
 first-found {A} p (x ∷ xs) =

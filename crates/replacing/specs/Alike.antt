@@ -24,7 +24,7 @@ use Rattle.promises.specs.Sound.{every-map, every-union}
 use Rattle.replacing.specs.Changing.{re-pair, re-origin, re-sort, re-type, re-shape, re-item, re-term, re-terms, re-sides, re-equation}
 use Rattle.replacing.specs.Exchanging.{map-twice, map-length, any-map, pick-map, member-kept, origin-kept, shape-kept, called-kept, equations-united, move-type-kept, move-item-kept, move-hidden-item-kept, move-equation-kept}
 use Rattle.replacing.specs.Reordering.{Tagged, equation-equal, equations-symmetric, sum-rearranged, union-rearranged, none-of}
-use Rattle.replacing.specs.VisibleAlike.{member-rearranged, OneOrigin, consistent-clear, clear-one, Like, like, like-none, any-alike, keep-alike, AlikeVisible, sorts-alike, names-alike, sort-names-alike, member-alike, consistent-alike, formals-alike, origin-of-alike, items-union-alike, unite-visible-alike}
+use Rattle.replacing.specs.VisibleAlike.{member-rearranged, Once, OneOrigin, consistent-clear, clear-one, Like, like, like-none, any-alike, keep-alike, AlikeVisible, sorts-alike, names-alike, sort-names-alike, member-alike, consistent-alike, formals-alike, origin-of-alike, items-union-alike, unite-visible-alike}
 
 -- ---- nothing is left, nothing is wrong
 
@@ -107,10 +107,11 @@ module _ (τ : Name → Name) (keeps : (v w : Name) → same (τ v) (τ w) ≡ s
   unfolding room
   room-alike {n} {n′} a = rw (size-alike a, sym (rearranged-length (a .visible .parameters)))
 
-  -- ---- what is accepted is alike, and its visible sorts of one name have one origin
+  -- ---- what is accepted is alike, its parameters have different names, and its visible sorts of one name have one origin
 
   pub record Both (n n′ : Normal) : Type 0 where
     pub alike : Alike n n′
+    pub once : Once (n .visible)
     pub one : OneOrigin (n .visible .items)
     pub tagged : Every (Tagged tags) (n .hidden .equations)
 
@@ -123,12 +124,14 @@ module _ (τ : Name → Name) (keeps : (v w : Name) → same (τ v) (τ w) ≡ s
   checked-alike {n} {n′} a t k e =
       let c = then-fine (consistent (n .visible) []) (room n >> fine n) k e in
       let r = then-fine (room n) (fine n) k (c .1) in
+      let clear = consistent-clear (n .visible) [] (c .0) in
       let q : n ≡ k = fine-same n k (r .1) in (
         n′,
         rw (consistent-alike τ keeps (a .visible) [] (c .0), room-alike a, r .0),
         record {
           alike = subst (λ (x : Normal). Alike x n′) q a;
-          one = subst (λ (x : Normal). OneOrigin (x .visible .items)) q (clear-one (n .visible) [] (consistent-clear (n .visible) [] (c .0)));
+          once = subst (λ (x : Normal). Once (x .visible)) q (clear .once);
+          one = subst (λ (x : Normal). OneOrigin (x .visible .items)) q (clear-one (n .visible) [] clear);
           tagged = subst (λ (x : Normal). Every (Tagged tags) (x .hidden .equations)) q t;
         },
       )
@@ -245,7 +248,7 @@ module _ (τ : Name → Name) (keeps : (v w : Name) → same (τ v) (τ w) ≡ s
       let found : any (is-called (τ (r .old))) is′ ≡ true =
       any-alike (re-item τ) _ (is-called (r .old)) (called-kept τ keeps (r .old)) d ∙ h .0 in
       let none-wrong =
-      none-of (λ (i : Item). i .name) (λ a b. false) (λ (i : Item). is-called (τ (r .old)) i && not (may-name (τ (r .new)) (i .shape))) is′
+      none-of (λ (i : Item). is-called (τ (r .old)) i && not (may-name (τ (r .new)) (i .shape))) is′
       (rearranged-every _ (d .arranged) (every-map _ _ (re-item τ) fits is (any-none _ is (not-true _ (h .1))))) in
       rw (found, none-wrong)
     where

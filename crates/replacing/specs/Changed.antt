@@ -90,18 +90,22 @@ turned τ keeps tags n n′ a = record {
   equations = Permᴰ·symm (a .equations .arranged);
 }
 
+pub good-placed : (τ : Name → Name) (keeps : (v w : Name) → same (τ v) (τ w) ≡ same v w) (asked : Name) (ms : List Module)
+    → Every PlainModule ms → Every (EasyModule τ keeps (tags-of ms)) ms → Every (GoodPlaced τ keeps (tags-of ms)) (reached asked ms)
+good-placed τ keeps asked ms plain easy =
+    let tags = tags-of ms in
+    every-so _ (GoodPlaced τ keeps tags) (reached asked ms) (λ x h. record { plain = h .0 .0; easy = h .0 .1; has-tags = tags-had x (h .1) })
+    (reached-all (λ m. PlainModule m × EasyModule τ keeps tags m) asked ms (every-both PlainModule (EasyModule τ keeps tags) ms plain easy))
+  where
+    tags-had : (x : Placed) → equations-in ms (x .number) ≡ x .self .equations → HasTags (tags-of ms) (x .number) 0 (x .self .equations)
+    tags-had x q = has-tags (tags-of ms) (x .number) 0 (x .self .equations) (tags-at ms x q)
+
 pub changed : (τ : Name → Name) (keeps : (v w : Name) → same (τ v) (τ w) ≡ same v w) (asked : Name) (ms : List Module)
     → Every PlainModule ms → Every PlainModule (map (re-module τ) ms) → Every (EasyModule τ keeps (tags-of ms)) ms
     → (count : ℕ) (n : Normal) → normalise asked ms ≡ normalised count n
     → normalise asked (map (re-module τ) ms) ≡ normalised count (in-order (re-normal τ n))
 changed τ keeps asked ms plain plain′ easy count n e =
     let tags = tags-of ms in
-    let good =
-    every-so _ (GoodPlaced τ keeps tags) (reached asked ms) (λ x h. record { plain = h .0 .0; easy = h .0 .1; has-tags = tags-had x (h .1) })
-    (reached-all (λ m. PlainModule m × EasyModule τ keeps tags m) asked ms (every-both PlainModule (EasyModule τ keeps tags) ms plain easy)) in
-    let t = normalise-alike τ keeps tags asked ms good count n e in
+    let t = normalise-alike τ keeps tags asked ms (good-placed τ keeps asked ms plain easy) count n e in
     let accepted = call-accepted asked (map (re-module τ) ms) count (t .0) plain′ (t .1) in
     t .1 ∙ ap (normalised count) (accepted-one-order (t .0) (re-normal τ n) (accepted .normal) (turned τ keeps tags n (t .0) (t .2 .alike)))
-  where
-    tags-had : (x : Placed) → equations-in ms (x .number) ≡ x .self .equations → HasTags (tags-of ms) (x .number) 0 (x .self .equations)
-    tags-had x q = has-tags (tags-of ms) (x .number) 0 (x .self .equations) (tags-at ms x q)

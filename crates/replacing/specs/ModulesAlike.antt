@@ -29,7 +29,7 @@ use Rattle.promises.specs.AcceptedForms.{same-ordered}
 use Rattle.replacing.specs.Changing.{re-function, re-signature, re-parameter, re-clause, re-import, re-module, re-item, re-equation}
 use Rattle.replacing.specs.Exchanging.{map-map, pick-map, any-map, agree-map, member-kept}
 use Rattle.replacing.specs.Reordering.{Tagged}
-use Rattle.replacing.specs.VisibleAlike.{Like, like, like-none, consistent-clear, clear-one, AlikeVisible, member-alike, sort-names-alike, consistent-alike, items-union-alike}
+use Rattle.replacing.specs.VisibleAlike.{Like, like, like-none, consistent-clear, once-rearranged, clear-one, AlikeVisible, member-alike, sort-names-alike, consistent-alike, items-union-alike}
 use Rattle.replacing.specs.Alike.{Alike, Both, Follows, size-alike, room-alike, equations-union-alike, union-follows, Easier, rename-alike, bind-alike}
 use Rattle.replacing.specs.OwnAlike.{member-append, each-map, variables-kept, own-visible-alike, own-hidden-kept, available-kept, constants-alike, variables-right, equations-kept, finds-alike}
 
@@ -55,17 +55,18 @@ module _ (τ : Name → Name) (keeps : (v w : Name) → same (τ v) (τ w) ≡ s
   abbrev Leads : Normal → Outcome Normal → Type 0
   Leads k o = Follows τ keeps tags k o
 
-  record EvaluatedAlike (e e′ : Evaluated) : Type 0 where
-    name : e .name ≡ e′ .name
-    both : Twin (e .normal) (e′ .normal)
+  pub record EvaluatedAlike (e e′ : Evaluated) : Type 0 where
+    pub name : e .name ≡ e′ .name
+    pub both : Twin (e .normal) (e′ .normal)
 
-  abbrev EnvAlike : List Evaluated → List Evaluated → Type 0
+  abbrev pub EnvAlike : List Evaluated → List Evaluated → Type 0
   EnvAlike env env′ = InTurn EvaluatedAlike env env′
 
   empty-both : Twin empty empty
   unfolding empty nothing-visible nothing-hidden
   empty-both = record {
     alike = record { visible = record { parameters = List·Permᴰ·nil; items = like-none _ }; hidden-items = like-none _; equations = like-none _ };
+    once = tt;
     one = λ a b m. elim m [ ];
     tagged = tt;
   }
@@ -108,7 +109,7 @@ module _ (τ : Name → Name) (keeps : (v w : Name) → same (τ v) (τ w) ≡ s
         let r = clause-alike c (z .0) b (f .0) (f .1) in
         rw (r .1) (clauses-alike cs (z .1) (r .2) k (f .2))
 
-    expressions-alike : (is : List Import) → Every EasyImport is → (ns : List Normal) → expressions env is ≡ fine ns
+    pub expressions-alike : (is : List Import) → Every EasyImport is → (ns : List Normal) → expressions env is ≡ fine ns
         → (ns′ : List Normal) × (expressions env′ (map (re-import τ) is) ≡ fine ns′) × InTurn Twin ns ns′
     unfolding expressions _>>=_ re-import
     expressions-alike [] z ns e = ([], refl, subst (λ (x : List Normal). InTurn Twin x []) (fine-same [] ns e) tt)
@@ -130,7 +131,7 @@ module _ (τ : Name → Name) (keeps : (v w : Name) → same (τ v) (τ w) ≡ s
         let r = union-follows τ keeps tags (b .alike) (z .0 .alike) (b .tagged) (z .0 .tagged) (f .0) (f .1) in
         rw (r .1) (united-alike xs xs′ (z .1) (r .2) k (f .2))
 
-    imported-alike : (is : List Import) → Every EasyImport is → (k : Normal) → imported env is ≡ fine k → Leads k (imported env′ (map (re-import τ) is))
+    pub imported-alike : (is : List Import) → Every EasyImport is → (k : Normal) → imported env is ≡ fine k → Leads k (imported env′ (map (re-import τ) is))
     unfolding imported _>>=_
     imported-alike is z k e =
         let f = bind-fine (expressions env is) (λ ns. united empty ns) k e in
@@ -285,17 +286,18 @@ module _ (τ : Name → Name) (keeps : (v w : Name) → same (τ v) (τ w) ≡ s
         let r = then-fine (room (whole es)) _ k (f .2) in
         let t = then-fine (total-room (add-sizes total (size (whole es)))) _ k (r .1) in
         let q : in-order (whole es) ≡ k = fine-same (in-order (whole es)) k (t .1) in
-        let clear = consistent-first (c .0) in
+        let clear = consistent-clear v own (consistent-first (c .0)) in
         let tagged = own-equations-tagged home h es (f .1) in
         let a = whole-alike es tagged in
         let s = same-ordered (whole es) in
         let seen-sound =
         rearranged-every SoundVisible (Permᴰ·symm (s .items)) (subst (λ (x : Normal). Every SoundVisible (x .visible .items)) (sym q) sound) in (
           in-order (whole′ (map (re-equation τ) es)),
-          rw (own-checks-alike (c .0), own-equations-alike home es clear seen-sound (f .1), room-alike τ keeps tags a, r .0, size-alike τ keeps tags a, t .0) refl,
+          rw (own-checks-alike (c .0), own-equations-alike home es (consistent-first (c .0)) seen-sound (f .1), room-alike τ keeps tags a, r .0, size-alike τ keeps tags a, t .0) refl,
           subst (λ (x : Normal). Twin x (in-order (whole′ (map (re-equation τ) es)))) q (record {
             alike = in-order-alike a;
-            one = λ x y m k. clear-one v own (consistent-clear v own clear) x y (rearranged-member (Permᴰ·symm (s .items)) m) (rearranged-member (Permᴰ·symm (s .items)) k);
+            once = once-rearranged v (in-order (whole es) .visible) (s .parameters) (clear .once);
+            one = λ x y m k. clear-one v own clear x y (rearranged-member (Permᴰ·symm (s .items)) m) (rearranged-member (Permᴰ·symm (s .items)) k);
             tagged = rearranged-every (Tagged tags) (s .equations) (whole-tagged es tagged);
           }),
         )
@@ -375,7 +377,7 @@ module _ (τ : Name → Name) (keeps : (v w : Name) → same (τ v) (τ w) ≡ s
   abbrev pub EasyModule : Module → Type 0
   EasyModule m = Every EasyImport (m .imports)
 
-  evaluates-so : (declared earlier : List Name) (home : ℕ) (total : Size) (env : List Evaluated) (m : Module) (j k : Normal)
+  pub evaluates-so : (declared earlier : List Name) (home : ℕ) (total : Size) (env : List Evaluated) (m : Module) (j k : Normal)
       → names-right declared earlier (named-by m) ≡ fine tt → declared-once m ≡ fine tt
       → imported env (m .imports) ≡ fine j → joined-own home total m j ≡ fine k → evaluate declared earlier home total env m ≡ fine k
   unfolding evaluate _>>=_ _>>_

@@ -236,12 +236,12 @@ overloaded-symmetric a b =
 
 -- ---- where no two are at odds none is found
 
-module _ {A : Type 0} (called : A → Name) (wrong : A → A → Bool) where
-  pub none-of : (p : A → Bool) (xs : List A) → Every (λ x. p x ≡ false) xs → any p xs ≡ false
-  unfolding any pick
-  none-of p [] h = refl
-  none-of p (x ∷ xs) h = rw (h .0) (none-of p xs (h .1))
+pub none-of : {A : Type 0} (p : A → Bool) (xs : List A) → Every (λ x. p x ≡ false) xs → any p xs ≡ false
+unfolding any pick
+none-of p [] h = refl
+none-of p (x ∷ xs) h = rw (h .0) (none-of p xs (h .1))
 
+module _ {A : Type 0} (called : A → Name) (wrong : A → A → Bool) where
   at-odds-none : (xs : List A) → Pairwise (λ x y. wrong x y ≡ false) xs → at-odds called wrong xs ≡ none
   unfolding at-odds pick
   at-odds-none [] h = refl
@@ -354,6 +354,16 @@ equation-equal tags a b h k e =
     let conclusions = sides-equal (a .conclusion) (b .conclusion) (s .1) in
     let conditions = agree-equal same-sides sides-equal (a .conditions) (b .conditions) (r .1) in
     λ i. record { home = homes i; position = positions i; tag = tag i; conclusion = conclusions i; conditions = conditions i }
+
+pub equation-self : (a : ResolvedEquation) → one-equation a a ≡ true
+unfolding one-equation
+equation-self a =
+    rw (
+      eq-eqb (a .home) (a .home) refl,
+      eq-eqb (a .position) (a .position) refl,
+      sides-self (a .conclusion),
+      agree-self same-sides sides-self (a .conditions),
+    )
 
 numbers-symmetric : (a b : ℕ) → eqb a b ≡ eqb b a
 numbers-symmetric = test-symmetric eqb eqb-true (λ a. eq-eqb a a refl)

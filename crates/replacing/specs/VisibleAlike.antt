@@ -10,10 +10,10 @@ use Rattle.meaning.specs.Names.{Name, same, member}
 use Rattle.meaning.specs.Origins.{Origin, Sort, visible-sort, hidden-sort, Shape, sort-shape, function-shape, variable-shape, is-sort, Item, one-item}
 use Rattle.meaning.specs.Normal.{Slot, Visible, names-in, sorts-among, sort-names, is-called, origin-of-item, origin-of, formals, same-slot, origins-agree, sort-agrees, shape-agrees, types-agree, same-formals, is-parameter-of, unite-visible}
 use Rattle.meaning.specs.Checks.{fine, _>>_, unless, least-at-odds, other-origin, sorts-clash, functions-clash, other-output, both-in-one, overloaded, consistent}
-use Rattle.meaning.specs.OrderLaws.{Every, Pairwise, Rearranged, pairwise-rearranged, none-least-at-odds, same-equal, same-self}
+use Rattle.meaning.specs.OrderLaws.{Pairwise, Rearranged, pairwise-rearranged, none-least-at-odds, same-equal, same-self}
 use Rattle.meaning.specs.Mirror.{then-fine, unless-fine}
 use Rattle.promises.specs.ListingLaws.{origin-equal, item-equal}
-use Rattle.promises.specs.Sound.{compatible, union-left, union-right}
+use Rattle.promises.specs.Sound.{compatible, every-any, union-left, union-right}
 use Rattle.promises.specs.SameListing.{keep-rearranged, kept-member}
 use Rattle.replacing.specs.Changing.{re-origin, re-sort, re-type, re-shape, re-item}
 use Rattle.replacing.specs.Exchanging.{any-map, keep-map, first-map, member-kept, origin-kept, sort-kept, sorts-kept, shape-kept, is-sort-kept, is-function-kept, item-kept, called-kept, names-in-kept, items-united}
@@ -115,10 +115,6 @@ member-map-from g (x ∷ xs) m =
 kept-sort : (is : List Item) (i : Item) → List·Memᴰ i (sorts-among is) → List·Memᴰ i is × (is-sort (i .shape) ≡ true)
 unfolding sorts-among
 kept-sort is i m = kept-member (λ (x : Item). is-sort (x .shape)) is m
-
-every-any : {A : Type 0} (xs : List A) → Every (λ x. Unit {0}) xs
-every-any [] = tt
-every-any (x ∷ xs) = (tt, every-any xs)
 
 module _ {A B : Type 0} (g : A → B) (p : B → Bool) (q : A → Bool) (h : (x : A) → p (g x) ≡ q x) {xs : List A} {ys : List B}
     (d : Like g xs ys) where
