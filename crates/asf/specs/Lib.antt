@@ -6,3 +6,4 @@ pub mod ReadNames
 pub mod Promises
 pub mod Demand
 pub mod Replaced
+pub mod ImportOrder
