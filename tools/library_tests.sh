@@ -1,7 +1,7 @@
 #!/usr/bin/env bash
 # Tests the archive in build/library from C and from Rust, and compares it with the reference on so many seeds (library_tests.sh [SEEDS [FIRST]]);
-# on a third as many it must answer the same however the modules are divided between library and customer's text. At the end it measures the
-# stack: no call may take more than 16 KB.
+# on a third as many it must answer the same however the modules are divided between library and customer's text, and on a tenth as many pairs of
+# texts the same in whatever order imports stand, some of them twice. At the end it measures the stack: no call may take more than 20 KB.
 set -euo pipefail
 cd "$(dirname "$0")/.."
 seeds=${1:-5000} first=${2:-0}
@@ -33,4 +33,5 @@ echo "the tests and the example in Rust ran"
 cargo build --offline --release --quiet --manifest-path rust/Cargo.toml
 rust/target/release/compare proved "$seeds" "$first" "${RUN[@]}" build/driver
 rust/target/release/compare divided $((seeds / 3)) "$first" "${RUN[@]}" build/driver
-tools/stack.sh --limit 24576
+rust/target/release/compare imports $((seeds / 10)) "$first" "${RUN[@]}" build/driver
+tools/stack.sh --limit 20480

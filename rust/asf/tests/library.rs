@@ -270,7 +270,7 @@ fn the_vectors() {
     let vectors = Path::new(env!("CARGO_MANIFEST_DIR")).join("../reference/vectors");
     let mut memory = Memory::new();
     let mut count = 0;
-    for folder in ["appendix", "readings", "one", "nine", "twelve", "two", "seven"] {
+    for folder in ["appendix", "readings", "one", "nine", "twelve", "two", "seven", "eleven"] {
         for input in inputs(&vectors.join(folder)) {
             let expected = fs::read(input.with_extension("out")).expect("an output");
             let text = fs::read(&input).expect("an input");
@@ -280,7 +280,7 @@ fn the_vectors() {
             }
         }
     }
-    assert!(count > 377, "{} vectors", count);
+    assert!(count > 388, "{} vectors", count);
 }
 
 /// The help sheet's heading for each number: `### 7: there is no module of this name`.

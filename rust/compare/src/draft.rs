@@ -2,7 +2,7 @@
 //! most drafts are accepted; one that is not is drafted again, or kept where refusals are wanted.
 
 use crate::names;
-use crate::random::Random;
+use crate::random::{shuffle, Random};
 use crate::view::{view, View};
 use reference::syntax::*;
 
@@ -165,12 +165,6 @@ pub fn binding(
         pairs,
         actual: actual.name.clone(),
     })
-}
-
-fn shuffle<T>(elements: &mut [T], random: &mut Random) {
-    for index in (1..elements.len()).rev() {
-        elements.swap(index, random.below(index + 1));
-    }
 }
 
 /// The name of an offered function with the formal type, formal sorts replaced.

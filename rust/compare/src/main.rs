@@ -4,12 +4,13 @@ use compare::cases::{case, undivided, Case};
 use compare::deep::deep_loads;
 use compare::divided;
 use compare::engines::{self, Difference};
+use compare::import_order::{self, Agreed, Told};
 use compare::loads::loads;
 use compare::meetings::meetings;
 use compare::proved::Proved;
 use compare::shrink::shrink;
 use compare::timing;
-use reference::Answer;
+use reference::{Answer, Name};
 use std::collections::BTreeMap;
 use std::env;
 use std::error::Error;
@@ -23,6 +24,7 @@ const USAGE: &str = "usage:
   compare program PATH COUNT [FIRST]     a program like asfnorm against the reference
   compare proved COUNT FIRST DRIVER..    the proved library, behind its driver in C, against the reference
   compare divided COUNT FIRST DRIVER..   the proved library on texts divided at each module against the same undivided
+  compare imports PAIRS FIRST [DRIVER..] the proved library, or else the reference, on texts with their imports in another order
   compare time TIMES DRIVER..            times of the library and of the reference, as a table
   compare texts FOLDER                   the texts that are timed, and deep ones, each as a standard input of asfnorm
   compare input SEED                     the standard input of asfnorm for a seed";
@@ -45,6 +47,15 @@ fn main() -> Result<ExitCode, Box<dyn Error>> {
             let proved = Proved::new(&arguments[3..]);
             search(count.parse()?, first.parse()?, undivided, |case| {
                 divided::compare(&proved, case)
+            })
+        }
+        ["imports", pairs, first] => {
+            rearranged(pairs.parse()?, first.parse()?, import_order::ask_reference)
+        }
+        ["imports", pairs, first, _, ..] => {
+            let proved = Proved::new(&arguments[3..]);
+            rearranged(pairs.parse()?, first.parse()?, |case, asked| {
+                import_order::ask_proved(&proved, case, asked)
             })
         }
         ["time", times, _, ..] => {
@@ -132,6 +143,37 @@ fn search(
         }
     }
     println!("{count} seeds from {first}: no difference");
+    Ok(ExitCode::SUCCESS)
+}
+
+/// Goes through the seeds until so many pairs of texts are compared: each with the imports in its own order, and in another.
+fn rearranged(
+    pairs: u64,
+    first: u64,
+    ask: impl Fn(&Case, &Name) -> io::Result<Told>,
+) -> Result<ExitCode, Box<dyn Error>> {
+    let differ = |case: &Case| {
+        let other = import_order::other_order(case)?;
+        import_order::compare(case, &other, &ask).err()
+    };
+    let mut all = Agreed::default();
+    let (mut seed, mut compared) = (first, 0);
+    while compared < pairs {
+        let case = case(seed);
+        if let Some(other) = import_order::other_order(&case) {
+            match import_order::compare(&case, &other, &ask) {
+                Ok(agreed) => all += agreed,
+                Err(_) => {
+                    let smallest = shrink(&case, |smaller| differ(smaller).is_some());
+                    report(seed, &smallest, differ(&smallest))?;
+                    return Ok(ExitCode::FAILURE);
+                }
+            }
+            compared += 1;
+        }
+        seed += 1;
+    }
+    println!("{pairs} pairs of texts from seed {first} to {seed}: no difference; {all}");
     Ok(ExitCode::SUCCESS)
 }
 

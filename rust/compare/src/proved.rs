@@ -4,7 +4,7 @@
 use crate::cases::Case;
 use crate::driver::{Driver, Places, ReadBack, Reply, Room, FILL, MEMORY_WORDS, NAMES, VALUES};
 use crate::engines::{reference, reference_with_short_memory, Difference};
-use reference::{fetch, next_line, parts, Answer, Name, Step, NAME_BYTES};
+use reference::{fetch, next_line, parts, Answer, Name, Step, Texts, NAME_BYTES};
 use std::cell::RefCell;
 use std::io;
 
@@ -40,6 +40,18 @@ impl Proved {
             *kept = None;
         }
         reply
+    }
+
+    /// All that a call leaves with enough memory and so much output, which is handed over whole, whatever the listing's length.
+    pub fn reply(&self, asked: &[u8], texts: Texts, output: usize) -> io::Result<Reply> {
+        let room = Room {
+            memory: MEMORY_WORDS,
+            output,
+            values: VALUES,
+            names: NAMES,
+            listing: output,
+        };
+        self.call(|driver| driver.normalise(asked, texts, room))
     }
 
     /// With the working memory whole, and with too little; then the listing, whole and damaged; then some modules' texts.

@@ -44,3 +44,9 @@ impl Random {
 pub fn one<'p>(phrases: &[&'p str], random: &mut Random) -> &'p str {
     phrases[random.below(phrases.len())]
 }
+
+pub fn shuffle<T>(elements: &mut [T], random: &mut Random) {
+    for index in (1..elements.len()).rev() {
+        elements.swap(index, random.below(index + 1));
+    }
+}

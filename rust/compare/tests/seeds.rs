@@ -1,9 +1,10 @@
-//! The seeds reach every number that a specification can be answered with, what only two texts can have and what operators bring, and
-//! every listing is read back to its end.
+//! The seeds reach every number that a specification can be answered with, what only two texts can have and what operators bring, every
+//! listing is read back to its end, and the order of imports is of no account.
 
 use compare::cases::{case, undivided, Case};
 use compare::division::divisions;
 use compare::engines::{input, reference};
+use compare::import_order::{self, Agreed};
 use compare::operators::{declared, replace};
 use compare::spelling::plain;
 use reference::syntax::operands;
@@ -388,4 +389,21 @@ fn divided_as_undivided() {
         }
     }
     assert!(divided > 500, "{divided}");
+}
+
+/// In which order imports stand and how often one is written changes neither what is accepted nor a listing; some refusals are told otherwise.
+#[test]
+fn imports_in_another_order() {
+    let mut all = Agreed::default();
+    for seed in 0..1_000 {
+        let case = case(seed);
+        if let Some(other) = import_order::other_order(&case) {
+            match import_order::compare(&case, &other, import_order::ask_reference) {
+                Ok(agreed) => all += agreed,
+                Err(difference) => panic!("{seed}: {}\n{}", difference.expected, difference.found),
+            }
+        }
+    }
+    println!("{all}");
+    assert!(all.accepted > 1_000 && all.refused > 400 && all.told_otherwise > 5);
 }

@@ -5,7 +5,7 @@ use std::env;
 use std::fs;
 use std::path::{Path, PathBuf};
 
-/// The folder with `appendix/`, `readings/`, `one/`, `nine/`, `twelve/`, `two/` and `seven/`: from the environment, or beside this crate.
+/// The folder with `appendix/`, `readings/`, `one/`, `nine/`, `twelve/`, `two/`, `seven/` and `eleven/`: from the environment, or beside this crate.
 fn folder() -> PathBuf {
     match env::var_os("ASF_VECTORS") {
         Some(path) => PathBuf::from(path),
@@ -76,4 +76,9 @@ fn two() {
 #[test]
 fn seven() {
     run("seven", 37);
+}
+
+#[test]
+fn eleven() {
+    run("eleven", 11);
 }
