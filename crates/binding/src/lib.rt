@@ -5,6 +5,7 @@ use clauses::notes::note_formals;
 use clauses::parameters::has_parameter;
 use clauses::parameters::keep_parameters;
 use forms::Block;
+use forms::Culprit;
 use forms::Form;
 use forms::Made;
 use forms::Verdict;
@@ -234,5 +235,5 @@ pub fn bind(
             }
         }
     }
-    Made::Refused(15, p)
+    Made::Refused(15, Culprit { name: p, actual: 0 })
 }

@@ -3,6 +3,7 @@ use super::Found;
 use super::Test;
 use super::clashes::find_clash;
 use super::clashes::find_repeated;
+use forms::Culprit;
 use forms::Verdict;
 use order::order_names;
 ghost use mathlib.Core.Path.{_≡_};
@@ -29,7 +30,7 @@ fn check_overloading(
 {
     let found = find_clash(library, text, tape, w, b, n, p, Test::Overloading);
     match found {
-        Found::At(x) => Verdict::Stop(11, x),
+        Found::At(x) => Verdict::Stop(11, Culprit { name: x, actual: 0 }),
         Found::Nothing => Verdict::Fine,
     }
 }
@@ -48,7 +49,7 @@ fn check_functions(
 {
     let found = find_clash(library, text, tape, w, b, n, p, Test::Functions);
     match found {
-        Found::At(x) => Verdict::Stop(10, x),
+        Found::At(x) => Verdict::Stop(10, Culprit { name: x, actual: 0 }),
         Found::Nothing => check_overloading(library, text, tape, w, b, n, p),
     }
 }
@@ -67,7 +68,7 @@ fn check_items(
 {
     let found = find_clash(library, text, tape, w, b, n, p, Test::Sorts);
     match found {
-        Found::At(x) => Verdict::Stop(10, x),
+        Found::At(x) => Verdict::Stop(10, Culprit { name: x, actual: 0 }),
         Found::Nothing => check_functions(library, text, tape, w, b, n, p),
     }
 }
@@ -124,7 +125,7 @@ pub fn consistent(
     order_names(library, text, work, q, 2, np, p);
     let twice = find_repeated(library, text, work, q, np, p);
     match twice {
-        Found::At(x) => Verdict::Stop(15, x),
+        Found::At(x) => Verdict::Stop(15, Culprit { name: x, actual: 0 }),
         Found::Nothing => check_rows(library, text, work, t, b, n, p),
     }
 }

@@ -1,4 +1,5 @@
 // Room: of one normal form, and of all together.
+use forms::Culprit;
 use forms::Verdict;
 ghost use mathlib.Core.Path.{_≡_};
 ghost use Rattle.meaning.specs.Numbers.{parameter-room, item-room, equation-room, item-total, equation-total, node-total};
@@ -9,13 +10,13 @@ pub fn room(parameters: u32, items: u32, equations: u32) -> Verdict
     ensures { λ r. ⌜ r ≡ within parameters parameter-room items item-room equations equation-room ⌝ }
 {
     if 8 < parameters {
-        return Verdict::Stop(18, 0);
+        return Verdict::Stop(18, Culprit { name: 0, actual: 0 });
     }
     if 512 < items {
-        return Verdict::Stop(18, 0);
+        return Verdict::Stop(18, Culprit { name: 0, actual: 0 });
     }
     if 256 < equations {
-        return Verdict::Stop(18, 0);
+        return Verdict::Stop(18, Culprit { name: 0, actual: 0 });
     }
     Verdict::Fine
 }
@@ -25,13 +26,13 @@ pub fn total_room(items: u32, equations: u32, nodes: u32) -> Verdict
     ensures { λ r. ⌜ r ≡ within items item-total equations equation-total nodes node-total ⌝ }
 {
     if 1024 < items {
-        return Verdict::Stop(18, 0);
+        return Verdict::Stop(18, Culprit { name: 0, actual: 0 });
     }
     if 512 < equations {
-        return Verdict::Stop(18, 0);
+        return Verdict::Stop(18, Culprit { name: 0, actual: 0 });
     }
     if 4096 < nodes {
-        return Verdict::Stop(18, 0);
+        return Verdict::Stop(18, Culprit { name: 0, actual: 0 });
     }
     Verdict::Fine
 }

@@ -8,6 +8,7 @@ use super::pairs::pair_count;
 use super::searches::find_like;
 use super::searches::has_sort;
 use super::sorts::sorts_right;
+use forms::Culprit;
 use forms::Form;
 use forms::Verdict;
 use tables::Row;
@@ -198,7 +199,7 @@ pub fn wrong_pair(
         if binds(library, text, work, t, m, actual, k) {
             k += 1;
         } else {
-            return Verdict::Stop(16, old_word(&work[0..t], pairs, k));
+            return Verdict::Stop(16, Culprit { name: old_word(&work[0..t], pairs, k), actual: 0 });
         }
     }
     Verdict::Fine

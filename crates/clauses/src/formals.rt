@@ -1,6 +1,7 @@
 // Formal items by name: whether there is one, and the least name among them that no pair binds.
 use super::Found;
 use super::pairs::paired_word;
+use forms::Culprit;
 use forms::Verdict;
 use names::joint::not_after;
 use tables::Row;
@@ -136,7 +137,7 @@ pub fn unpaired(library: &[u8], text: &[u8], work: &[u32], t: usize, m: Mode) ->
 {
     let least = least_unpaired(library, text, work, t, m);
     match least {
-        Found::At(w) => Verdict::Stop(16, w),
+        Found::At(w) => Verdict::Stop(16, Culprit { name: w, actual: 0 }),
         Found::Nothing => Verdict::Fine,
     }
 }

@@ -4,6 +4,7 @@ use super::pairs::new_word;
 use super::pairs::old_word;
 use super::pairs::pair_count;
 use super::searches::is_visible;
+use forms::Culprit;
 use forms::Verdict;
 use names::joint::is_infix;
 use names::joint::is_operator;
@@ -152,7 +153,7 @@ pub fn wrong_renaming(
         if renames(library, text, work, t, pairs, k, visible, count) {
             k += 1;
         } else {
-            return Verdict::Stop(14, old_word(&work[0..t], pairs, k));
+            return Verdict::Stop(14, Culprit { name: old_word(&work[0..t], pairs, k), actual: 0 });
         }
     }
     Verdict::Fine

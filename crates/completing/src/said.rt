@@ -4,6 +4,7 @@ use super::Totals;
 use super::hidden::join_hidden;
 use super::room::fitting_all;
 use forms::Block;
+use forms::Culprit;
 use forms::Form;
 use forms::Made;
 use own::OwnRows;
@@ -81,7 +82,7 @@ fn join_said(
         let h = join_hidden(library, text, work, t, g, f, b);
         return fitting_all(h, totals);
     }
-    Made::Refused(18, 0)
+    Made::Refused(18, Culprit { name: 0, actual: 0 })
 }
 
 // The same, where the equations could be typed.

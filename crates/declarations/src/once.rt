@@ -1,4 +1,5 @@
 // 9: a parameter's name, or a sort or a function (with its type) of one section, that is declared a second time.
+use forms::Culprit;
 use forms::Verdict;
 use tables::declarations::same_declared;
 use tables::entries::is_parameter_role;
@@ -68,7 +69,7 @@ fn once_at(library: &[u8], text: &[u8], tape: &[u32], a: u32, i: u32) -> Verdict
     if is_declaring(role) {
         let start = section_start(tape, a, i);
         if is_repeat(library, text, tape, start, i) {
-            return Verdict::Stop(9, name_at(tape, i as usize));
+            return Verdict::Stop(9, Culprit { name: name_at(tape, i as usize), actual: 0 });
         }
         return Verdict::Fine;
     }

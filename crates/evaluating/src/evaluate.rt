@@ -3,6 +3,7 @@ use super::states::State;
 use super::states::kept;
 use super::steps::completed;
 use super::steps::first_checks;
+use forms::Culprit;
 use forms::Made;
 use forms::Verdict;
 use modules::Heads;
@@ -13,10 +14,10 @@ ghost use Rattle.evaluating.specs.Sofar.{Ready};
 ghost use Rattle.evaluating.specs.Stepping.{Stepping};
 ghost use Rattle.evaluating.specs.Next.{LastRoom, LastStepping};
 
-// How a module's evaluation ends: its normal form is kept, or it is refused with the number and the word of the culprit's name.
+// How a module's evaluation ends: its normal form is kept, or it is refused with the number and the culprit.
 pub enum Stepped {
     Kept(State),
-    Refused(u32, u32),
+    Refused(u32, Culprit),
 }
 
 // Steps 3 and 4 for module k.

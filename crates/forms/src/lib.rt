@@ -26,16 +26,22 @@ pub struct EquationRow {
     pub count: u32,
 }
 
-// How a check ends: passed, or refused with its number and the word of the culprit's name (0 for a blank one).
-pub enum Verdict {
-    Fine,
-    Stop(u32, u32),
+// The culprit of a refusal: the word of its name, and where a binding's pair is wrong the word of the actual name; 0 for a blank one.
+pub struct Culprit {
+    pub name: u32,
+    pub actual: u32,
 }
 
-// How an evaluation ends: with a normal form, or refused with the number and the word of the culprit's name.
+// How a check ends: passed, or refused with its number and the culprit.
+pub enum Verdict {
+    Fine,
+    Stop(u32, Culprit),
+}
+
+// How an evaluation ends: with a normal form, or refused with the number and the culprit.
 pub enum Made {
     Done(Form),
-    Refused(u32, u32),
+    Refused(u32, Culprit),
 }
 
 // A part of the working memory from `low` up to `high`, in which a normal form is made: its parts in this order, each with room for so many

@@ -6,21 +6,22 @@ use lib.Dec.{eqb, leb, ltb}
 use lib.ListN.{length, take, drop, getD}
 use Rattle.meaning.specs.Lists.{pick}
 use Rattle.meaning.specs.Names.{bytes, byte, slice, Name, same}
-use Rattle.meaning.specs.Numbers.{text-size, name-size, memory-size, program-output, accepted, not-allowed, over-size, lent-short}
+use Rattle.meaning.specs.Numbers.{text-size, name-size, memory-size, program-output, accepted, not-allowed, over-size, lent-short, formal-absent, formal-unpaired}
 use Rattle.meaning.specs.Tokens.{run-end}
 use Rattle.meaning.specs.Written.{decimal}
+use Rattle.meaning.specs.Checks.{Culprit, lone}
 use Rattle.meaning.specs.Reached.{Ended, normalised, refused-at, normalise}
 use Rattle.meaning.specs.Texts.{Texts, two-texts, Reading, all-read, refused-in, read-texts}
 use Rattle.meaning.specs.Listing.{Line, line, lines-text, listing-lines}
 
--- ---- the answer: its number, the count of modules evaluated, the module evaluated when refused, the culprit's name and place, and the
+-- ---- the answer: its number, the count of modules evaluated, the module evaluated when refused, the culprit and its place, and the
 -- listing's lines. On a refusal there is no line
 
 pub record Answer : Type 0 where
   pub number : ℕ
   pub modules : ℕ
   pub evaluating : Name
-  pub culprit : Name
+  pub culprit : Culprit
   pub at : ℕ
   -- whether that place is in the library
   pub in-library : Bool
@@ -29,19 +30,19 @@ pub record Answer : Type 0 where
 abbrev pub listing : Answer → List ℕ
 listing r = lines-text (r .lines)
 
-unfoldable pub refusal : ℕ → ℕ → Name → Name → ℕ → Answer
+unfoldable pub refusal : ℕ → ℕ → Name → Culprit → ℕ → Answer
 refusal number count m w at = record { number = number; modules = count; evaluating = m; culprit = w; at = at; in-library = false; lines = [] }
 
 -- from 6 up the place is 0
 unfoldable pub of-ended : Name → Ended → Answer
 of-ended asked (normalised count n) =
-    record { number = accepted; modules = count; evaluating = []; culprit = []; at = 0; in-library = false; lines = listing-lines asked n }
+    record { number = accepted; modules = count; evaluating = []; culprit = lone []; at = 0; in-library = false; lines = listing-lines asked n }
 of-ended asked (refused-at number count m w) = refusal number count m w 0
 
 -- for 1 to 5 the module is blank and the count is 0
 unfoldable pub unread : Bool → ℕ → ℕ → Answer
 unread in-library number at =
-    record { number = number; modules = 0; evaluating = []; culprit = []; at = at; in-library = in-library; lines = [] }
+    record { number = number; modules = 0; evaluating = []; culprit = lone []; at = at; in-library = in-library; lines = [] }
 
 unfoldable pub of-read : Name → Reading → Answer
 of-read asked (all-read ms) = of-ended asked (normalise asked ms)
@@ -51,13 +52,13 @@ of-read asked (refused-in in-library number at) = unread in-library number at
 
 -- the listing is longer than the lent output
 unfoldable pub within : ℕ → Name → Answer → Answer
-within output-lent asked r = pick (leb (length (listing r)) output-lent) r (refusal lent-short (r .modules) asked [] 0)
+within output-lent asked r = pick (leb (length (listing r)) output-lent) r (refusal lent-short (r .modules) asked (lone []) 0)
 
 -- the answer of a call that lends so much working memory and output: before all else, the memory may be too short
 unfoldable pub answer : ℕ → ℕ → Name → Texts → Answer
 answer memory-lent output-lent asked t =
     let r = within output-lent asked (of-read asked (read-texts t)) in
-    pick (ltb memory-lent memory-size) (refusal lent-short 0 asked [] 0) r
+    pick (ltb memory-lent memory-size) (refusal lent-short 0 asked (lone []) 0) r
 
 -- the lent output after the call: the listing, and the bytes after it unchanged
 unfoldable pub output-after : Answer → List ℕ → List ℕ
@@ -73,10 +74,19 @@ memory-after memory = map (λ (x : ℕ). 0) memory
 unfoldable pub place-text : Answer → List ℕ
 place-text r = pick (r .in-library) (bytes "library:") [] ++ decimal (r .at)
 
+-- a binding's mistakes, 22 to 27, are told with the actual name
+unfoldable pub tells-actual : ℕ → Bool
+tells-actual k = pick (leb formal-absent k) (leb k formal-unpaired) false
+
+unfoldable pub names-told : Answer → List Line
+names-told r =
+    let actual = pick (tells-actual (r .number)) (line "actual" (r .culprit .actual) ∷ []) [] in
+    line "module" (r .evaluating) ∷ line "name" (r .culprit .name) ∷ actual
+
 unfoldable pub printed-lines : Answer → List Line
 printed-lines r =
     let told = line "answer" (decimal (r .number)) ∷ line "modules" (decimal (r .modules)) ∷ [] in
-    let refused-lines = line "module" (r .evaluating) ∷ line "name" (r .culprit) ∷ line "at" (place-text r) ∷ [] in
+    let refused-lines = names-told r ++ (line "at" (place-text r) ∷ []) in
     told ++ pick (eqb (r .number) accepted) (r .lines) refused-lines
 
 unfoldable pub printed : Answer → List ℕ
@@ -146,12 +156,12 @@ answer-to memory-lent output-lent input =
     let told = answer memory-lent output-lent asked (texts-in rest) in
     let read = pick (library-too-long rest) (unread true over-size text-size) told in
     let r = pick (has-request input) read (unread false not-allowed 0) in
-    pick (ltb memory-lent memory-size) (refusal lent-short 0 asked [] 0) r
+    pick (ltb memory-lent memory-size) (refusal lent-short 0 asked (lone []) 0) r
 
 unfoldable pub asfnorm : List ℕ → List ℕ
 asfnorm input = printed (answer-to memory-size program-output input)
 
 -- opens every definition of this file
 unfoldable pub answer-opened : Unit {0}
-unfolding refusal of-ended unread of-read within answer output-after memory-after place-text printed-lines printed has-request said-by has-library-line library-too-long texts-in answer-to asfnorm
+unfolding refusal of-ended unread of-read within answer output-after memory-after place-text tells-actual names-told printed-lines printed has-request said-by has-library-line library-too-long texts-in answer-to asfnorm
 answer-opened = tt

@@ -12,26 +12,27 @@ use Rattle.meaning.specs.Numbers.{module-limit, memory-size, program-out
 use Rattle.meaning.specs.Syntax.{Module}
 use Rattle.meaning.specs.Grammar.{Result, done, refused, read}
 use Rattle.meaning.specs.Written.{decimal}
+use Rattle.meaning.specs.Checks.{lone}
 use Rattle.meaning.specs.Reached.{Ended, normalised, refused-at, normalise, module-names}
 use Rattle.meaning.specs.Texts.{Texts, two-texts, behind, read-behind, read-texts}
 use Rattle.meaning.specs.Listing.{Line, line, lines-text}
-use Rattle.meaning.specs.Answer.{Answer, refusal, of-ended, unread, of-read, within, answer, place-text, printed-lines, printed, request, request-end, has-request, has-library-line, library-too-long, texts-in, answer-to, asfnorm}
+use Rattle.meaning.specs.Answer.{Answer, refusal, of-ended, unread, of-read, within, answer, place-text, names-told, printed-lines, printed, request, request-end, has-request, has-library-line, library-too-long, texts-in, answer-to, asfnorm}
 
 -- ---- document 01's words
 
 unfoldable pub of-one : Name → Result (List Module) → Answer
 of-one asked (done ms s) = of-ended asked (normalise asked ms)
-of-one asked (refused number at) = refusal number 0 [] [] at
+of-one asked (refused number at) = refusal number 0 [] (lone []) at
 
 unfoldable pub answer-of-one : ℕ → ℕ → Name → List ℕ → Answer
 answer-of-one memory-lent output-lent asked text =
     let r = within output-lent asked (of-one asked (read text module-limit [])) in
-    pick (ltb memory-lent memory-size) (refusal lent-short 0 asked [] 0) r
+    pick (ltb memory-lent memory-size) (refusal lent-short 0 asked (lone []) 0) r
 
 unfoldable pub plainly-printed : Answer → List ℕ
 plainly-printed r =
     let told = line "answer" (decimal (r .number)) ∷ line "modules" (decimal (r .modules)) ∷ [] in
-    let refused-lines = line "module" (r .evaluating) ∷ line "name" (r .culprit) ∷ line "at" (decimal (r .at)) ∷ [] in
+    let refused-lines = names-told r ++ (line "at" (decimal (r .at)) ∷ []) in
     lines-text (told ++ pick (eqb (r .number) accepted) (r .lines) refused-lines)
 
 -- ---- are what two texts get, the library empty
@@ -45,7 +46,7 @@ pub answer-base : (memory output : ℕ) (asked : Name) (text : List ℕ)
     → answer memory output asked (two-texts [] text) ≡ answer-of-one memory output asked text
 unfolding answer answer-of-one two-texts read-texts read-behind pick module-names
 answer-base memory output asked text =
-    ap (λ (r : Answer). pick (ltb memory memory-size) (refusal lent-short 0 asked [] 0) (within output asked r))
+    ap (λ (r : Answer). pick (ltb memory memory-size) (refusal lent-short 0 asked (lone []) 0) (within output asked r))
     (one-read asked (read text module-limit []))
 
 abbrev Unmarked : Answer → Type 0
@@ -77,8 +78,8 @@ answer-to-one memory output input =
     let e = request-end input in
     let asked = pick (has-request input) (slice input (length request) e) [] in
     let told = answer-of-one memory output asked (drop (e + 1) input) in
-    let r = pick (has-request input) told (refusal not-allowed 0 [] [] 0) in
-    pick (ltb memory memory-size) (refusal lent-short 0 asked [] 0) r
+    let r = pick (has-request input) told (refusal not-allowed 0 [] (lone []) 0) in
+    pick (ltb memory memory-size) (refusal lent-short 0 asked (lone []) 0) r
 
 either-unmarked : (b : Bool) (x y : Answer) → Unmarked x → Unmarked y → Unmarked (pick b x y)
 unfolding pick

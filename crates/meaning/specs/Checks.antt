@@ -13,10 +13,19 @@ use Rattle.meaning.specs.Normal.{Slot, Visible, Normal}
 
 -- ---- outcomes
 
--- what comes out, or the refusal's number and the culprit's name
+-- the culprit: its name, and where a binding's pair is wrong the actual name too
+pub record Culprit : Type 0 where
+  pub name : Name
+  pub actual : Name
+
+-- no actual name
+abbrev pub lone : Name → Culprit
+lone w = record { name = w; actual = [] }
+
+-- what comes out, or the refusal's number and the culprit
 pub data Outcome (A : Type 0) : Type 0 where
   fine : A → Outcome A
-  stop : ℕ → Name → Outcome A
+  stop : ℕ → Culprit → Outcome A
 
 infixl 20 _>>=_
 infixl 20 _>>_
@@ -34,7 +43,11 @@ Check = Outcome (Unit {0})
 -- the refusal k of the culprit, if there is one
 unfoldable pub unless : ℕ → Option Name → Check
 unless k none = fine tt
-unless k (some w) = stop k w
+unless k (some w) = stop k (lone w)
+
+-- the refusal k of the culprit where the test fails
+unfoldable pub needs : ℕ → Culprit → Bool → Check
+needs k c right = pick right (fine tt) (stop k c)
 
 -- ---- clashes are sought pair by pair, and the search stops at the first
 
@@ -123,7 +136,7 @@ add-sizes a b = record { items = a .items + b .items; equations = a .equations +
 
 -- 18, with a blank culprit, where the test fails
 unfoldable pub fits : Bool → Check
-fits enough = pick enough (fine tt) (stop no-room [])
+fits enough = needs no-room (lone []) enough
 
 -- one normal form
 unfoldable pub room : Normal → Check
@@ -145,5 +158,5 @@ checked n = do
 
 -- opens every definition of this file
 unfoldable pub checks-opened : Unit {0}
-unfolding _>>=_ _>>_ unless at-odds least-at-odds other-origin sorts-clash functions-clash other-output in-one-parameter both-in-one overloaded consistent term-nodes sides-nodes equation-nodes size add-sizes fits room total-room checked
+unfolding _>>=_ _>>_ unless needs at-odds least-at-odds other-origin sorts-clash functions-clash other-output in-one-parameter both-in-one overloaded consistent term-nodes sides-nodes equation-nodes size add-sizes fits room total-room checked
 checks-opened = tt

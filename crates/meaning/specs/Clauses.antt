@@ -1,4 +1,4 @@
--- The clauses of an import expression (document 01, "Evaluating", step 3; 02, request Two): renaming, 14, and binding, 15 and 16.
+-- The clauses of an import expression (document 01, "Evaluating", step 3; 02, requests Two and Five): renaming, 14, and binding, 15 and 22 to 27.
 use Prim.Native.Nat.{ℕ}
 use mathlib.Core.Bool.{Bool, true, false, not, _&&_, _||_}
 use mathlib.Core.Option.{Option, none, some}
@@ -7,11 +7,11 @@ use lib.Dec.{eqb}
 use lib.ListN.{length}
 use Rattle.meaning.specs.Lists.{pick, keep, any, first}
 use Rattle.meaning.specs.Names.{Name, same, is-operator, is-infix, member, least}
-use Rattle.meaning.specs.Numbers.{bad-renaming, bad-parameter, bad-binding}
+use Rattle.meaning.specs.Numbers.{bad-renaming, bad-parameter, formal-absent, formal-twice, actual-absent, other-kind, other-type, formal-unpaired}
 use Rattle.meaning.specs.Syntax.{Pair}
-use Rattle.meaning.specs.Origins.{Origin, same-origin, Sort, visible-sort, hidden-sort, FunctionType, Shape, sort-shape, function-shape, variable-shape, same-shape, Item, in-parameter}
+use Rattle.meaning.specs.Origins.{Origin, same-origin, Sort, visible-sort, hidden-sort, FunctionType, Shape, sort-shape, function-shape, variable-shape, same-shape, is-function, Item, in-parameter}
 use Rattle.meaning.specs.Normal.{Slot, Visible, Normal, names-in, sorts-among, sort-names, is-called, origin-of, slot-names, formals, unite, move-type, move}
-use Rattle.meaning.specs.Checks.{Outcome, stop, _>>=_, _>>_, unless, checked}
+use Rattle.meaning.specs.Checks.{Culprit, lone, Outcome, fine, stop, _>>=_, _>>_, Check, unless, needs, checked}
 
 -- ---- pairs
 
@@ -91,26 +91,39 @@ module _ (formal : List Item) (rs : List Pair) (whole actual : Visible) where
   unfoldable pub sorts-right : FunctionType → Bool
   sorts-right t = not (any (λ (s : Sort). not (sort-right s)) (t .output ∷ t .inputs))
 
-  -- a formal sort needs a visible sort of the actual module, so no operator; a formal function needs a visible function with the new name
-  -- and the formal type after the formal sorts are replaced, so one with as many arguments
-  unfoldable pub shape-right : Name → Shape → Bool
-  shape-right new sort-shape = member new (sort-names actual)
-  shape-right new (variable-shape s) = true
-  shape-right new (function-shape t) =
+  -- a formal sort needs a visible sort of the actual module, so no operator; a formal function a visible function
+  unfoldable pub kind-right : Name → Shape → Bool
+  kind-right new sort-shape = member new (sort-names actual)
+  kind-right new (variable-shape s) = true
+  kind-right new (function-shape t) = any (λ (i : Item). is-called new i && is-function (i .shape)) (actual .items)
+
+  -- a formal function needs one with the formal type after the formal sorts are replaced, so one with as many arguments
+  unfoldable pub type-right : Name → Shape → Bool
+  type-right new sort-shape = true
+  type-right new (variable-shape s) = true
+  type-right new (function-shape t) =
       sorts-right t
       && any (λ (i : Item). is-called new i && same-shape (function-shape (move-type new-sort new-function t)) (i .shape)) (actual .items)
 
-  -- a name of both kinds needs both
-  unfoldable pub pair-right : Pair → Bool
-  pair-right r =
-      any (is-called (r .old)) formal
-      && not (any (λ (i : Item). is-called (r .old) i && not (shape-right (r .new) (i .shape))) formal)
+  -- of every formal item that the pair binds: a name of both kinds needs both
+  unfoldable pub all-right : (Name → Shape → Bool) → Pair → Bool
+  all-right right r = not (any (λ (i : Item). is-called (r .old) i && not (right (r .new) (i .shape))) formal)
 
-  -- the first pair that is wrong, or whose formal name was paired before
-  unfoldable pub wrong-pair : List Name → List Pair → Option Name
-  wrong-pair seen [] = none
-  wrong-pair seen (x ∷ xs) =
-      let more = wrong-pair (x .old ∷ seen) xs in pick (pair-right x && not (member (x .old) seen)) more (some (x .old))
+  -- a pair gets the first number that fits; `seen` are the formal names that were paired before
+  unfoldable pub pair-right : List Name → Pair → Check
+  pair-right seen r =
+      let both : Culprit = record { name = r .old; actual = r .new } in
+      do
+        needs formal-absent both (any (is-called (r .old)) formal)
+        needs formal-twice both (not (member (r .old) seen))
+        needs actual-absent both (any (is-called (r .new)) (actual .items))
+        needs other-kind both (all-right kind-right r)
+        needs other-type both (all-right type-right r)
+
+  -- the first pair that gets one is told
+  unfoldable pub pairs-right : List Name → List Pair → Check
+  pairs-right seen [] = fine tt
+  pairs-right seen (x ∷ xs) = pair-right seen x >> pairs-right (x .old ∷ seen) xs
 
   -- the least formal name without a pair
   unfoldable pub unpaired : Option Name
@@ -133,15 +146,15 @@ bound-to p rs n actual =
     let σ = new-sort formal rs (n .visible) (actual .visible) in
     let φ = new-function formal rs (n .visible) (actual .visible) in
     do
-      unless bad-binding (wrong-pair formal rs (n .visible) (actual .visible) [] rs)
-      unless bad-binding (unpaired formal rs (n .visible) (actual .visible))
+      pairs-right formal rs (n .visible) (actual .visible) [] rs
+      unless formal-unpaired (unpaired formal rs (n .visible) (actual .visible))
       checked (unite (move σ φ (without p n)) actual)
 
 -- the parameter must exist
 unfoldable pub bind : Name → List Pair → Normal → Normal → Outcome Normal
-bind p rs n actual = let r = bound-to p rs n actual in pick (member p (slot-names (n .visible .parameters))) r (stop bad-parameter p)
+bind p rs n actual = let r = bound-to p rs n actual in pick (member p (slot-names (n .visible .parameters))) r (stop bad-parameter (lone p))
 
 -- opens every definition of this file
 unfoldable pub clauses-opened : Unit {0}
-unfolding paired otherwise renaming arguments-fit may-name renames wrong-renaming rename same-origins is-among is-formal-sort new-sort new-function sort-right sorts-right shape-right pair-right wrong-pair unpaired without-visible without bound-to bind
+unfolding paired otherwise renaming arguments-fit may-name renames wrong-renaming rename same-origins is-among is-formal-sort new-sort new-function sort-right sorts-right kind-right type-right all-right pair-right pairs-right unpaired without-visible without bound-to bind
 clauses-opened = tt

@@ -10,7 +10,7 @@ use Rattle.meaning.specs.Syntax.{Function, Signature, Parameter, Clause,
 use Rattle.meaning.specs.Origins.{ResolvedEquation, one-item}
 use Rattle.meaning.specs.Normal.{Visible, Hidden, Normal, empty, sort-names, unite-hidden, unite}
 use Rattle.meaning.specs.Written.{in-order}
-use Rattle.meaning.specs.Checks.{Outcome, fine, stop, _>>=_, _>>_, Check, unless, consistent, Size, size, add-sizes, room, total-room, checked}
+use Rattle.meaning.specs.Checks.{lone, Outcome, fine, stop, _>>=_, _>>_, Check, unless, consistent, Size, size, add-sizes, room, total-room, checked}
 use Rattle.meaning.specs.Clauses.{rename, bind}
 use Rattle.meaning.specs.Own.{own-visible, own-hidden-items, available-sorts, wrong-variable, constants}
 use Rattle.meaning.specs.Typing.{typed-equations}
@@ -44,7 +44,7 @@ unfoldable pub names-right : List Name → List Name → List Name → Check
 names-right declared earlier [] = fine tt
 names-right declared earlier (w ∷ ws) =
     let more = names-right declared earlier ws in
-    pick (missing declared w) (stop named-absent w) (pick (too-late declared earlier w) (stop named-late w) more)
+    pick (missing declared w) (stop named-absent (lone w)) (pick (too-late declared earlier w) (stop named-late (lone w)) more)
 
 -- ---- step 2. Sorts or functions (with type) repeated within one section, or a parameter name repeated: 9, at the first repeat
 
@@ -65,7 +65,7 @@ once-in-parameters seen [] = fine tt
 once-in-parameters seen (p ∷ ps) =
     let more = once-in-parameters (p .name ∷ seen) ps in
     let here = once-in (p .signature) >> more in
-    pick (member (p .name) seen) (stop declared-twice (p .name)) here
+    pick (member (p .name) seen) (stop declared-twice (lone (p .name))) here
 
 unfoldable pub declared-once : Module → Check
 declared-once m = do

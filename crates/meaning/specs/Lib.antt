@@ -28,5 +28,6 @@ pub mod ElementLaws
 pub mod OrderLaws
 pub mod ListingOrder
 pub mod Mirror
+pub mod PairLaws
 pub mod Visibly
 pub mod Samples

@@ -8,7 +8,7 @@ use native.Mathlib.Omega.{arith}
 use Rattle.meaning.specs.Lists.{pick}
 use Rattle.meaning.specs.Names.{Name}
 use Rattle.meaning.specs.Numbers.{no-room}
-use Rattle.meaning.specs.Checks.{_>>=_, _>>_, Outcome, Check, unless, fits, fine, stop}
+use Rattle.meaning.specs.Checks.{_>>=_, _>>_, Culprit, lone, Outcome, Check, unless, needs, fits, fine, stop}
 
 -- b is what f makes of a; or a is refused by 18; or both are refused alike
 abbrev pub Mirrors : {A B : Type 0} → (A → B) → Outcome A → Outcome B → Type 0
@@ -16,7 +16,7 @@ Mirrors f (fine a) b = b ≡ fine (f a)
 Mirrors f (stop k w) b = (k ≡ no-room) ⊎ (b ≡ stop k w)
 
 -- nothing is fine and refused
-pub never : {A X : Type 0} (k : ℕ) (w : Name) (a : A) → stop k w ≡ fine a → X
+pub never : {A X : Type 0} (k : ℕ) (w : Culprit) (a : A) → stop k w ≡ fine a → X
 never k w a e = let z : _≡_ {A = ℕ} 0 1 = cc in absurd (omega arith)
 
 module _ {A B : Type 0} (f : A → B) where
@@ -28,12 +28,12 @@ module _ {A B : Type 0} (f : A → B) where
 
   -- a check for room, that only the first makes
   pub mirror-room : (enough : Bool) (a : Outcome A) (b : Outcome B) → Mirrors f a b → Mirrors f (fits enough >> a) b
-  unfolding _>>_ fits pick
+  unfolding _>>_ fits needs pick
   mirror-room true a b h = h
   mirror-room false a b h = inl refl
 
   -- a choice that both make, where the second way refuses
-  pub mirror-pick : (b : Bool) (k : ℕ) (w : Name) (a : Outcome A) (a′ : Outcome B) → Mirrors f a a′
+  pub mirror-pick : (b : Bool) (k : ℕ) (w : Culprit) (a : Outcome A) (a′ : Outcome B) → Mirrors f a a′
       → Mirrors f (pick b a (stop k w)) (pick b a′ (stop k w))
   unfolding pick
   mirror-pick true k w a a′ h = h
@@ -82,7 +82,12 @@ bind-fine (stop k w) p y e = never k w y e
 pub unless-fine : (k : ℕ) (o : Option Name) → unless k o ≡ fine tt → o ≡ none
 unfolding unless
 unless-fine k none e = refl
-unless-fine k (some w) e = never k w tt e
+unless-fine k (some w) e = never k (lone w) tt e
+
+pub needs-fine : (k : ℕ) (w : Culprit) (right : Bool) → needs k w right ≡ fine tt → right ≡ true
+unfolding needs pick
+needs-fine k w true e = refl
+needs-fine k w false e = never k w tt e
 
 -- ---- two outcomes with one mirror
 
@@ -96,11 +101,11 @@ Together f (stop k w) (stop k′ w′) = (k ≡ no-room) ⊎ ((k′ ≡ no-room)
 pub fine-same : {A : Type 0} (a b : A) → fine a ≡ fine b → a ≡ b
 fine-same a b e = cc
 
-stop-number : {A : Type 0} (k k′ : ℕ) (w w′ : Name) → _≡_ {A = Outcome A} (stop k w) (stop k′ w′) → k ≡ k′
+stop-number : {A : Type 0} (k k′ : ℕ) (w w′ : Culprit) → _≡_ {A = Outcome A} (stop k w) (stop k′ w′) → k ≡ k′
 stop-number k k′ w w′ e = cc
 
-stop-name : {A : Type 0} (k k′ : ℕ) (w w′ : Name) → _≡_ {A = Outcome A} (stop k w) (stop k′ w′) → w ≡ w′
-stop-name k k′ w w′ e = cc
+stop-culprit : {A : Type 0} (k k′ : ℕ) (w w′ : Culprit) → _≡_ {A = Outcome A} (stop k w) (stop k′ w′) → w ≡ w′
+stop-culprit k k′ w w′ e = cc
 
 pub one-mirror : {A B : Type 0} (f : A → B) (a a′ : Outcome A) (b : Outcome B) → Mirrors f a b → Mirrors f a′ b → Together f a a′
 one-mirror f (fine x) (fine x′) b h h′ = fine-same (f x) (f x′) (sym h ∙ h′)
@@ -111,4 +116,4 @@ one-mirror f (stop k w) (fine x) b (inr e) h′ = never k w (f x) (sym e ∙ h�
 one-mirror f (stop k w) (stop k′ w′) b (inl e) h′ = inl e
 one-mirror f (stop k w) (stop k′ w′) b (inr e) (inl e′) = inr (inl e′)
 one-mirror f (stop k w) (stop k′ w′) b (inr e) (inr e′) =
-    inr (inr (stop-number k k′ w w′ (sym e ∙ e′), stop-name k k′ w w′ (sym e ∙ e′)))
+    inr (inr (stop-number k k′ w w′ (sym e ∙ e′), stop-culprit k k′ w w′ (sym e ∙ e′)))

@@ -126,10 +126,6 @@ bad-renaming = 14
 abbrev pub bad-parameter : ℕ
 bad-parameter = 15
 
--- 16: binding pair wrong, an operator that does not fit included; then a formal unpaired
-abbrev pub bad-binding : ℕ
-bad-binding = 16
-
 -- 17: ill-typed equation
 abbrev pub ill-typed : ℕ
 ill-typed = 17
@@ -145,6 +141,27 @@ lent-short = 19
 -- 21: bad listing line
 abbrev pub bad-line : ℕ
 bad-line = 21
+
+-- 22, 23: a binding's pair whose formal name the parameter lacks; one whose formal name was paired before
+abbrev pub formal-absent : ℕ
+formal-absent = 22
+
+abbrev pub formal-twice : ℕ
+formal-twice = 23
+
+-- 24, 25, 26: a pair whose actual name is not visible; is of another kind; has not the type, an operator that does not fit included
+abbrev pub actual-absent : ℕ
+actual-absent = 24
+
+abbrev pub other-kind : ℕ
+other-kind = 25
+
+abbrev pub other-type : ℕ
+other-type = 26
+
+-- 27: a formal without a pair
+abbrev pub formal-unpaired : ℕ
+formal-unpaired = 27
 
 -- opens every definition of this file
 unfoldable pub numbers-opened : Unit {0}

@@ -9,7 +9,7 @@ use Rattle.meaning.specs.Names.{Name, member}
 use Rattle.meaning.specs.Numbers.{name-size, asked-absent}
 use Rattle.meaning.specs.Syntax.{Module}
 use Rattle.meaning.specs.Normal.{Normal, empty}
-use Rattle.meaning.specs.Checks.{Outcome, fine, stop, Size, size, add-sizes}
+use Rattle.meaning.specs.Checks.{Culprit, lone, Outcome, fine, stop, Size, size, add-sizes}
 use Rattle.meaning.specs.Evaluate.{Evaluated, named-by, evaluate}
 
 -- ---- reached from M: M, and every module named in an import or a binding by a reached module and declared before it
@@ -45,7 +45,7 @@ reached asked ms = reached-among asked 0 [] ms
 -- `count` modules have been evaluated, the refused one included
 pub data Ended : Type 0 where
   normalised : (count : ℕ) → Normal → Ended
-  refused-at : (number count : ℕ) (evaluating culprit : Name) → Ended
+  refused-at : (number count : ℕ) (evaluating : Name) (culprit : Culprit) → Ended
 
 unfoldable pub end-or : ℕ → Name → (Normal → Ended) → Outcome Normal → Ended
 end-or count m more (fine n) = more n
@@ -76,7 +76,7 @@ short-or-blank w = pick (leb (length w) name-size) w []
 unfoldable pub normalise : Name → List Module → Ended
 normalise asked ms =
     let r = in-turn (module-names ms) [] empty (reached asked ms) in
-    pick (member asked (module-names ms)) r (refused-at asked-absent 0 asked (short-or-blank asked))
+    pick (member asked (module-names ms)) r (refused-at asked-absent 0 asked (lone (short-or-blank asked)))
 
 -- opens every definition of this file
 unfoldable pub reached-opened : Unit {0}

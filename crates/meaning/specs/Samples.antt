@@ -3,14 +3,15 @@ use mathlib.Core.Path.{_≡_, refl}
 use Prim.Native.Nat.{ℕ}
 use Prim.Native.String.{String}
 use mathlib.Core.Bool.{Bool, true, false}
-use mathlib.Core.List.{[]}
+use mathlib.Core.List.{[], _++_}
 use lib.Dec.{ltb}
 use lib.ListN.{length}
 use Rattle.meaning.specs.Lists.{pick}
 use Rattle.meaning.specs.Names.{bytes, Name, bytes-not-after, not-after}
-use Rattle.meaning.specs.Numbers.{memory-size, no-token-there, not-allowed, clashing, bad-renaming, bad-parameter, lent-short, bad-line}
+use Rattle.meaning.specs.Numbers.{memory-size, no-token-there, not-allowed, clashing, bad-renaming, bad-parameter, lent-short, bad-line, formal-absent, formal-twice, actual-absent, other-kind, other-type, formal-unpaired}
+use Rattle.meaning.specs.Checks.{lone}
 use Rattle.meaning.specs.Texts.{Texts, two-texts}
-use Rattle.meaning.specs.Answer.{listing, refusal, answer}
+use Rattle.meaning.specs.Answer.{Answer, listing, refusal, answer, asfnorm}
 use Rattle.meaning.specs.Reader.{a-line, at-end, refused-line, line-at}
 use Rattle.meaning.specs.Trials.{all-opened}
 
@@ -50,7 +51,7 @@ first-equals = refl
 
 -- ---- what is lent, whatever the memory's size
 
-short-memory : (memory output : ℕ) (asked : Name) (t : Texts) → ltb memory memory-size ≡ true → answer memory output asked t ≡ refusal lent-short 0 asked [] 0
+short-memory : (memory output : ℕ) (asked : Name) (t : Texts) → ltb memory memory-size ≡ true → answer memory output asked t ≡ refusal lent-short 0 asked (lone []) 0
 unfolding answer pick
 short-memory memory output asked t e = rw e
 
@@ -58,14 +59,14 @@ exact-output : listing (answer memory-size 15 (bytes "M") (two-texts [] (bytes "
 unfolding all-opened
 exact-output = refl
 
-short-output : answer memory-size 14 (bytes "M") (two-texts [] (bytes "module M begin end M")) ≡ refusal lent-short 1 (bytes "M") [] 0
+short-output : answer memory-size 14 (bytes "M") (two-texts [] (bytes "module M begin end M")) ≡ refusal lent-short 1 (bytes "M") (lone []) 0
 unfolding all-opened
 short-output = refl
 
 -- ---- readings that look right
 
 -- a section is no string: a parameter called `hidden` is not the hidden section
-hidden-parameter : answer memory-size 0 (bytes "M") (two-texts [] (bytes "module M begin parameters hidden begin sorts A end hidden sorts A end M")) ≡ refusal clashing 1 (bytes "M") (bytes "A") 0
+hidden-parameter : answer memory-size 0 (bytes "M") (two-texts [] (bytes "module M begin parameters hidden begin sorts A end hidden sorts A end M")) ≡ refusal clashing 1 (bytes "M") (lone (bytes "A")) 0
 unfolding all-opened
 hidden-parameter = refl
 
@@ -131,12 +132,12 @@ unfolding all-opened
 joins-left = refl
 
 -- after an operator comes a primary
-no-second-operator : answer memory-size 0 (bytes "M") (two-texts [] (bytes "module M begin equations [e] a + - b = a end M")) ≡ refusal not-allowed 0 [] [] 33
+no-second-operator : answer memory-size 0 (bytes "M") (two-texts [] (bytes "module M begin equations [e] a + - b = a end M")) ≡ refusal not-allowed 0 [] (lone []) 33
 unfolding all-opened
 no-second-operator = refl
 
 -- a lone hyphen before > is the arrow; a longer run that ends so is one operator, and the > behind it is no token
-no-arrow : answer memory-size 0 (bytes "M") (two-texts [] (bytes "module M begin equations [e]a+->a=a end M")) ≡ refusal no-token-there 0 [] [] 31
+no-arrow : answer memory-size 0 (bytes "M") (two-texts [] (bytes "module M begin equations [e]a+->a=a end M")) ≡ refusal no-token-there 0 [] (lone []) 31
 unfolding all-opened
 no-arrow = refl
 
@@ -149,21 +150,21 @@ unfolding all-opened
 hyphens = refl
 
 -- and after a comment's closing hyphens they are no token
-closing-hyphens : answer memory-size 0 (bytes "M") (two-texts [] (bytes "module M --c---- begin end M")) ≡ refusal no-token-there 0 [] [] 14
+closing-hyphens : answer memory-size 0 (bytes "M") (two-texts [] (bytes "module M --c---- begin end M")) ≡ refusal no-token-there 0 [] (lone []) 14
 unfolding all-opened
 closing-hyphens = refl
 
 -- an operator has its number of arguments, in every instance that it renames
 wrong-number :
     answer memory-size 0 (bytes "N") (two-texts [] (bytes "module M begin exports begin sorts A functions h:A#A->A h:A->A end end M module N begin imports M { renamed by [h->_*_] } end N"))
-    ≡ refusal bad-renaming 2 (bytes "N") (bytes "h") 0
+    ≡ refusal bad-renaming 2 (bytes "N") (lone (bytes "h")) 0
 unfolding all-opened
 wrong-number = refl
 
 -- and is no sort
 operator-for-sort :
     answer memory-size 0 (bytes "N") (two-texts [] (bytes "module M begin exports begin sorts A end end M module N begin imports M { renamed by [A->*_] } end N"))
-    ≡ refusal bad-renaming 2 (bytes "N") (bytes "A") 0
+    ≡ refusal bad-renaming 2 (bytes "N") (lone (bytes "A")) 0
 unfolding all-opened
 operator-for-sort = refl
 
@@ -188,7 +189,7 @@ parameter-bound = refl
 -- renamed on one way only, it is two
 parameter-renamed :
     answer memory-size 0 (bytes "N") (two-texts [] (bytes "module L begin parameters P begin sorts X end P end L module A begin imports L { renamed by [ X -> Y ] } end A module N begin imports A, L end N"))
-    ≡ refusal bad-parameter 3 (bytes "N") (bytes "P") 0
+    ≡ refusal bad-parameter 3 (bytes "N") (lone (bytes "P")) 0
 unfolding all-opened
 parameter-renamed = refl
 
@@ -203,7 +204,7 @@ parameter-open = refl
 -- a sort of its types has two origins
 parameter-sorts :
     answer memory-size 0 (bytes "N") (two-texts [] (bytes "module L begin parameters P begin functions f : Z -> Z end P, Q begin sorts Z end Q end L module C begin exports begin sorts Y end end C module D begin exports begin sorts Y end end D module N begin imports L { Q bound by [ Z -> Y ] to C }, L { Q bound by [ Z -> Y ] to D } end N"))
-    ≡ refusal bad-parameter 4 (bytes "N") (bytes "P") 0
+    ≡ refusal bad-parameter 4 (bytes "N") (lone (bytes "P")) 0
 unfolding all-opened
 parameter-sorts = refl
 
@@ -217,13 +218,42 @@ parameter-empty = refl
 
 parameters-empty :
     answer memory-size 0 (bytes "N") (two-texts [] (bytes "module L begin parameters P begin end P end L module A begin parameters P begin end P end A module N begin imports A, L end N"))
-    ≡ refusal bad-parameter 3 (bytes "N") (bytes "P") 0
+    ≡ refusal bad-parameter 3 (bytes "N") (lone (bytes "P")) 0
 unfolding all-opened
 parameters-empty = refl
 
 -- M's own is never an imported one
 parameter-own :
     answer memory-size 0 (bytes "N") (two-texts [] (bytes "module L begin parameters P begin sorts X end P end L module N begin parameters P begin sorts X end P imports L end N"))
-    ≡ refusal bad-parameter 2 (bytes "N") (bytes "P") 0
+    ≡ refusal bad-parameter 2 (bytes "N") (lone (bytes "P")) 0
 unfolding all-opened
 parameter-own = refl
+
+-- ---- which binding mistake (document 02, request Five)
+
+-- what is told of a binding by these pairs: P has the formals X and f : X -> X, and the actual module Y, g : Y -> Y and c : -> Y
+abbrev bound-by-pairs : String → Answer
+bound-by-pairs pairs =
+    answer memory-size 99 (bytes "N")
+    (two-texts [] (bytes "module L begin parameters P begin sorts X functions f : X -> X end P end L module B begin exports begin sorts Y functions g : Y -> Y c : -> Y end end B module N begin imports L { P bound by [" ++ bytes pairs ++ bytes "] to B } end N"))
+
+abbrev mistake : ℕ → String → String → Answer
+mistake number formal actual = refusal number 3 (bytes "N") (record { name = bytes formal; actual = bytes actual }) 0
+
+-- each pair here would get the next number too
+mistakes : (bound-by-pairs "Z->W" ≡ mistake formal-absent "Z" "W") × (bound-by-pairs "X->Y,X->W" ≡ mistake formal-twice "X" "W")
+    × (bound-by-pairs "X->Y,f->W" ≡ mistake actual-absent "f" "W") × (bound-by-pairs "X->Y,f->Y" ≡ mistake other-kind "f" "Y")
+    × (bound-by-pairs "X->Y,f->c" ≡ mistake other-type "f" "c") × (bound-by-pairs "X->Y" ≡ mistake formal-unpaired "f" "")
+unfolding all-opened
+mistakes = (refl, refl, refl, refl, refl, refl)
+
+-- the pairs in text order, whatever their numbers; a formal sort without a good pair is 26 at its function
+first-pair-told : (bound-by-pairs "f->c,Z->W" ≡ mistake other-type "f" "c") × (bound-by-pairs "f->g,X->W" ≡ mistake other-type "f" "g")
+unfolding all-opened
+first-pair-told = (refl, refl)
+
+mistake-printed :
+    asfnorm (bytes "normalise=N\nmodule L begin parameters P begin sorts X end P end L module N begin imports L { P bound by [ X -> Y ] to L } end N")
+    ≡ bytes "answer=24\nmodules=2\nmodule=N\nname=X\nactual=Y\nat=0\n"
+unfolding all-opened
+mistake-printed = refl

@@ -9,7 +9,7 @@ use Rattle.meaning.specs.Numbers.{ill-typed}
 use Rattle.meaning.specs.Syntax.{Term, node, Terms, no-terms, _then_, terms, Sides, Equation, conditions-of}
 use Rattle.meaning.specs.Origins.{Section, export-section, hidden-section, parameter-section, Origin, Sort, same-sort, FunctionType, Head, visible-head, hidden-head, ResolvedTerm, var, app, ResolvedTerms, none-left, _and-then_, ResolvedSides, ResolvedEquation, Shape, sort-shape, function-shape, variable-shape, Item}
 use Rattle.meaning.specs.Normal.{is-called}
-use Rattle.meaning.specs.Checks.{Outcome, fine, stop, _>>=_, _>>_}
+use Rattle.meaning.specs.Checks.{lone, Outcome, fine, stop, _>>=_, _>>_}
 
 -- ---- what is typed
 
@@ -70,8 +70,8 @@ joined-sides (some e) (some es) = some (e ∷ es)
 
 -- the equation of module `home` at position `at`; the culprit is its tag
 unfoldable pub made-equation : ℕ → ℕ → Name → Option ResolvedSides → Option (List ResolvedSides) → Outcome ResolvedEquation
-made-equation home at tag none ks = stop ill-typed tag
-made-equation home at tag (some c) none = stop ill-typed tag
+made-equation home at tag none ks = stop ill-typed (lone tag)
+made-equation home at tag (some c) none = stop ill-typed (lone tag)
 made-equation home at tag (some c) (some ks) = fine (record { home = home; position = at; tag = tag; conclusion = c; conditions = ks })
 
 -- `known` are the items in reach of M's text: the visible ones, and M's own hidden ones

@@ -6,13 +6,13 @@ use mathlib.Core.Option.{Option, none, some}
 use mathlib.Core.List.{List, [], _∷_, map}
 use Rattle.meaning.specs.Lists.{pick}
 use Rattle.meaning.specs.Names.{Name, same, member}
-use Rattle.meaning.specs.Numbers.{bad-renaming, bad-parameter, bad-binding}
+use Rattle.meaning.specs.Numbers.{bad-renaming, bad-parameter, formal-unpaired}
 use Rattle.meaning.specs.Syntax.{Pair, Clause, Import, Equation, Module, conditions-of, renamed-by, bound-by}
 use Rattle.meaning.specs.Origins.{ResolvedSides, Item}
 use Rattle.meaning.specs.Normal.{Visible, Normal, nothing-visible, empty, slot-names, formals, unite-visible, unite, move-visible, move}
 use Rattle.meaning.specs.Written.{visible-in-order, in-order}
-use Rattle.meaning.specs.Checks.{_>>=_, _>>_, Outcome, Check, unless, consistent, Size, room, total-room, checked, fine, stop}
-use Rattle.meaning.specs.Clauses.{renaming, wrong-renaming, rename, new-sort, new-function, wrong-pair, unpaired, without-visible, without, bound-to, bind}
+use Rattle.meaning.specs.Checks.{_>>=_, _>>_, lone, Outcome, Check, unless, consistent, Size, room, total-room, checked, fine, stop}
+use Rattle.meaning.specs.Clauses.{renaming, wrong-renaming, rename, new-sort, new-function, pairs-right, unpaired, without-visible, without, bound-to, bind}
 use Rattle.meaning.specs.Typing.{made-equation, typed-sides, typed-conditions, typed-equations}
 use Rattle.meaning.specs.Evaluate.{Evaluated, named-by, names-right, declared-once, normal-of, clause, clauses, expressions, united, imported, seen-sorts, joined-visible, own-checks, own-equations, joined-own, evaluate}
 use Rattle.meaning.specs.Mirror.{Mirrors, mirror-then, mirror-room, mirror-pick, mirror-bind, mirror-told, told, told-bind}
@@ -31,12 +31,12 @@ unfoldable pub bound-visibly : Name → List Pair → Visible → Visible → Ou
 bound-visibly p rs v actual =
     let formal = formals p v in
     do
-      unless bad-binding (wrong-pair formal rs v actual [] rs)
-      unless bad-binding (unpaired formal rs v actual)
+      pairs-right formal rs v actual [] rs
+      unless formal-unpaired (unpaired formal rs v actual)
       checked-visibly (unite-visible (move-visible (new-sort formal rs v actual) (new-function formal rs v actual) (without-visible p v)) actual)
 
 unfoldable pub bind-visibly : Name → List Pair → Visible → Visible → Outcome Visible
-bind-visibly p rs v actual = let r = bound-visibly p rs v actual in pick (member p (slot-names (v .parameters))) r (stop bad-parameter p)
+bind-visibly p rs v actual = let r = bound-visibly p rs v actual in pick (member p (slot-names (v .parameters))) r (stop bad-parameter (lone p))
 
 -- what is seen of a module that was evaluated
 pub record Seen : Type 0 where

@@ -1,5 +1,6 @@
 // The modules of a tape: where each is declared, whether the modules that one names stand before it, and which modules it reaches.
 // A module's number is its place among the modules of the text, from 0.
+use forms::Culprit;
 use forms::Verdict;
 use tables::entries::name_at;
 use tables::entries::role_at;
@@ -118,10 +119,10 @@ fn name_right(library: &[u8], text: &[u8], tape: &[u32], h: Heads, k: u32, w: u3
     let count = h.count;
     let p = find_number(library, text, tape, h, w);
     if count <= p {
-        return Verdict::Stop(7, w);
+        return Verdict::Stop(7, Culprit { name: w, actual: 0 });
     }
     if k <= p {
-        return Verdict::Stop(8, w);
+        return Verdict::Stop(8, Culprit { name: w, actual: 0 });
     }
     Verdict::Fine
 }

@@ -1,4 +1,5 @@
 // A module's equations typed into a form that has its visible items and its own hidden ones (17).
+use forms::Culprit;
 use forms::Form;
 use forms::Made;
 use tables::entries::next_with;
@@ -55,7 +56,7 @@ fn made_of(f: Form, r: Equated) -> Made
     ensures { λ q. ⌜ q ≡ own-made f r ⌝ }
 {
     match r {
-        Equated::Stop(tag) => Made::Refused(17, tag),
+        Equated::Stop(tag) => Made::Refused(17, Culprit { name: tag, actual: 0 }),
         Equated::All { count, free } => {
             let nodes = f.nodes as usize;
             let node_count = span(free, nodes);

@@ -3,6 +3,7 @@ use evaluating::evaluate::Stepped;
 use evaluating::evaluate::evaluate;
 use evaluating::states::State;
 use evaluating::states::first_state;
+use forms::Culprit;
 use keeping::clear_forms;
 use layout::kept_start;
 use layout::table_start;
@@ -14,7 +15,7 @@ ghost use Rattle.names.specs.Joint.{joint};
 ghost use Rattle.turns.specs.Asked.{Asked};
 ghost use Rattle.turns.specs.Turns.{Resumed, Given, Turned, AskedTurned, AllTurned};
 
-// How a call ends: each normal form is kept, that of the latest module for number `last`; or the refusal's number with the words of the module evaluated then and of the culprit's name.
+// How a call ends: each normal form is kept, that of the latest module for number `last`; or the refusal's number with the word of the module evaluated then and the culprit.
 // `count` modules were evaluated, the refused one included.
 pub enum Ended {
     Normalised {
@@ -25,7 +26,7 @@ pub enum Ended {
         number: u32,
         count: u32,
         module: u32,
-        culprit: u32,
+        culprit: Culprit,
     },
 }
 
