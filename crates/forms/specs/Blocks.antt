@@ -6,13 +6,13 @@ use Rattle.meaning.specs.Names.{Name}
 use Rattle.meaning.specs.Numbers.{parameter-room, item-room, equation-room, node-limit}
 use Rattle.meaning.specs.Normal.{Normal}
 use Rattle.meaning.specs.Checks.{Outcome, fine, stop}
-use Rattle.names.specs.Word.{name-of}
 use Rattle.forms.specs.declared.Form.{Form}
 use Rattle.forms.specs.declared.Block.{Block}
 use Rattle.forms.specs.declared.Made.{Made}
 use Rattle.forms.specs.declared.Made.the-variants.{Done, Refused}
 use Rattle.forms.specs.Forms.{Stands}
 use Rattle.forms.specs.FormLaws.{Apart}
+use Rattle.forms.specs.Verdicts.{culprit-of}
 
 -- the parts of a block of a memory of `size` words, the tape below it up to t: in order, with room for so many parameters, visible and
 -- hidden rows, and notes for so many rows of a source
@@ -58,7 +58,7 @@ abbrev pub Makes : List ℕ → List ℕ → List ℕ → Made → Outcome Norma
 Makes text tape w (Done f) (fine n) = Stands text tape w f n
 Makes text tape w (Done f) (stop k c) = ⊥
 Makes text tape w (Refused k x) (fine n) = ⊥
-Makes text tape w (Refused j x) (stop k c) = (j ≡ k) × (name-of text x ≡ c)
+Makes text tape w (Refused j x) (stop k c) = (j ≡ k) × (culprit-of text x ≡ c)
 
 -- a form that was made lies in the block, and fits
 pub record MadeThere (b : Block) (f : Form) : Type 0 where
