@@ -9,7 +9,7 @@ use Rattle.meaning.specs.Numbers.{bad-parameter, asked-absent}
 use Rattle.meaning.specs.Syntax.{Pair, Clause, renamed-by, bound-by, Import, Module}
 use Rattle.meaning.specs.Origins.{ResolvedEquation}
 use Rattle.meaning.specs.Normal.{Visible, Normal, empty, unite-hidden, unite, slot-names}
-use Rattle.meaning.specs.Checks.{Outcome, fine, stop, _>>=_, _>>_, Size, checked}
+use Rattle.meaning.specs.Checks.{lone, Outcome, fine, stop, _>>=_, _>>_, Size, checked}
 use Rattle.meaning.specs.Clauses.{rename, without, bound-to, bind}
 use Rattle.meaning.specs.Own.{own-hidden-items}
 use Rattle.meaning.specs.Evaluate.{Evaluated, normal-of, clause, clauses, expressions, united, imported, seen-sorts, joined-visible, own-equations, joined-hidden, joined-own, evaluate}
@@ -58,7 +58,7 @@ bound-to-sound p rs n actual h k =
 pub bound-sound : (p : Name) (rs : List Pair) (n actual : Normal) → HiddenSound n → HiddenSound actual → Comes HiddenSound (bind p rs n actual)
 unfolding bind
 bound-sound p rs n actual h k =
-    by-cases (Comes HiddenSound) (member p (slot-names (n .visible .parameters))) (bound-to p rs n actual) (stop bad-parameter p)
+    by-cases (Comes HiddenSound) (member p (slot-names (n .visible .parameters))) (bound-to p rs n actual) (stop bad-parameter (lone p))
     (λ e. bound-to-sound p rs n actual h k) (λ e. tt)
 
 abbrev pub SoundEnvironment : List Evaluated → Type 0
@@ -155,6 +155,6 @@ pub normalise-sound : (asked : Name) (ms : List Module) → SoundEnd (normalise 
 unfolding normalise pick
 normalise-sound asked ms = go (member asked (module-names ms))
   where
-    go : (b : Bool) → SoundEnd (pick b (in-turn (module-names ms) [] empty (reached asked ms)) (refused-at asked-absent 0 asked (short-or-blank asked)))
+    go : (b : Bool) → SoundEnd (pick b (in-turn (module-names ms) [] empty (reached asked ms)) (refused-at asked-absent 0 asked (lone (short-or-blank asked))))
     go true = turns-sound (module-names ms) [] empty (reached asked ms) tt empty-sound
     go false = tt

@@ -10,7 +10,7 @@ use Rattle.meaning.specs.Names.{Name, member}
 use Rattle.meaning.specs.Numbers.{asked-absent}
 use Rattle.meaning.specs.Syntax.{Equation, Module}
 use Rattle.meaning.specs.Normal.{Normal, empty}
-use Rattle.meaning.specs.Checks.{Outcome, fine, stop}
+use Rattle.meaning.specs.Checks.{lone, Outcome, fine, stop}
 use Rattle.meaning.specs.Evaluate.{Evaluated, named-by, evaluate}
 use Rattle.meaning.specs.Reached.{wanted, Placed, reached-among, reached, Ended, normalised, refused-at, end-or, total-of, in-turn, module-names, short-or-blank, normalise}
 use Rattle.meaning.specs.Mirror.{never}
@@ -152,7 +152,7 @@ normalise-anyhow asked ms ms′ plain plain′ a = rw (← names-same ms ms′ a
         (reached-plain asked 0 [] ms′ plain′)
 
     go : (b : Bool)
-        → EndsAlike (pick b (in-turn (module-names ms) [] empty (reached asked ms)) (refused-at asked-absent 0 asked (short-or-blank asked)))
-        (pick b (in-turn (module-names ms) [] empty (reached asked ms′)) (refused-at asked-absent 0 asked (short-or-blank asked)))
+        → EndsAlike (pick b (in-turn (module-names ms) [] empty (reached asked ms)) (refused-at asked-absent 0 asked (lone (short-or-blank asked))))
+        (pick b (in-turn (module-names ms) [] empty (reached asked ms′)) (refused-at asked-absent 0 asked (lone (short-or-blank asked))))
     go true = turns
     go false = (refl, refl)

@@ -14,6 +14,7 @@ use Rattle.meaning.specs.Names.{Name}
 use Rattle.meaning.specs.Numbers.{accepted, lent-short, memory-size}
 use Rattle.meaning.specs.Syntax.{Module}
 use Rattle.meaning.specs.Texts.{Texts}
+use Rattle.meaning.specs.Checks.{lone}
 use Rattle.meaning.specs.Reached.{Ended, normalised, refused-at, normalise}
 use Rattle.meaning.specs.Listing.{lines-text}
 use Rattle.meaning.specs.Answer.{Answer, listing, refusal, of-ended, of-read, within, answer, output-after}
@@ -113,7 +114,7 @@ answers-anyhow texts texts′ ms ms′ r asked memory output =
     ends : OneOrRefusals (listed ms) (listed ms′)
     ends = within-anyhow output asked _ _ (ended-anyhow asked ms ms′ (normal-forms texts texts′ ms ms′ r asked))
 
-    go : (b : Bool) → OneOrRefusals (pick b (refusal lent-short 0 asked [] 0) (listed ms)) (pick b (refusal lent-short 0 asked [] 0) (listed ms′))
+    go : (b : Bool) → OneOrRefusals (pick b (refusal lent-short 0 asked (lone []) 0) (listed ms)) (pick b (refusal lent-short 0 asked (lone []) 0) (listed ms′))
     go true = inl refl
     go false = ends
 

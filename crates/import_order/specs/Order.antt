@@ -10,7 +10,7 @@ use Rattle.meaning.specs.Names.{Name}
 use Rattle.meaning.specs.Numbers.{named-absent, named-late}
 use Rattle.meaning.specs.Syntax.{Import, Module, variables-of}
 use Rattle.meaning.specs.Normal.{Normal, empty}
-use Rattle.meaning.specs.Checks.{Outcome, fine, stop, _>>=_, Size}
+use Rattle.meaning.specs.Checks.{lone, Outcome, fine, stop, _>>=_, Size}
 use Rattle.meaning.specs.Own.{resolved, function-type, own-sort, own-function, own-section, own-slot, own-visible, own-variable, own-hidden-items, available-sorts}
 use Rattle.meaning.specs.Evaluate.{Evaluated, import-names, named-by, missing, too-late, names-right, declared-once, normal-of, clauses, expressions, united, imported, seen-sorts, joined-visible, own-checks, own-equations, joined-hidden, joined-own, evaluate}
 use Rattle.meaning.specs.Mirror.{then-fine, bind-fine, fine-same, never}
@@ -109,7 +109,7 @@ module _ (declared earlier : List Name) where
   names-each (w ∷ ws) e = go (missing declared w) (too-late declared earlier w) refl refl e (names-each ws)
     where
       go : (p q : Bool) → missing declared w ≡ p → too-late declared earlier w ≡ q
-          → pick p (stop named-absent w) (pick q (stop named-late w) (names-right declared earlier ws)) ≡ fine tt
+          → pick p (stop named-absent (lone w)) (pick q (stop named-late (lone w)) (names-right declared earlier ws)) ≡ fine tt
           → (names-right declared earlier ws ≡ fine tt → Every Right ws) → Every Right (w ∷ ws)
       go true q f g e i = never _ _ tt e
       go false true f g e i = never _ _ tt e

@@ -7,6 +7,7 @@ use Rattle.meaning.specs.Names.{bytes}
 use Rattle.meaning.specs.Numbers.{memory-size, program-output, accepted, over-size, clashing, bad-renaming, bad-parameter}
 use Rattle.meaning.specs.Syntax.{Import, Module}
 use Rattle.meaning.specs.Texts.{Texts, two-texts, read-texts}
+use Rattle.meaning.specs.Checks.{lone}
 use Rattle.meaning.specs.Answer.{listing, refusal, answer}
 use Rattle.meaning.specs.Trials.{all-opened}
 use Rattle.promises.specs.Instance.{modules-in}
@@ -79,26 +80,26 @@ modules-before = bytes "module S begin exports begin sorts S functions _+_:S#S->
 -- another culprit
 first-culprit :
     answer memory-size 0 (bytes "M") (two-texts modules-before (bytes "module M begin imports A { renamed by [q->r] }, B { renamed by [k->l] } end M"))
-    ≡ refusal bad-renaming 4 (bytes "M") (bytes "q") 0
+    ≡ refusal bad-renaming 4 (bytes "M") (lone (bytes "q")) 0
 unfolding all-opened modules-before
 first-culprit = refl
 
 other-culprit :
     answer memory-size 0 (bytes "M") (two-texts modules-before (bytes "module M begin imports B { renamed by [k->l] }, A { renamed by [q->r] } end M"))
-    ≡ refusal bad-renaming 4 (bytes "M") (bytes "k") 0
+    ≡ refusal bad-renaming 4 (bytes "M") (lone (bytes "k")) 0
 unfolding all-opened modules-before
 other-culprit = refl
 
 -- another number
 first-number :
     answer memory-size 0 (bytes "M") (two-texts modules-before (bytes "module M begin imports A { renamed by [X->Y] }, A, B, C end M"))
-    ≡ refusal bad-parameter 5 (bytes "M") (bytes "P") 0
+    ≡ refusal bad-parameter 5 (bytes "M") (lone (bytes "P")) 0
 unfolding all-opened modules-before
 first-number = refl
 
 other-number :
     answer memory-size 0 (bytes "M") (two-texts modules-before (bytes "module M begin imports B, C, A, A { renamed by [X->Y] } end M"))
-    ≡ refusal clashing 5 (bytes "M") (bytes "T") 0
+    ≡ refusal clashing 5 (bytes "M") (lone (bytes "T")) 0
 unfolding all-opened modules-before
 other-number = refl
 

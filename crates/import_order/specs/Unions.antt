@@ -13,7 +13,7 @@ use Rattle.meaning.specs.Names.{Name}
 use Rattle.meaning.specs.Numbers.{parameter-room, item-room, equation-room}
 use Rattle.meaning.specs.Origins.{Section, export-section, hidden-section, parameter-section, Item, in-parameter, ResolvedEquation}
 use Rattle.meaning.specs.Normal.{Slot, Visible, Normal, nothing-visible, nothing-hidden, empty}
-use Rattle.meaning.specs.Checks.{fine, sorts-clash, functions-clash, overloaded, size, fits, room}
+use Rattle.meaning.specs.Checks.{fine, sorts-clash, functions-clash, overloaded, size, needs, fits, room}
 use Rattle.meaning.specs.Trials.{all-opened}
 use Rattle.meaning.specs.OrderLaws.{Every, Rearranged, same-equal}
 use Rattle.promises.specs.ListingLaws.{both-true}
@@ -140,7 +140,7 @@ clear-part v w once d s c = record {
 
 pub room-part : (a b : Normal) → length (slots a) ≤ length (slots b) → length (items a) ≤ length (items b) → length (hidden-items a) ≤ length (hidden-items b)
     → length (equations a) ≤ length (equations b) → room b ≡ fine tt → room a ≡ fine tt
-unfolding room size fits pick
+unfolding room size fits needs pick
 room-part a b p q r s e =
     let n = length (slots b) in
     let i = length (items b) + length (hidden-items b) in

@@ -9,7 +9,7 @@ use Rattle.meaning.specs.Names.{Name, same, member}
 use Rattle.meaning.specs.Numbers.{named-absent, named-late, no-room}
 use Rattle.meaning.specs.Syntax.{Clause, Import, Module, renamed-by, bound-by}
 use Rattle.meaning.specs.Normal.{Normal}
-use Rattle.meaning.specs.Checks.{_>>=_, _>>_, Outcome, Check, Size, fits, room, total-room, fine, stop}
+use Rattle.meaning.specs.Checks.{_>>=_, _>>_, lone, Outcome, Check, Size, needs, fits, room, total-room, fine, stop}
 use Rattle.meaning.specs.Evaluate.{Evaluated, clause-names, import-names, named-by, missing, too-late, names-right, normal-of, clause, clauses, expressions, imported, joined-own, evaluate}
 use Rattle.meaning.specs.Mirror.{never, then-fine, bind-fine}
 use Rattle.promises.specs.Members.{clear, same-eq, member-here, member-right, member-left}
@@ -63,11 +63,11 @@ earlier-names d e [] h w k = clear (sym k)
 earlier-names d e (v ∷ ws) h w k = go (member v d) (member v e) refl refl h (same w v) refl k (λ g. earlier-names d e ws g w)
   where
     go : (a b : Bool) → member v d ≡ a → member v e ≡ b
-        → pick (not a) (stop named-absent v) (pick (a && not b) (stop named-late v) (names-right d e ws)) ≡ fine tt
+        → pick (not a) (stop named-absent (lone v)) (pick (a && not b) (stop named-late (lone v)) (names-right d e ws)) ≡ fine tt
         → (c : Bool) → same w v ≡ c → pick c true (member w ws) ≡ true → (names-right d e ws ≡ fine tt → member w ws ≡ true → member w e ≡ true)
         → member w e ≡ true
-    go false b p q g c r t f = never named-absent v tt (ap (λ z. z) g)
-    go true false p q g c r t f = never named-late v tt g
+    go false b p q g c r t f = never named-absent (lone v) tt (ap (λ z. z) g)
+    go true false p q g c r t f = never named-late (lone v) tt g
     go true true p q g true r t f = ap (λ (x : Name). member x e) (same-eq w v r) ∙ q
     go true true p q g false r t f = f g t
 
@@ -75,7 +75,7 @@ earlier-names d e (v ∷ ws) h w k = go (member v d) (member v e) refl refl h (s
 
 -- fine n, or 18
 abbrev pub Either : Normal → Outcome Normal → Type 0
-Either n o = (o ≡ fine n) ⊎ (o ≡ stop no-room [])
+Either n o = (o ≡ fine n) ⊎ (o ≡ stop no-room (lone []))
 
 then-either : (n : Normal) (c : Check) (a : Outcome Normal) → c ≡ fine tt → Either n a → Either n (c >> a)
 unfolding _>>_
@@ -86,7 +86,7 @@ unfolding _>>=_
 bind-either n o x f e h = subst (λ y. Either n (y >>= f)) (sym e) h
 
 room-either : (n : Normal) (enough : Bool) (a : Outcome Normal) → Either n a → Either n (fits enough >> a)
-unfolding fits _>>_ pick
+unfolding fits needs _>>_ pick
 room-either n true a h = h
 room-either n false a h = inr refl
 

@@ -12,7 +12,7 @@ use Rattle.meaning.specs.Names.{Name, same, member}
 use Rattle.meaning.specs.Numbers.{no-room}
 use Rattle.meaning.specs.Syntax.{Module}
 use Rattle.meaning.specs.Normal.{Normal, empty}
-use Rattle.meaning.specs.Checks.{Outcome, fine, stop}
+use Rattle.meaning.specs.Checks.{Culprit, lone, Outcome, fine, stop}
 use Rattle.meaning.specs.Evaluate.{Evaluated, named-by, normal-of}
 use Rattle.meaning.specs.Reached.{wanted, Placed, reached-among, reached, Ended, end-or, total-of, in-turn, module-names, normalise, normalised, refused-at}
 use Rattle.meaning.specs.Answer.{Answer, refusal, of-ended}
@@ -34,19 +34,19 @@ normalised-next c v more (fine x) h = (x, refl, h)
 normalised-next c v more (stop k w) h = absurd h
 
 -- a call that is refused is so at the next module, or later
-refused-next : (c : ℕ) (v : Name) (more : Normal → Ended) (o : Outcome Normal) (n c′ : ℕ) (y w : Name)
+refused-next : (c : ℕ) (v : Name) (more : Normal → Ended) (o : Outcome Normal) (n c′ : ℕ) (y : Name) (w : Culprit)
     → end-or c v more o ≡ refused-at n c′ y w
     → ((o ≡ stop n w) × (v ≡ y)) ⊎ ((x : Normal) × (o ≡ fine x) × (more x ≡ refused-at n c′ y w))
 unfolding end-or
 refused-next c v more (fine x) n c′ y w h = inr (x, refl, h)
 refused-next c v more (stop k u) n c′ y w h = inl (cc, cc)
 
-no-refusal : {X : Type 0} (c : ℕ) (x : Normal) (n c′ : ℕ) (y w : Name) → normalised c x ≡ refused-at n c′ y w → X
+no-refusal : {X : Type 0} (c : ℕ) (x : Normal) (n c′ : ℕ) (y : Name) (w : Culprit) → normalised c x ≡ refused-at n c′ y w → X
 no-refusal c x n c′ y w e = let z : _≡_ {A = ℕ} 0 1 = cc in absurd (omega arith)
 
 -- a module at which the call is refused is reached
 refused-reached : (d : List Name) (asked : Name) (ms : List Module) (k : ℕ) (e : List Name) (env : List Evaluated) (last : Normal) (n c : ℕ)
-    (y w : Name)
+    (y : Name) (w : Culprit)
     → in-turn d env last (reached-among asked k e ms) ≡ refused-at n c y w → ReachedIn y asked ms
 unfolding in-turn reached-among
 refused-reached d asked [] k e env last n c y w h = no-refusal _ _ n c y w h
@@ -90,16 +90,16 @@ module _ (m : Module) (x : Normal) where
       go true q = clear (sym (sym f ∙ ap (λ (v : Name). member v e) (sym (same-eq w (m .name) q)) ∙ i w k))
       go false q = refl
 
-eighteen : (n : ℕ) (w : Name) (o : Outcome Normal) (x : Normal) → Either x o → o ≡ stop n w → (n ≡ no-room → ⊥) → ⊥
+eighteen : (n : ℕ) (w : Culprit) (o : Outcome Normal) (x : Normal) → Either x o → o ≡ stop n w → (n ≡ no-room → ⊥) → ⊥
 eighteen n w o x (inl h) e small = never n w x (sym e ∙ h)
 eighteen n w o x (inr h) e small = small cc
 
 same-normal : (o : Outcome Normal) (x x′ : Normal) → Either x o → o ≡ fine x′ → x ≡ x′
 same-normal o x x′ (inl h) e = cc
-same-normal o x x′ (inr h) e = never no-room [] x′ (sym h ∙ e)
+same-normal o x x′ (inr h) e = never no-room (lone []) x′ (sym h ∙ e)
 
 -- y's own call ends with a normal form, the call of the asked module is refused at y, and not by 18: that cannot be
-both-calls : (d : List Name) (asked y : Name) (n c : ℕ) (w : Name) → (n ≡ no-room → ⊥)
+both-calls : (d : List Name) (asked y : Name) (n c : ℕ) (w : Culprit) → (n ≡ no-room → ⊥)
     → (ms : List Module) (k : ℕ) (e : List Name) (env env′ : List Evaluated) (last last′ : Normal)
     → Fresh e ms → Agree env env′ → Inside (names-in env) e → Closed y ms e (names-in env)
     → IsNormalised (in-turn d env last (reached-among y k e ms))

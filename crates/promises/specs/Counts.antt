@@ -14,10 +14,10 @@ use Rattle.meaning.specs.Lists.{pick, before, each}
 use Rattle.meaning.specs.Names.{Name, same, member}
 use Rattle.meaning.specs.Numbers.{memory-size, accepted, asked-absent, lent-short}
 use Rattle.meaning.specs.Syntax.{Signature, Parameter, Pair, Clause, renamed-by, bound-by, Import, Equation, Module}
-use Rattle.meaning.specs.Normal.{Visible, Normal, empty}
+use Rattle.meaning.specs.Normal.{Visible, Normal, empty, formals}
 use Rattle.meaning.specs.Origins.{ResolvedSides, Item}
-use Rattle.meaning.specs.Checks.{Outcome, fine, stop, _>>=_, _>>_, unless, consistent, fits, room, total-room, Size, checked}
-use Rattle.meaning.specs.Clauses.{rename, bound-to, bind}
+use Rattle.meaning.specs.Checks.{Culprit, lone, Outcome, fine, stop, _>>=_, _>>_, Check, unless, needs, consistent, fits, room, total-room, Size, checked}
+use Rattle.meaning.specs.Clauses.{rename, pair-right, pairs-right, bound-to, bind}
 use Rattle.meaning.specs.Own.{available-sorts}
 use Rattle.meaning.specs.Typing.{made-equation, typed-equations}
 use Rattle.meaning.specs.Evaluate.{Evaluated, named-by, names-right, once-in, once-in-parameters, declared-once, normal-of, clause, clauses, expressions, united, imported, own-checks, own-equations, joined-own, evaluate}
@@ -33,7 +33,7 @@ use Rattle.meaning.specs.Answer.{Answer, refusal, of-ended, unread, of-read, wi
 
 -- the module called `told` is the first refused among xs, with this number and culprit, when those before it have been evaluated;
 -- `count` of xs are evaluated, it included
-pub record RefusedIn (declared : List Name) (xs : List Placed) (number count : ℕ) (told culprit : Name) : Type 0 where
+pub record RefusedIn (declared : List Name) (xs : List Placed) (number count : ℕ) (told : Name) (culprit : Culprit) : Type 0 where
   pub accepted-before : List Placed
   pub refused : Placed
   pub not-evaluated : List Placed
@@ -68,7 +68,7 @@ module _ (declared : List Name) where
         omega (arith, h .2),
       )
 
-  in-turn-counted : (env : List Evaluated) (last : Normal) (xs : List Placed) → CountedIn declared (length env) xs (in-turn declared env last xs)
+  pub in-turn-counted : (env : List Evaluated) (last : Normal) (xs : List Placed) → CountedIn declared (length env) xs (in-turn declared env last xs)
   unfolding in-turn end-or
   in-turn-counted env last [] = omega arith
   in-turn-counted env last (x ∷ xs) =
@@ -112,7 +112,7 @@ pub data Counted (memory-lent : ℕ) (asked : Name) (texts : Texts) (r : Answer)
 
 module _ (memory-lent output-lent : ℕ) (asked : Name) (texts : Texts) where
   -- a refusal has no listing, so what is lent does not change it
-  refusal-within : (k c : ℕ) (m w : Name) (at : ℕ) → within output-lent asked (refusal k c m w at) ≡ refusal k c m w at
+  pub refusal-within : (k c : ℕ) (m : Name) (w : Culprit) (at : ℕ) → within output-lent asked (refusal k c m w at) ≡ refusal k c m w at
   unfolding within refusal lines-text each pick
   refusal-within k c m w at = rw (leb·zero output-lent)
 
@@ -135,7 +135,7 @@ module _ (memory-lent output-lent : ℕ) (asked : Name) (texts : Texts) where
   read-counted (all-read ms) q =
       by-cases (λ (e : Ended). Counted memory-lent asked texts (within output-lent asked (of-ended asked e))) _ _ _
       (λ e. ended-counted ms q (in-turn (module-names ms) [] empty (reached asked ms)) (in-turn-counted (module-names ms) [] empty (reached asked ms)))
-      (λ e. subst (Counted memory-lent asked texts) (sym (refusal-within asked-absent 0 asked (short-or-blank asked) 0)) (not-there ms q e refl refl))
+      (λ e. subst (Counted memory-lent asked texts) (sym (refusal-within asked-absent 0 asked (lone (short-or-blank asked)) 0)) (not-there ms q e refl refl))
   read-counted (refused-in l number at) q =
       subst (Counted memory-lent asked texts) (sym (unread-within l number at)) (not-read l number at q refl refl)
 
@@ -144,135 +144,207 @@ module _ (memory-lent output-lent : ℕ) (asked : Name) (texts : Texts) where
   counted =
       by-cases (Counted memory-lent asked texts) _ _ _ (λ e. memory-short e refl refl) (λ e. read-counted (read-texts texts) refl)
 
--- ---- 1 to 6: evaluating refuses with 7 to 18
+-- ---- 1 to 6: evaluating refuses with 7 to 15, 17, 18 and 22 to 27
 
--- the numbers of evaluating
-abbrev pub OfEvaluating : ℕ → Type 0
-OfEvaluating k = (7 ≤ k) × (k ≤ 18)
+-- a binding's mistake: 22 to 26, or 27 with one name
+abbrev pub BindingMistake : ℕ → Culprit → Type 0
+BindingMistake k w = ((22 ≤ k) × (k ≤ 26)) ⊎ ((k ≡ 27) × (w .actual ≡ []))
 
-abbrev pub SevenToEighteen : {A : Type 0} → Outcome A → Type 0
-SevenToEighteen (fine a) = Unit {0}
-SevenToEighteen (stop k w) = OfEvaluating k
+-- the other numbers of evaluating, told with one name
+abbrev pub OtherNumber : ℕ → Type 0
+OtherNumber k = ((7 ≤ k) × (k ≤ 15)) ⊎ ((17 ≤ k) × (k ≤ 18))
 
-bound-from : {A B : Type 0} (o : Outcome A) (f : A → Outcome B) → SevenToEighteen o → ((a : A) → SevenToEighteen (f a)) → SevenToEighteen (o >>= f)
-unfolding _>>=_
-bound-from (fine a) f h g = g a
-bound-from (stop k w) f h g = h
+abbrev pub OtherRefusal : ℕ → Culprit → Type 0
+OtherRefusal k w = OtherNumber k × (w .actual ≡ [])
 
-then-from : {A B : Type 0} (o : Outcome A) (m : Outcome B) → SevenToEighteen o → SevenToEighteen m → SevenToEighteen (o >> m)
-unfolding _>>_
-then-from (fine a) m h g = g
-then-from (stop k w) m h g = h
+-- whatever evaluating refuses with
+abbrev pub OfEvaluating : ℕ → Culprit → Type 0
+OfEvaluating k w = OtherRefusal k w ⊎ BindingMistake k w
 
-unless-from : (k : ℕ) (o : Option Name) → OfEvaluating k → SevenToEighteen (unless k o)
-unfolding unless
-unless-from k none h = tt
-unless-from k (some w) h = h
+-- fine, or refused so
+abbrev pub IfRefused : {A : Type 0} → (ℕ → Culprit → Type 0) → Outcome A → Type 0
+IfRefused P (fine a) = Unit {0}
+IfRefused P (stop k w) = P k w
 
-fits-from : (b : Bool) → SevenToEighteen (fits b)
-unfolding fits pick
-fits-from true = tt
-fits-from false = (lit≤ tt, lit≤ tt)
+module _ (P : ℕ → Culprit → Type 0) where
+  bound-from : {A B : Type 0} (o : Outcome A) (f : A → Outcome B) → IfRefused P o → ((a : A) → IfRefused P (f a)) → IfRefused P (o >>= f)
+  unfolding _>>=_
+  bound-from (fine a) f h g = g a
+  bound-from (stop k w) f h g = h
 
-consistent-from : (v : Visible) (own : List Item) → SevenToEighteen (consistent v own)
+  then-from : {A B : Type 0} (o : Outcome A) (m : Outcome B) → IfRefused P o → IfRefused P m → IfRefused P (o >> m)
+  unfolding _>>_
+  then-from (fine a) m h g = g
+  then-from (stop k w) m h g = h
+
+  needs-from : (k : ℕ) (w : Culprit) (b : Bool) → P k w → IfRefused P (needs k w b)
+  unfolding needs pick
+  needs-from k w true h = tt
+  needs-from k w false h = h
+
+  unless-from : (k : ℕ) (o : Option Name) → ((w : Name) → P k (lone w)) → IfRefused P (unless k o)
+  unfolding unless
+  unless-from k none h = tt
+  unless-from k (some w) h = h w
+
+other-from : {A : Type 0} (o : Outcome A) → IfRefused OtherRefusal o → IfRefused OfEvaluating o
+other-from (fine a) h = tt
+other-from (stop k w) h = inl h
+
+unless-other : (k : ℕ) (o : Option Name) → OtherNumber k → IfRefused OtherRefusal (unless k o)
+unless-other k o h = unless-from OtherRefusal k o (λ w. (h, refl))
+
+fits-from : (b : Bool) → IfRefused OtherRefusal (fits b)
+unfolding fits
+fits-from b = needs-from OtherRefusal _ _ b (inr (lit≤ tt, lit≤ tt), refl)
+
+consistent-from : (v : Visible) (own : List Item) → IfRefused OtherRefusal (consistent v own)
 unfolding consistent
 consistent-from v own =
-    then-from _ _ (unless-from 15 _ (lit≤ tt, lit≤ tt))
-    (then-from _ _ (unless-from 10 _ (lit≤ tt, lit≤ tt)) (then-from _ _ (unless-from 10 _ (lit≤ tt, lit≤ tt)) (unless-from 11 _ (lit≤ tt, lit≤ tt))))
+    then-from OtherRefusal _ _ (unless-other 15 _ (inl (lit≤ tt, lit≤ tt)))
+    (then-from OtherRefusal _ _ (unless-other 10 _ (inl (lit≤ tt, lit≤ tt)))
+    (then-from OtherRefusal _ _ (unless-other 10 _ (inl (lit≤ tt, lit≤ tt))) (unless-other 11 _ (inl (lit≤ tt, lit≤ tt)))))
 
-checked-from : (n : Normal) → SevenToEighteen (checked n)
+pub checked-from : (n : Normal) → IfRefused OtherRefusal (checked n)
 unfolding checked room
-checked-from n = then-from _ _ (consistent-from (n .visible) []) (then-from _ _ (fits-from _) tt)
+checked-from n = then-from OtherRefusal _ _ (consistent-from (n .visible) []) (then-from OtherRefusal _ _ (fits-from _) tt)
 
-rename-from : (rs : List Pair) (n : Normal) → SevenToEighteen (rename rs n)
+pub rename-from : (rs : List Pair) (n : Normal) → IfRefused OtherRefusal (rename rs n)
 unfolding rename
-rename-from rs n = then-from _ _ (unless-from 14 _ (lit≤ tt, lit≤ tt)) (checked-from _)
+rename-from rs n = then-from OtherRefusal _ _ (unless-other 14 _ (inl (lit≤ tt, lit≤ tt))) (checked-from _)
 
-bind-from : (p : Name) (rs : List Pair) (n actual : Normal) → SevenToEighteen (bind p rs n actual)
+pair-from : (formal : List Item) (rs : List Pair) (whole actual : Visible) (seen : List Name) (r : Pair)
+    → IfRefused OfEvaluating (pair-right formal rs whole actual seen r)
+unfolding pair-right
+pair-from formal rs whole actual seen r =
+    then-from OfEvaluating _ _ (wrong 22 _ (lit≤ tt) (lit≤ tt))
+    (then-from OfEvaluating _ _ (wrong 23 _ (lit≤ tt) (lit≤ tt))
+    (then-from OfEvaluating _ _ (wrong 24 _ (lit≤ tt) (lit≤ tt))
+    (then-from OfEvaluating _ _ (wrong 25 _ (lit≤ tt) (lit≤ tt)) (wrong 26 _ (lit≤ tt) (lit≤ tt)))))
+  where
+    wrong : (k : ℕ) (b : Bool) → 22 ≤ k → k ≤ 26 → IfRefused OfEvaluating (needs k (record { name = r .old; actual = r .new }) b)
+    wrong k b h h′ = needs-from OfEvaluating k _ b (inr (inl (h, h′)))
+
+pairs-from : (formal : List Item) (rs : List Pair) (whole actual : Visible) (seen : List Name) (xs : List Pair)
+    → IfRefused OfEvaluating (pairs-right formal rs whole actual seen xs)
+unfolding pairs-right
+pairs-from formal rs whole actual seen [] = tt
+pairs-from formal rs whole actual seen (x ∷ xs) =
+    then-from OfEvaluating _ _ (pair-from formal rs whole actual seen x) (pairs-from formal rs whole actual (x .old ∷ seen) xs)
+
+bind-from : (p : Name) (rs : List Pair) (n actual : Normal) → IfRefused OfEvaluating (bind p rs n actual)
 unfolding bind bound-to
 bind-from p rs n actual =
-    by-cases SevenToEighteen _ _ _
-    (λ e. then-from _ _ (unless-from 16 _ (lit≤ tt, lit≤ tt)) (then-from _ _ (unless-from 16 _ (lit≤ tt, lit≤ tt)) (checked-from _))) (λ e. (lit≤ tt, lit≤ tt))
+    by-cases (λ (o : Outcome Normal). IfRefused OfEvaluating o) _ _ _
+    (λ e.
+    then-from OfEvaluating _ _ (pairs-from (formals p (n .visible)) rs (n .visible) (actual .visible) [] rs)
+    (then-from OfEvaluating _ _ (unless-from OfEvaluating 27 _ (λ w. inr (inr (refl, refl)))) (other-from (checked _) (checked-from _))))
+    (λ e. inl (inl (lit≤ tt, lit≤ tt), refl))
 
-clause-from : (env : List Evaluated) (c : Clause) (n : Normal) → SevenToEighteen (clause env c n)
+clause-from : (env : List Evaluated) (c : Clause) (n : Normal) → IfRefused OfEvaluating (clause env c n)
 unfolding clause
-clause-from env (renamed-by rs) n = rename-from rs n
+clause-from env (renamed-by rs) n = other-from (rename rs n) (rename-from rs n)
 clause-from env (bound-by p rs m) n = bind-from p rs n (normal-of env m)
 
-clauses-from : (env : List Evaluated) (cs : List Clause) (n : Normal) → SevenToEighteen (clauses env cs n)
+clauses-from : (env : List Evaluated) (cs : List Clause) (n : Normal) → IfRefused OfEvaluating (clauses env cs n)
 unfolding clauses
 clauses-from env [] n = tt
-clauses-from env (c ∷ cs) n = bound-from _ _ (clause-from env c n) (λ k. clauses-from env cs k)
+clauses-from env (c ∷ cs) n = bound-from OfEvaluating _ _ (clause-from env c n) (λ k. clauses-from env cs k)
 
-expressions-from : (env : List Evaluated) (is : List Import) → SevenToEighteen (expressions env is)
+expressions-from : (env : List Evaluated) (is : List Import) → IfRefused OfEvaluating (expressions env is)
 unfolding expressions
 expressions-from env [] = tt
-expressions-from env (i ∷ is) = bound-from _ _ (clauses-from env (i .clauses) _) (λ n. bound-from _ _ (expressions-from env is) (λ ns. tt))
+expressions-from env (i ∷ is) =
+    bound-from OfEvaluating _ _ (clauses-from env (i .clauses) _) (λ n. bound-from OfEvaluating _ _ (expressions-from env is) (λ ns. tt))
 
-united-from : (n : Normal) (ks : List Normal) → SevenToEighteen (united n ks)
+pub united-from : (n : Normal) (ks : List Normal) → IfRefused OtherRefusal (united n ks)
 unfolding united
 united-from n [] = tt
-united-from n (k ∷ ks) = bound-from _ _ (checked-from _) (λ u. united-from u ks)
+united-from n (k ∷ ks) = bound-from OtherRefusal _ _ (checked-from _) (λ u. united-from u ks)
 
-names-right-from : (declared earlier ws : List Name) → SevenToEighteen (names-right declared earlier ws)
+pub names-right-from : (declared earlier ws : List Name) → IfRefused OtherRefusal (names-right declared earlier ws)
 unfolding names-right
 names-right-from declared earlier [] = tt
 names-right-from declared earlier (w ∷ ws) =
-    by-cases SevenToEighteen _ _ _ (λ e. (lit≤ tt, lit≤ tt))
-    (λ e. by-cases SevenToEighteen _ _ _ (λ f. (lit≤ tt, lit≤ tt)) (λ f. names-right-from declared earlier ws))
+    by-cases (λ (o : Check). IfRefused OtherRefusal o) _ _ _ (λ e. (inl (lit≤ tt, lit≤ tt), refl))
+    (λ e. by-cases (λ (o : Check). IfRefused OtherRefusal o) _ _ _ (λ f. (inl (lit≤ tt, lit≤ tt), refl)) (λ f. names-right-from declared earlier ws))
 
-once-in-from : (s : Signature) → SevenToEighteen (once-in s)
+once-in-from : (s : Signature) → IfRefused OtherRefusal (once-in s)
 unfolding once-in
-once-in-from s = then-from _ _ (unless-from 9 _ (lit≤ tt, lit≤ tt)) (unless-from 9 _ (lit≤ tt, lit≤ tt))
+once-in-from s = then-from OtherRefusal _ _ (unless-other 9 _ (inl (lit≤ tt, lit≤ tt))) (unless-other 9 _ (inl (lit≤ tt, lit≤ tt)))
 
-once-in-parameters-from : (seen : List Name) (ps : List Parameter) → SevenToEighteen (once-in-parameters seen ps)
+once-in-parameters-from : (seen : List Name) (ps : List Parameter) → IfRefused OtherRefusal (once-in-parameters seen ps)
 unfolding once-in-parameters
 once-in-parameters-from seen [] = tt
 once-in-parameters-from seen (p ∷ ps) =
-    by-cases SevenToEighteen _ _ _ (λ e. (lit≤ tt, lit≤ tt))
-    (λ e. then-from _ _ (once-in-from (p .signature)) (once-in-parameters-from (p .name ∷ seen) ps))
+    by-cases (λ (o : Check). IfRefused OtherRefusal o) _ _ _ (λ e. (inl (lit≤ tt, lit≤ tt), refl))
+    (λ e. then-from OtherRefusal _ _ (once-in-from (p .signature)) (once-in-parameters-from (p .name ∷ seen) ps))
 
-own-checks-from : (m : Module) (seen : List Name) (v : Visible) → SevenToEighteen (own-checks m seen v)
+own-checks-from : (m : Module) (seen : List Name) (v : Visible) → IfRefused OtherRefusal (own-checks m seen v)
 unfolding own-checks available-sorts
-own-checks-from m seen v = then-from _ _ (consistent-from v _) (then-from _ _ available (unless-from 12 _ (lit≤ tt, lit≤ tt)))
+own-checks-from m seen v =
+    then-from OtherRefusal _ _ (consistent-from v _) (then-from OtherRefusal _ _ available (unless-other 12 _ (inl (lit≤ tt, lit≤ tt))))
   where
-    available : SevenToEighteen (available-sorts m seen)
+    available : IfRefused OtherRefusal (available-sorts m seen)
     available =
-        then-from _ _ (unless-from 13 _ (lit≤ tt, lit≤ tt))
-        (then-from _ _ (unless-from 13 _ (lit≤ tt, lit≤ tt)) (then-from _ _ (unless-from 13 _ (lit≤ tt, lit≤ tt)) (unless-from 13 _ (lit≤ tt, lit≤ tt))))
+        then-from OtherRefusal _ _ (unless-other 13 _ (inl (lit≤ tt, lit≤ tt)))
+        (then-from OtherRefusal _ _ (unless-other 13 _ (inl (lit≤ tt, lit≤ tt)))
+        (then-from OtherRefusal _ _ (unless-other 13 _ (inl (lit≤ tt, lit≤ tt))) (unless-other 13 _ (inl (lit≤ tt, lit≤ tt)))))
 
-made-from : (home at : ℕ) (tag : Name) (c : Option ResolvedSides) (ks : Option (List ResolvedSides)) → SevenToEighteen (made-equation home at tag c ks)
+made-from : (home at : ℕ) (tag : Name) (c : Option ResolvedSides) (ks : Option (List ResolvedSides))
+    → IfRefused OtherRefusal (made-equation home at tag c ks)
 unfolding made-equation
-made-from home at tag none ks = (lit≤ tt, lit≤ tt)
-made-from home at tag (some c) none = (lit≤ tt, lit≤ tt)
+made-from home at tag none ks = (inr (lit≤ tt, lit≤ tt), refl)
+made-from home at tag (some c) none = (inr (lit≤ tt, lit≤ tt), refl)
 made-from home at tag (some c) (some ks) = tt
 
-typed-from : (known : List Item) (home at : ℕ) (es : List Equation) → SevenToEighteen (typed-equations known home at es)
+typed-from : (known : List Item) (home at : ℕ) (es : List Equation) → IfRefused OtherRefusal (typed-equations known home at es)
 unfolding typed-equations
 typed-from known home at [] = tt
 typed-from known home at (r ∷ rs) =
-    bound-from _ _ (made-from home at (r .tag) _ _) (λ x. bound-from _ _ (typed-from known home (at + 1) rs) (λ xs. tt))
+    bound-from OtherRefusal _ _ (made-from home at (r .tag) _ _)
+    (λ x. bound-from OtherRefusal _ _ (typed-from known home (at + 1) rs) (λ xs. tt))
 
-joined-own-from : (home : ℕ) (total : Size) (m : Module) (n : Normal) → SevenToEighteen (joined-own home total m n)
+pub joined-own-from : (home : ℕ) (total : Size) (m : Module) (n : Normal) → IfRefused OtherRefusal (joined-own home total m n)
 unfolding joined-own own-equations room total-room
 joined-own-from home total m n =
-    then-from _ _ (own-checks-from m _ _)
-    (bound-from _ _ (typed-from _ home 0 (m .equations)) (λ es. then-from _ _ (fits-from _) (then-from _ _ (fits-from _) tt)))
+    then-from OtherRefusal _ _ (own-checks-from m _ _)
+    (bound-from OtherRefusal _ _ (typed-from _ home 0 (m .equations))
+    (λ es. then-from OtherRefusal _ _ (fits-from _) (then-from OtherRefusal _ _ (fits-from _) tt)))
 
-pub evaluate-from : (declared earlier : List Name) (home : ℕ) (total : Size) (env : List Evaluated) (m : Module)
-    → SevenToEighteen (evaluate declared earlier home total env m)
-unfolding evaluate declared-once imported
+pub declared-once-from : (m : Module) → IfRefused OtherRefusal (declared-once m)
+unfolding declared-once
+declared-once-from m =
+    then-from OtherRefusal _ _ (once-in-parameters-from [] (m .parameters))
+    (then-from OtherRefusal _ _ (once-in-from (m .exports)) (once-in-from (m .hidden)))
+
+evaluate-from : (declared earlier : List Name) (home : ℕ) (total : Size) (env : List Evaluated) (m : Module)
+    → IfRefused OfEvaluating (evaluate declared earlier home total env m)
+unfolding evaluate imported
 evaluate-from declared earlier home total env m =
-    then-from _ _ (names-right-from declared earlier (named-by m))
-    (then-from _ _ (then-from _ _ (once-in-parameters-from [] (m .parameters)) (then-from _ _ (once-in-from (m .exports)) (once-in-from (m .hidden))))
-    (bound-from _ _ (bound-from _ _ (expressions-from env (m .imports)) (united-from empty)) (joined-own-from home total m)))
+    then-from OfEvaluating _ _ (other-from (names-right declared earlier (named-by m)) (names-right-from declared earlier (named-by m)))
+    (then-from OfEvaluating _ _ (other-from (declared-once m) (declared-once-from m))
+    (bound-from OfEvaluating _ _
+    (bound-from OfEvaluating _ _ (expressions-from env (m .imports)) (λ ns. other-from (united empty ns) (united-from empty ns)))
+    (λ n. other-from (joined-own home total m n) (joined-own-from home total m n))))
+
+pub refused-from : (declared earlier : List Name) (home : ℕ) (total : Size) (env : List Evaluated) (m : Module) {k : ℕ} {w : Culprit}
+    → evaluate declared earlier home total env m ≡ stop k w → OfEvaluating k w
+refused-from declared earlier home total env m e =
+    subst (λ (o : Outcome Normal). IfRefused OfEvaluating o) e (evaluate-from declared earlier home total env m)
+
+from-seven : (k : ℕ) (w : Culprit) → OfEvaluating k w → 7 ≤ k
+from-seven k w (inl (inl h, e)) = h .0
+from-seven k w (inl (inr h, e)) = omega (arith, h .0)
+from-seven k w (inr (inl h)) = omega (arith, h .0)
+from-seven k w (inr (inr h)) = omega (arith, h .0)
 
 abbrev FromSix : Ended → Type 0
 FromSix (normalised count n) = Unit {0}
 FromSix (refused-at number count told culprit) = 6 ≤ number
 
 -- what evaluating refuses has a number from 6 up, so 0 is no refusal's
-pub refused-from-six : (asked : Name) (ms : List Module) (number count : ℕ) (told culprit : Name)
+pub refused-from-six : (asked : Name) (ms : List Module) (number count : ℕ) (told : Name) (culprit : Culprit)
     → normalise asked ms ≡ refused-at number count told culprit → 6 ≤ number
 unfolding normalise
 refused-from-six asked ms number count told culprit e =
@@ -283,7 +355,7 @@ refused-from-six asked ms number count told culprit e =
     go : (r : Ended) → CountedIn (module-names ms) 0 (reached asked ms) r → FromSix r
     go (normalised c n) h = tt
     go (refused-at k c m w) h =
-        let from = subst SevenToEighteen (h .1 .outcome) (evaluate-from _ _ _ _ _ (h .1 .refused .self)) in omega (arith, from .0)
+        omega (arith, from-seven k w (refused-from _ _ _ _ _ (h .1 .refused .self) (h .1 .outcome)))
 
 -- a call that gives 1 to 6 has evaluated nothing
 pub none-evaluated : (memory-lent output-lent : ℕ) (asked : Name) (texts : Texts) → let r = answer memory-lent output-lent asked texts in
@@ -298,7 +370,7 @@ none-evaluated memory-lent output-lent asked texts low high =
     go r (all-evaluated ms q (inl e) h) low high = absurd (omega arith)
     go r (all-evaluated ms q (inr e) h) low high = absurd (omega arith)
     go r (up-to-refused ms q h) low high =
-        let from = subst SevenToEighteen (h .outcome) (evaluate-from _ _ _ _ _ (h .refused .self)) in absurd (omega (arith, from .0))
+        absurd (omega (arith, from-seven (r .number) (r .culprit) (refused-from _ _ _ _ _ (h .refused .self) (h .outcome))))
 
 -- ---- the count by the name that is told: reached modules have distinct names, so one more than stand before the first of that name
 
@@ -342,7 +414,7 @@ before-it x [] vs h = rw (same-self (x .self .name))
 before-it x (u ∷ us) vs h = rw (every-middle (Apart u) us vs x (h .0)) (ap suc (before-it x us vs (h .1)))
 
 -- where a module is refused, the count is one more than the number of reached modules before the module that is told
-pub refused-count : (asked : Name) (texts : Texts) (ms : List Module) (number count : ℕ) (told culprit : Name)
+pub refused-count : (asked : Name) (texts : Texts) (ms : List Module) (number count : ℕ) (told : Name) (culprit : Culprit)
     → read-texts texts ≡ all-read ms → RefusedIn (module-names ms) (reached asked ms) number count told culprit
     → count ≡ before (λ (x : Placed). same told (x .self .name)) (reached asked ms) + 1
 unfolding reached

@@ -92,6 +92,7 @@ pub record SameAnswer (r r′ : Answer) : Type 0 where
   pub number : r .number ≡ r′ .number
   pub modules : r .modules ≡ r′ .modules
   pub evaluating : r .evaluating ≡ r′ .evaluating
+  -- its actual name too
   pub culprit : r .culprit ≡ r′ .culprit
   pub at : r .at ≡ r′ .at
   pub in-library : r .in-library ≡ r′ .in-library

@@ -41,8 +41,13 @@ pub mod Hyphens
 -- the count of modules
 pub mod Counts
 pub mod Library
--- no import goes in a circle: 20 is no number
+-- the numbers that are given, and their culprits
 pub mod ReadNumbers
+pub mod Given
+-- no import goes in a circle: 20 is no number
 pub mod NoCycle
+-- where 16 was told, one of 22 to 27 is
+pub mod OldBinding
+pub mod Mistakes
 -- a module's own parameters are new
 pub mod Homes

@@ -8,7 +8,7 @@ use Rattle.meaning.specs.Lists.{pick}
 use Rattle.meaning.specs.Names.{Name, same, member}
 use Rattle.meaning.specs.Numbers.{named-late}
 use Rattle.meaning.specs.Syntax.{Module}
-use Rattle.meaning.specs.Checks.{stop}
+use Rattle.meaning.specs.Checks.{lone, stop}
 use Rattle.meaning.specs.Evaluate.{missing, too-late, names-right}
 use Rattle.meaning.specs.Reached.{module-names}
 use Rattle.meaning.specs.Distinct.{Fresh, read-fresh}
@@ -63,7 +63,7 @@ not-both v taken (l ∷ ls) cs f h = go (same v (l .name)) refl (not-both v (l .
 -- a module of the library has only modules of the library before it, so a customer's name is 8 there
 pub library-names-late : (texts : Texts) (ms : List Module) → read-texts texts ≡ all-read ms → (p : Parts texts ms) (earlier : List Name)
     → Inside earlier (module-names (p .library-modules)) → (w : Name) (ws : List Name) → member w (module-names (p .customer-modules)) ≡ true
-    → names-right (module-names ms) earlier (w ∷ ws) ≡ stop named-late w
+    → names-right (module-names ms) earlier (w ∷ ws) ≡ stop named-late (lone w)
 unfolding names-right missing too-late pick
 library-names-late texts ms e p earlier inside w ws h =
     let ls = p .library-modules in

@@ -3,8 +3,7 @@
 -- alone: with it every answer is what it is without it, and none is 20.
 use mathlib.Core.Path.{_≡_, refl, sym, ap, subst, _∙_}
 use mathlib.Core.Logic.{_⊎_, inl, inr}
-use Prim.Native.Nat.{ℕ, _+_, _≤_}
-use native.Mathlib.Omega.{arith}
+use Prim.Native.Nat.{ℕ, _+_}
 use mathlib.Core.Bool.{Bool, true, false}
 use mathlib.Core.List.{List, [], _∷_, _++_, map, append-assoc}
 use lib.Dec.{ltb}
@@ -15,7 +14,7 @@ use Rattle.meaning.specs.Names.{bytes, Name, same, member}
 use Rattle.meaning.specs.Numbers.{memory-size, asked-absent, lent-short}
 use Rattle.meaning.specs.Syntax.{Module}
 use Rattle.meaning.specs.Normal.{Normal, empty}
-use Rattle.meaning.specs.Checks.{Outcome, fine, stop, _>>=_, _>>_, Check, Size}
+use Rattle.meaning.specs.Checks.{lone, Outcome, fine, stop, _>>=_, _>>_, Check, Size}
 use Rattle.meaning.specs.Evaluate.{Evaluated, named-by, names-right, declared-once, imported, joined-own, evaluate}
 use Rattle.meaning.specs.Reached.{wanted, Placed, reached-among, reached, Ended, normalised, refused-at, end-or, total-of, in-turn, module-names, short-or-blank, normalise}
 use Rattle.meaning.specs.Texts.{Texts, Reading, all-read, refused-in, read-texts}
@@ -28,8 +27,7 @@ use Rattle.promises.specs.Demand.{ForEach}
 use Rattle.promises.specs.Enough.{placed-among, all-placed}
 use Rattle.promises.specs.Again.{names-in, earlier-names}
 use Rattle.promises.specs.Library.{names-both, not-both}
-use Rattle.promises.specs.Counts.{Counted, memory-short, not-read, not-there, all-evaluated, up-to-refused, counted, SevenToEighteen, evaluate-from}
-use Rattle.promises.specs.ReadNumbers.{refused-low}
+use Rattle.promises.specs.Given.{never-twenty}
 
 -- ---- what a module's names reach
 
@@ -157,7 +155,7 @@ reached-from wanted (e ∷ es) =
 
 -- M is among the modules reached from those that it names
 unfoldable pub acyclic : List Naming → Module → Check
-acyclic env m = pick (member (m .name) (reached-from (named-by m) env)) (stop in-cycle (m .name)) (fine tt)
+acyclic env m = pick (member (m .name) (reached-from (named-by m) env)) (stop in-cycle (lone (m .name))) (fine tt)
 
 -- the four steps for M, with the test right after step 1
 unfoldable pub evaluate-tested : List Name → List Name → ℕ → Size → List Naming → Module → Outcome Normal
@@ -179,7 +177,7 @@ in-turn-tested declared env last (x ∷ xs) =
 unfoldable pub normalise-tested : Name → List Module → Ended
 normalise-tested asked ms =
     let r = in-turn-tested (module-names ms) [] empty (reached asked ms) in
-    pick (member asked (module-names ms)) r (refused-at asked-absent 0 asked (short-or-blank asked))
+    pick (member asked (module-names ms)) r (refused-at asked-absent 0 asked (lone (short-or-blank asked)))
 
 unfoldable pub of-read-tested : Name → Reading → Answer
 of-read-tested asked (all-read ms) = of-ended asked (normalise-tested asked ms)
@@ -188,7 +186,7 @@ of-read-tested asked (refused-in in-library number at) = unread in-library numbe
 unfoldable pub answer-tested : ℕ → ℕ → Name → Texts → Answer
 answer-tested memory-lent output-lent asked t =
     let r = within output-lent asked (of-read-tested asked (read-texts t)) in
-    pick (ltb memory-lent memory-size) (refusal lent-short 0 asked [] 0) r
+    pick (ltb memory-lent memory-size) (refusal lent-short 0 asked (lone []) 0) r
 
 -- of modules that no text gives, it finds the cycle: M names A, and A, evaluated before, names M, evaluated before
 unfoldable cyclic : Module
@@ -208,7 +206,7 @@ in-a-cycle :
     ∷ record { evaluated = record { name = bytes "M"; normal = empty }; names = [] }
     ∷ [])
     cyclic
-    ≡ stop 20 (bytes "M")
+    ≡ stop 20 (lone (bytes "M"))
 unfolding all-opened cyclic acyclic reached-from
 in-a-cycle = refl
 
@@ -284,21 +282,8 @@ test-of-no-account memory-lent output-lent asked texts = rw (read-same asked tex
 
 -- ---- 20 is never given
 
--- 0 to 19: 1 to 5 where a text is not read, 7 to 18 where a module is refused
-pub up-to-nineteen : (memory-lent output-lent : ℕ) (asked : Name) (texts : Texts) → answer memory-lent output-lent asked texts .number ≤ 19
-up-to-nineteen memory-lent output-lent asked texts = go _ (counted memory-lent output-lent asked texts)
-  where
-    go : (r : Answer) → Counted memory-lent asked texts r → r .number ≤ 19
-    go r (memory-short d e h) = omega (arith, e)
-    go r (not-read l number at q e h) = omega (arith, e, refused-low texts l number at q)
-    go r (not-there ms q d e h) = omega (arith, e)
-    go r (all-evaluated ms q (inl e) h) = omega (arith, e)
-    go r (all-evaluated ms q (inr e) h) = omega (arith, e)
-    go r (up-to-refused ms q h) =
-        let from = subst SevenToEighteen (h .outcome) (evaluate-from _ _ _ _ _ (h .refused .self)) in omega (arith, from .1)
-
 pub never-in-cycle : (memory-lent output-lent : ℕ) (asked : Name) (texts : Texts) → answer memory-lent output-lent asked texts .number ≡ in-cycle → ⊥
-never-in-cycle memory-lent output-lent asked texts e = omega (arith, e, up-to-nineteen memory-lent output-lent asked texts)
+never-in-cycle memory-lent output-lent asked texts e = never-twenty memory-lent output-lent asked texts e
 
 pub never-in-cycle-tested : (memory-lent output-lent : ℕ) (asked : Name) (texts : Texts)
     → answer-tested memory-lent output-lent asked texts .number ≡ in-cycle → ⊥

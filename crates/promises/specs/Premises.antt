@@ -91,11 +91,11 @@ nothing-left-out asked texts texts′ ms ms′ c = record {
 
 -- ---- two texts that show that a premise matters
 
--- an answer's number, its culprit, and the visible part of its listing
+-- an answer's number, its culprit's name, and the visible part of its listing
 unfoldable pub told : Texts → List ℕ
 told texts =
     let r = answer memory-size program-output asked texts in
-    decimal (r .number) ++ (bytes " " ++ (r .culprit ++ (bytes "\n" ++ visible-part (listing r))))
+    decimal (r .number) ++ (bytes " " ++ (r .culprit .name ++ (bytes "\n" ++ visible-part (listing r))))
 
 pub record Matters (p : Premise) (texts texts′ : Texts) (result result′ : List ℕ) : Type 0 where
   pub others : ComparableBut p asked texts texts′ (modules-in (read-texts texts)) (modules-in (read-texts texts′))

@@ -12,7 +12,7 @@ use Rattle.meaning.specs.Numbers.{accepted, named-absent, named-late, no-room, 
 use Rattle.meaning.specs.Syntax.{Module}
 use Rattle.meaning.specs.Normal.{Visible, Normal, empty}
 use Rattle.meaning.specs.Written.{visible-in-order}
-use Rattle.meaning.specs.Checks.{Outcome, Size, fine, stop}
+use Rattle.meaning.specs.Checks.{Culprit, lone, Outcome, Size, fine, stop}
 use Rattle.meaning.specs.Evaluate.{Evaluated, import-names, named-by, missing, too-late, names-right, evaluate}
 use Rattle.meaning.specs.Texts.{Texts}
 use Rattle.meaning.specs.Reached.{Placed, reached, Ended, end-or, total-of, in-turn, module-names, normalise, normalised, refused-at}
@@ -34,7 +34,7 @@ names-same : (d e d′ e′ : List Name) (ws : List Name)
 unfolding names-right
 names-same d e d′ e′ [] m l = refl
 names-same d e d′ e′ (w ∷ ws) m l =
-    λ i. pick (m .0 i) (stop named-absent w) (pick (l .0 i) (stop named-late w) (names-same d e d′ e′ ws (m .1) (l .1) i))
+    λ i. pick (m .0 i) (stop named-absent (lone w)) (pick (l .0 i) (stop named-late (lone w)) (names-same d e d′ e′ ws (m .1) (l .1) i))
 
 -- ---- one module
 
@@ -82,15 +82,15 @@ Close (refused-at k c m w) (normalised c′ n′) = k ≡ no-room
 Close (refused-at k c m w) (refused-at k′ c′ m′ w′) =
     (k ≡ no-room) ⊎ ((k′ ≡ no-room) ⊎ ((k ≡ k′) × (c ≡ c′) × (m ≡ m′) × (w ≡ w′)))
 
-close-left : (k c : ℕ) (m w : Name) (r : Ended) → k ≡ no-room → Close (refused-at k c m w) r
+close-left : (k c : ℕ) (m : Name) (w : Culprit) (r : Ended) → k ≡ no-room → Close (refused-at k c m w) r
 close-left k c m w (normalised c′ n′) q = q
 close-left k c m w (refused-at k′ c′ m′ w′) q = inl q
 
-close-right : (k c : ℕ) (m w : Name) (r : Ended) → k ≡ no-room → Close r (refused-at k c m w)
+close-right : (k c : ℕ) (m : Name) (w : Culprit) (r : Ended) → k ≡ no-room → Close r (refused-at k c m w)
 close-right k c m w (normalised c′ n′) q = q
 close-right k c m w (refused-at k′ c′ m′ w′) q = inr (inl q)
 
-refused-alike : (k k′ c c′ : ℕ) (m m′ w w′ : Name) → c ≡ c′ → m ≡ m′ → Together visible-half (stop k w) (stop k′ w′)
+refused-alike : (k k′ c c′ : ℕ) (m m′ : Name) (w w′ : Culprit) → c ≡ c′ → m ≡ m′ → Together visible-half (stop k w) (stop k′ w′)
     → Close (refused-at k c m w) (refused-at k′ c′ m′ w′)
 refused-alike k k′ c c′ m m′ w w′ p q (inl e) = inl e
 refused-alike k k′ c c′ m m′ w w′ p q (inr (inl e)) = inr (inl e)

@@ -13,7 +13,8 @@ use Rattle.meaning.specs.Laws.{by-cases}
 use Rattle.meaning.specs.Lists.{pick, keep, any, union, or-else, first-some, each, sorted-onto}
 use Rattle.meaning.specs.Names.{Name, same, member, not-after, by-name}
 use Rattle.meaning.specs.Origins.{Section, export-section, parameter-section, hidden-section, declared-sort, declared-function, is-sort, FunctionType, one-item, one-equation, Item, ResolvedEquation, in-parameter}
-use Rattle.meaning.specs.Checks.{Outcome, fine, stop, Size, size, fits, room, checked}
+use Rattle.meaning.specs.Checks.{lone, Outcome, fine, stop, Size, size, fits, room, checked}
+use Rattle.meaning.specs.Mirror.{needs-fine}
 use Rattle.meaning.specs.Own.{resolved, function-type, own-sort, own-function, own-section, own-slot, own-visible, own-variable, own-hidden-items, lacking, parameter-functions, available-sorts}
 use Rattle.meaning.specs.Typing.{typed}
 use Rattle.meaning.specs.Syntax.{Function, Signature, Parameter, Variable, variables-of, Pair, Clause, renamed-by, bound-by, Import, Module}
@@ -97,7 +98,7 @@ bind-whole p rs n actual h w w′ =
     checked-gives Whole _ (record {
       sound =
           unite-sound _ actual (move-sound _ _ new-sort-plain new-function-plain (without p n) (without-sound p n (w .sound))) (w′ .sound);
-      typed = bound-typed p rs n actual (unless-fine _ _ f) (unless-fine _ _ g) (w .typed) (w′ .typed);
+      typed = bound-typed p rs n actual f (unless-fine _ _ g) (w .typed) (w′ .typed);
     }))))
     (λ e. tt)
   where
@@ -119,7 +120,7 @@ empty-whole = record { sound = record { parameters = tt; standing = tt; visible 
 abbrev pub WholeEnv : List Evaluated → Type 0
 WholeEnv env = Every (λ e. Whole (e .normal)) env
 
-normal-of-whole : (env : List Evaluated) (w : Name) → WholeEnv env → Whole (normal-of env w)
+pub normal-of-whole : (env : List Evaluated) (w : Name) → WholeEnv env → Whole (normal-of env w)
 unfolding normal-of
 normal-of-whole [] w h = empty-whole
 normal-of-whole (e ∷ es) w h = by-cases Whole _ _ _ (λ f. h .0) (λ f. normal-of-whole es w (h .1))
@@ -433,9 +434,8 @@ pub record Accepted (k : Normal) : Type 0 where
   pub few : Few k
 
 pub fits-fine : (b : Bool) → fits b ≡ fine tt → b ≡ true
-unfolding fits pick
-fits-fine true e = refl
-fits-fine false e = let z : _≡_ {A = ℕ} 0 1 = cc in absurd (omega arith)
+unfolding fits
+fits-fine b e = needs-fine _ _ b e
 
 room-few : (n : Normal) → room n ≡ fine tt → Few n
 unfolding room size
@@ -611,7 +611,7 @@ unfolding normalise pick reached
 call-accepted asked ms count n plain e = go (member asked (module-names ms)) refl e
   where
     go : (b : Bool) → member asked (module-names ms) ≡ b
-        → pick b (in-turn (module-names ms) [] empty (reached asked ms)) (refused-at asked-absent 0 asked (short-or-blank asked)) ≡ normalised count n
+        → pick b (in-turn (module-names ms) [] empty (reached asked ms)) (refused-at asked-absent 0 asked (lone (short-or-blank asked))) ≡ normalised count n
         → AcceptedCall asked n
     go true q e = record {
       name = named-plain asked ms plain q;

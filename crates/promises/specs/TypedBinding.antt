@@ -1,5 +1,5 @@
 -- Binding keeps equations well typed: a formal function's place is taken by a function of the actual module with the formal type after the
--- formal sorts are replaced, which is what 16 asks.
+-- formal sorts are replaced, which is what 26 asks.
 use mathlib.Core.Path.{_≡_, refl, sym, ap, subst, _∙_}
 use mathlib.Core.Option.{Option, none, some}
 use Prim.Native.Nat.{ℕ}
@@ -8,12 +8,14 @@ use mathlib.Core.Bool.{Bool, true, false, not, _&&_, false≢true}
 use mathlib.Core.List.{List, [], _∷_, map, List·Memᴰ, List·Memᴰ·head, List·Memᴰ·tail}
 use borrow.Author.Tests.{not-true, not-false}
 use Rattle.meaning.specs.Lists.{pick, keep, any, union}
-use Rattle.meaning.specs.Names.{Name, same, member, not-after, lesser, least}
+use Rattle.meaning.specs.Names.{Name, same, not-after, lesser, least}
 use Rattle.meaning.specs.Syntax.{Pair}
 use Rattle.meaning.specs.Origins.{FunctionType, Shape, function-shape, same-shape, Item, in-parameter, one-item, one-equation}
 use Rattle.meaning.specs.Normal.{Visible, Normal, names-in, is-called, formals, unite-visible, unite-hidden, unite, move-type, move-item, move-hidden-item, move-equation, move-visible, move-hidden, move}
-use Rattle.meaning.specs.Clauses.{paired, otherwise, renaming, new-sort, new-function, sorts-right, shape-right, pair-right, wrong-pair, unpaired, without-visible, without}
-use Rattle.meaning.specs.OrderLaws.{Every, any-none, same-equal, same-self}
+use Rattle.meaning.specs.Clauses.{paired, otherwise, renaming, new-sort, new-function, sorts-right, type-right, all-right, pairs-right, unpaired, without-visible, without}
+use Rattle.meaning.specs.Checks.{fine}
+use Rattle.meaning.specs.PairLaws.{RightPair, pairs-fine}
+use Rattle.meaning.specs.OrderLaws.{any-none, same-equal, same-self}
 use Rattle.promises.specs.ListingLaws.{both-true, shape-equal, shape-self}
 use Rattle.promises.specs.Sound.{any-found, any-passes, every-member, every-union, member-keep, member-map-to, union-left, union-right}
 use Rattle.promises.specs.WellTyped.{Named, TypedEquation, WellTyped, moved-member, named-moved, typed-moved, typed-wider}
@@ -21,7 +23,7 @@ use Rattle.promises.specs.WellTyped.{Named, TypedEquation, WellTyped, mo
 no-refusal : {X : Type 0} {w : Name} → some w ≡ none → X
 no-refusal e = let z : _≡_ {A = ℕ} 0 1 = cc in absurd (omega arith)
 
-second-true : (p q : Bool) → p ≡ true → (p && not q) ≡ false → q ≡ true
+pub second-true : (p q : Bool) → p ≡ true → (p && not q) ≡ false → q ≡ true
 second-true true q h e = not-false q e
 second-true false q h e = absurd (false≢true h)
 
@@ -62,21 +64,7 @@ none-kept p xs x e m = go (p x) refl
     go false q = elim (subst (List·Memᴰ x) e (member-keep (λ y. not (p y)) xs x m (ap not q))) [ ]
 
 module _ (formal : List Item) (rs : List Pair) (whole actual : Visible) where
-  pairs-right : (seen : List Name) (xs : List Pair) → wrong-pair formal rs whole actual seen xs ≡ none
-      → Every (λ x. pair-right formal rs whole actual x ≡ true) xs
-  unfolding wrong-pair pick
-  pairs-right seen [] e = tt
-  pairs-right seen (x ∷ xs) e = go (pair-right formal rs whole actual x) (not (member (x .old) seen)) refl e (pairs-right (x .old ∷ seen) xs)
-    where
-      go : (b c : Bool) → pair-right formal rs whole actual x ≡ b
-          → pick (b && c) (wrong-pair formal rs whole actual (x .old ∷ seen) xs) (some (x .old)) ≡ none
-          → (wrong-pair formal rs whole actual (x .old ∷ seen) xs ≡ none → Every (λ y. pair-right formal rs whole actual y ≡ true) xs)
-          → Every (λ y. pair-right formal rs whole actual y ≡ true) (x ∷ xs)
-      go true true q e i = (q, i e)
-      go true false q e i = no-refusal e
-      go false c q e i = no-refusal e
-
-  module _ (right : wrong-pair formal rs whole actual [] rs ≡ none) (all : unpaired formal rs whole actual ≡ none) (i : Item) (m : List·Memᴰ i formal) where
+  module _ (right : pairs-right formal rs whole actual [] rs ≡ fine tt) (all : unpaired formal rs whole actual ≡ none) (i : Item) (m : List·Memᴰ i formal) where
     -- the pair of a formal name
     pair-of : (r : Pair) × List·Memᴰ r rs × (r .old ≡ i .name) × (renaming rs (i .name) ≡ r .new)
     unfolding unpaired names-in renaming
@@ -85,22 +73,21 @@ module _ (formal : List Item) (rs : List Pair) (whole actual : Visible) where
         (none-kept (λ (w : Name). any (λ (r : Pair). same w (r .old)) rs) (map (λ (j : Item). j .name) formal) (i .name) (none-least _ all)
         (member-map-to (λ (j : Item). j .name) m))
 
-    shape-found : (r : Pair) → List·Memᴰ r rs → r .old ≡ i .name → shape-right formal rs whole actual (r .new) (i .shape) ≡ true
-    unfolding pair-right is-called
-    shape-found r k e =
-        let good = every-member (λ x. pair-right formal rs whole actual x ≡ true) rs (pairs-right [] rs right) r k in
-        let wrong : Item → Bool = λ j. is-called (r .old) j && not (shape-right formal rs whole actual (r .new) (j .shape)) in
-        let none-wrong = not-true (any wrong formal) (both-true (any (is-called (r .old)) formal) _ good .1) in
-        let here = every-member (λ j. wrong j ≡ false) formal (any-none wrong formal none-wrong) i m in
+    type-found : (r : Pair) → List·Memᴰ r rs → r .old ≡ i .name → type-right formal rs whole actual (r .new) (i .shape) ≡ true
+    unfolding all-right is-called
+    type-found r k e =
+        let good = every-member (λ x. (seen : List Name) × RightPair formal rs whole actual seen x) rs (pairs-fine formal rs whole actual [] rs right) r k in
+        let wrong : Item → Bool = λ j. is-called (r .old) j && not (type-right formal rs whole actual (r .new) (j .shape)) in
+        let here = every-member (λ j. wrong j ≡ false) formal (any-none wrong formal (not-true (any wrong formal) (good .1 .types))) i m in
         second-true _ _ (ap (same (r .old)) (sym e) ∙ same-self (r .old)) here
 
     pub formal-found : (t : FunctionType) → i .shape ≡ function-shape t
         → Named (actual .items) (new-function formal rs whole actual (i .name) t)
         (function-shape (move-type (new-sort formal rs whole actual) (new-function formal rs whole actual) t))
-    unfolding new-function shape-right is-called pick
+    unfolding new-function type-right is-called pick
     formal-found t e =
         let r = pair-of in
-        let s = subst (λ (x : Shape). shape-right formal rs whole actual (r .0 .new) x ≡ true) e (shape-found (r .0) (r .1) (r .2)) in
+        let s = subst (λ (x : Shape). type-right formal rs whole actual (r .0 .new) x ≡ true) e (type-found (r .0) (r .1) (r .2)) in
         let j = any-found _ (actual .items) (both-true (sorts-right formal rs whole actual t) _ s .1) in
         let b = both-true (same (r .0 .new) (j .0 .name)) _ (j .2) in
         let name = sym (same-equal _ _ (b .0)) ∙ sym (r .3) ∙ sym (ap (λ (c : Bool). pick c (renaming rs (i .name)) (i .name)) here) in
@@ -119,7 +106,7 @@ module _ (p : Name) (rs : List Pair) (n actual : Normal) where
   abbrev φ : Name → FunctionType → Name
   φ = new-function formal-items rs (n .visible) (actual .visible)
 
-  module _ (right : wrong-pair formal-items rs (n .visible) (actual .visible) [] rs ≡ none)
+  module _ (right : pairs-right formal-items rs (n .visible) (actual .visible) [] rs ≡ fine tt)
       (all : unpaired formal-items rs (n .visible) (actual .visible) ≡ none) where
     abbrev outside : Item → Bool
     outside i = not (in-parameter p (i .standing))

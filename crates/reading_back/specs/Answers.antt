@@ -11,7 +11,9 @@ use Rattle.meaning.specs.Syntax.{Module}
 use Rattle.meaning.specs.Origins.{Shape, sort-shape, function-shape, variable-shape, Item}
 use Rattle.meaning.specs.Written.{shape-rank}
 use Rattle.meaning.specs.OrderLaws.{Every as All}
+use Rattle.meaning.specs.Checks.{Culprit}
 use Rattle.meaning.specs.Texts.{Texts, Reading, all-read, refused-in, read-texts}
+use Rattle.meaning.specs.Checks.{Culprit}
 use Rattle.meaning.specs.Reached.{Ended, normalised, refused-at, normalise}
 use Rattle.meaning.specs.Listing.{Line, lines-text, shown}
 use Rattle.meaning.specs.Answer.{Answer, answer, listing, refusal, of-ended, unread, of-read, within}
@@ -63,7 +65,7 @@ record Listed (r : Answer) : Type 0 where
   known : Every Known (r .lines)
   fronts : leading (r .lines) ≡ shown false (r .lines)
 
-no-lines : (number count : ℕ) (m w : Name) (at : ℕ) → Listed (refusal number count m w at)
+no-lines : (number count : ℕ) (m : Name) (w : Culprit) (at : ℕ) → Listed (refusal number count m w at)
 unfolding refusal Every leading shown
 no-lines number count m w at = record { known = tt; fronts = refl }
 

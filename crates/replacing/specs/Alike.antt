@@ -10,19 +10,20 @@ use lib.ListN.{length}
 use Rattle.meaning.specs.Laws.{by-cases}
 use Rattle.meaning.specs.Lists.{pick, keep, any, sum, union}
 use Rattle.meaning.specs.Names.{Name, same, not-after, member, least, lesser}
-use Rattle.meaning.specs.Numbers.{bad-parameter, bad-binding}
+use Rattle.meaning.specs.Numbers.{bad-parameter, formal-unpaired}
 use Rattle.meaning.specs.Syntax.{Pair}
-use Rattle.meaning.specs.Origins.{Origin, Sort, visible-sort, hidden-sort, FunctionType, ResolvedTerm, var, app, ResolvedTerms, none-left, _and-then_, ResolvedSides, ResolvedEquation, Shape, sort-shape, function-shape, variable-shape, same-shape, Item, one-equation}
+use Rattle.meaning.specs.Origins.{Origin, Sort, visible-sort, hidden-sort, FunctionType, ResolvedTerm, var, app, ResolvedTerms, none-left, _and-then_, ResolvedSides, ResolvedEquation, Shape, sort-shape, function-shape, variable-shape, same-shape, is-function, Item, one-equation}
 use Rattle.meaning.specs.Normal.{Slot, Visible, Normal, names-in, sort-names, is-called, origin-of, slot-names, formals, unite-hidden, unite, move-type, move-item, move-hidden-item, move-equation, move-visible, move-hidden, move}
-use Rattle.meaning.specs.Checks.{Outcome, fine, stop, _>>_, unless, consistent, term-nodes, terms-nodes, sides-nodes, equation-nodes, size, room, checked}
-use Rattle.meaning.specs.Clauses.{paired, otherwise, renaming, may-name, renames, wrong-renaming, rename, same-origins, is-among, is-formal-sort, new-sort, new-function, sort-right, sorts-right, shape-right, pair-right, wrong-pair, unpaired, without-visible, without, bound-to, bind}
+use Rattle.meaning.specs.Checks.{lone, Outcome, fine, stop, _>>_, unless, consistent, term-nodes, terms-nodes, sides-nodes, equation-nodes, size, room, checked}
+use Rattle.meaning.specs.Clauses.{paired, otherwise, renaming, may-name, renames, wrong-renaming, rename, same-origins, is-among, is-formal-sort, new-sort, new-function, sort-right, sorts-right, kind-right, type-right, all-right, pairs-right, unpaired, without-visible, without, bound-to, bind}
 use Rattle.meaning.specs.OrderLaws.{Every, Rearranged, rearranged-length, rearranged-every, any-none}
 use Rattle.meaning.specs.Mirror.{then-fine, unless-fine, fine-same}
+use Rattle.meaning.specs.PairLaws.{RightPair, pair-fine, fine-pair}
 use Rattle.promises.specs.ListingLaws.{both-true}
 use Rattle.promises.specs.SameListing.{keep-rearranged}
 use Rattle.promises.specs.Sound.{every-map, every-union}
 use Rattle.replacing.specs.Changing.{re-pair, re-origin, re-sort, re-type, re-shape, re-item, re-term, re-terms, re-sides, re-equation}
-use Rattle.replacing.specs.Exchanging.{map-twice, map-length, any-map, pick-map, member-kept, origin-kept, shape-kept, called-kept, equations-united, move-type-kept, move-item-kept, move-hidden-item-kept, move-equation-kept}
+use Rattle.replacing.specs.Exchanging.{map-twice, map-length, any-map, pick-map, member-kept, origin-kept, shape-kept, called-kept, is-function-kept, equations-united, move-type-kept, move-item-kept, move-hidden-item-kept, move-equation-kept}
 use Rattle.replacing.specs.Reordering.{Tagged, equation-equal, equations-symmetric, sum-rearranged, union-rearranged, none-of}
 use Rattle.replacing.specs.VisibleAlike.{member-rearranged, Once, OneOrigin, consistent-clear, clear-one, Like, like, like-none, any-alike, keep-alike, AlikeVisible, sorts-alike, names-alike, sort-names-alike, member-alike, consistent-alike, formals-alike, origin-of-alike, items-union-alike, unite-visible-alike}
 
@@ -232,10 +233,6 @@ module _ (τ : Name → Name) (keeps : (v w : Name) → same (τ v) (τ w) ≡ s
       go none = refl
       go (some n) = refl
 
-  old-kept : (r : Pair) → re-pair τ r .old ≡ τ (r .old)
-  unfolding re-pair
-  old-kept r = refl
-
   -- the new name may stand for what it did under the change: it is so of all but the name that the change takes to an operator
   abbrev pub Easier : Pair → Type 0
   Easier r = (s : Shape) → may-name (r .new) s ≡ true → may-name (τ (r .new)) (re-shape τ s) ≡ true
@@ -354,12 +351,21 @@ module _ (τ : Name → Name) (keeps : (v w : Name) → same (τ v) (τ w) ≡ s
         ap not (any-map (re-sort τ) (λ (s : Sort). not (sort-right formal′ (re-pairs rs) whole′ actual′ s))
         (λ (s : Sort). not (sort-right formal rs whole actual s)) (λ s. ap not (sort-right-kept s)) (t .output ∷ t .inputs))
 
-    shape-right-kept : (w : Name) (s : Shape)
-        → shape-right formal′ (re-pairs rs) whole′ actual′ (τ w) (re-shape τ s) ≡ shape-right formal rs whole actual w s
-    unfolding shape-right re-shape re-item
-    shape-right-kept w sort-shape = member-alike τ keeps w (sort-names-alike τ keeps like-actual)
-    shape-right-kept w (variable-shape s) = refl
-    shape-right-kept w (function-shape t) =
+    kind-right-kept : (w : Name) (s : Shape)
+        → kind-right formal′ (re-pairs rs) whole′ actual′ (τ w) (re-shape τ s) ≡ kind-right formal rs whole actual w s
+    unfolding kind-right re-shape re-item
+    kind-right-kept w sort-shape = member-alike τ keeps w (sort-names-alike τ keeps like-actual)
+    kind-right-kept w (variable-shape s) = refl
+    kind-right-kept w (function-shape t) =
+        any-alike (re-item τ) (λ (i : Item). is-called (τ w) i && is-function (i .shape)) (λ (i : Item). is-called w i && is-function (i .shape))
+        (λ i. ap₂ (λ (b c : Bool). b && c) (called-kept τ keeps w i) (is-function-kept τ keeps (i .shape))) (like-actual .items)
+
+    type-right-kept : (w : Name) (s : Shape)
+        → type-right formal′ (re-pairs rs) whole′ actual′ (τ w) (re-shape τ s) ≡ type-right formal rs whole actual w s
+    unfolding type-right re-shape re-item
+    type-right-kept w sort-shape = refl
+    type-right-kept w (variable-shape s) = refl
+    type-right-kept w (function-shape t) =
         ap₂ (λ (b c : Bool). b && c) (sorts-right-kept t)
         (any-alike (re-item τ)
         (λ (i : Item). is-called (τ w) i && same-shape (function-shape (move-type (new-sort formal′ (re-pairs rs) whole′ actual′) (new-function formal′ (re-pairs rs) whole′ actual′) (re-type τ t))) (i .shape))
@@ -371,24 +377,34 @@ module _ (τ : Name → Name) (keeps : (v w : Name) → same (τ v) (τ w) ≡ s
         ∙ shape-kept τ keeps (function-shape (move-type (new-sort formal rs whole actual) (new-function formal rs whole actual) t)) (i .shape)))
         (like-actual .items))
 
-    pair-right-kept : (r : Pair) → pair-right formal′ (re-pairs rs) whole′ actual′ (re-pair τ r) ≡ pair-right formal rs whole actual r
-    unfolding pair-right re-pair re-item
-    pair-right-kept r =
-        ap₂ (λ (b c : Bool). b && not c)
-        (any-alike (re-item τ) (is-called (τ (r .old))) (is-called (r .old)) (called-kept τ keeps (r .old)) like-formal)
-        (any-alike (re-item τ) (λ (i : Item). is-called (τ (r .old)) i && not (shape-right formal′ (re-pairs rs) whole′ actual′ (τ (r .new)) (i .shape)))
-        (λ (i : Item). is-called (r .old) i && not (shape-right formal rs whole actual (r .new) (i .shape)))
-        (λ i. ap₂ (λ (b c : Bool). b && not c) (called-kept τ keeps (r .old) i) (shape-right-kept (r .new) (i .shape))) like-formal)
+    all-right-kept : (right right′ : Name → Shape → Bool) → ((w : Name) (s : Shape) → right′ (τ w) (re-shape τ s) ≡ right w s) → (r : Pair)
+        → all-right formal′ (re-pairs rs) whole′ actual′ right′ (re-pair τ r) ≡ all-right formal rs whole actual right r
+    unfolding all-right re-pair re-item
+    all-right-kept right right′ kept r =
+        ap not (any-alike (re-item τ) (λ (i : Item). is-called (τ (r .old)) i && not (right′ (τ (r .new)) (i .shape)))
+        (λ (i : Item). is-called (r .old) i && not (right (r .new) (i .shape)))
+        (λ i. ap₂ (λ (b c : Bool). b && not c) (called-kept τ keeps (r .old) i) (kept (r .new) (i .shape))) like-formal)
 
-    pub pairs-right-kept : (seen : List Name) (xs : List Pair) → wrong-pair formal rs whole actual seen xs ≡ none
-        → wrong-pair formal′ (re-pairs rs) whole′ actual′ (map τ seen) (re-pairs xs) ≡ none
-    unfolding wrong-pair pick
+    pair-right-kept : (seen : List Name) (r : Pair) → RightPair formal rs whole actual seen r
+        → RightPair formal′ (re-pairs rs) whole′ actual′ (map τ seen) (re-pair τ r)
+    unfolding re-pair
+    pair-right-kept seen r h = record {
+      formal-there = any-alike (re-item τ) (is-called (τ (r .old))) (is-called (r .old)) (called-kept τ keeps (r .old)) like-formal ∙ h .formal-there;
+      not-before = ap not (member-kept τ keeps (r .old) seen) ∙ h .not-before;
+      actual-there =
+          any-alike (re-item τ) (is-called (τ (r .new))) (is-called (r .new)) (called-kept τ keeps (r .new)) (like-actual .items) ∙ h .actual-there;
+      kinds = all-right-kept (kind-right formal rs whole actual) (kind-right formal′ (re-pairs rs) whole′ actual′) kind-right-kept r ∙ h .kinds;
+      types = all-right-kept (type-right formal rs whole actual) (type-right formal′ (re-pairs rs) whole′ actual′) type-right-kept r ∙ h .types;
+    }
+
+    pub pairs-right-kept : (seen : List Name) (xs : List Pair) → pairs-right formal rs whole actual seen xs ≡ fine tt
+        → pairs-right formal′ (re-pairs rs) whole′ actual′ (map τ seen) (re-pairs xs) ≡ fine tt
+    unfolding pairs-right re-pair _>>_
     pairs-right-kept seen [] e = refl
     pairs-right-kept seen (x ∷ xs) e =
-        let p = pick-none _ _ _ e in
-        let q = both-true (pair-right formal rs whole actual x) (not (member (x .old) seen)) (p .0) in
-        let old : re-pair τ x .old ≡ τ (x .old) = old-kept x in
-        rw (pair-right-kept x, q .0, old, member-kept τ keeps (x .old) seen, q .1) (pairs-right-kept (x .old ∷ seen) xs (p .1))
+        let both = then-fine _ _ tt e in
+        let right = pair-right-kept seen x (pair-fine formal rs whole actual seen x (both .0)) in
+        rw (fine-pair formal′ (re-pairs rs) whole′ actual′ (map τ seen) (re-pair τ x) right) (pairs-right-kept (x .old ∷ seen) xs (both .1))
 
     pub none-unpaired : unpaired formal rs whole actual ≡ none → unpaired formal′ (re-pairs rs) whole′ actual′ ≡ none
     unfolding unpaired re-pair
@@ -437,11 +453,11 @@ module _ (τ : Name → Name) (keeps : (v w : Name) → same (τ v) (τ w) ≡ s
     bound-alike : (k : Normal) → bound-to p rs n a ≡ fine k → Follows k (bound-to p (re-pairs rs) n′ a′)
     unfolding bound-to _>>_ unless
     bound-alike k e =
-        let f = then-fine (unless bad-binding (wrong-pair F rs (n .visible) (a .visible) [] rs)) _ k e in
-        let g = then-fine (unless bad-binding (unpaired F rs (n .visible) (a .visible))) _ k (f .1) in
+        let f = then-fine (pairs-right F rs (n .visible) (a .visible) [] rs) _ k e in
+        let g = then-fine (unless formal-unpaired (unpaired F rs (n .visible) (a .visible))) _ k (f .1) in
         rw (
           pairs-right-kept F F′ like-F rs (n .visible) (n′ .visible) (b .alike .visible) (b .one) (a .visible) (a′ .visible) (c .alike .visible) (c .one) [] rs
-              (unless-fine _ _ (f .0)),
+              (f .0),
           none-unpaired F F′ like-F rs (n .visible) (n′ .visible) (b .alike .visible) (b .one) (a .visible) (a′ .visible) (c .alike .visible) (c .one)
               (unless-fine _ _ (g .0)),
         )
@@ -454,7 +470,7 @@ module _ (τ : Name → Name) (keeps : (v w : Name) → same (τ v) (τ w) ≡ s
         rw (← member-rearranged p (Permᴰ·map (λ (q : Slot). q .name) (b .alike .visible .parameters)))
         (go (member p (slot-names (n .visible .parameters))) (bound-to p rs n a) (bound-to p (re-pairs rs) n′ a′) e bound-alike)
       where
-        go : (x : Bool) (o o′ : Outcome Normal) → pick x o (stop bad-parameter p) ≡ fine k → ((j : Normal) → o ≡ fine j → Follows j o′)
-            → Follows k (pick x o′ (stop bad-parameter p))
+        go : (x : Bool) (o o′ : Outcome Normal) → pick x o (stop bad-parameter (lone p)) ≡ fine k → ((j : Normal) → o ≡ fine j → Follows j o′)
+            → Follows k (pick x o′ (stop bad-parameter (lone p)))
         go true o o′ q h = h k q
         go false o o′ q h = let z : _≡_ {A = ℕ} 0 1 = cc in absurd (omega arith)

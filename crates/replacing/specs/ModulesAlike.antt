@@ -14,7 +14,7 @@ use Rattle.meaning.specs.Syntax.{Function, Signature, Parameter, Clause, rename
 use Rattle.meaning.specs.Origins.{ResolvedEquation, Item, one-equation}
 use Rattle.meaning.specs.Normal.{Visible, Normal, nothing-visible, nothing-hidden, empty, sort-names, unite-hidden, unite}
 use Rattle.meaning.specs.Written.{in-order}
-use Rattle.meaning.specs.Checks.{Outcome, fine, stop, _>>=_, _>>_, unless, consistent, Size, size, add-sizes, room, total-room, checked}
+use Rattle.meaning.specs.Checks.{lone, Outcome, fine, stop, _>>=_, _>>_, unless, consistent, Size, size, add-sizes, room, total-room, checked}
 use Rattle.meaning.specs.Own.{own-visible, own-hidden-items, constants}
 use Rattle.meaning.specs.Typing.{made-equation, typed-equations}
 use Rattle.meaning.specs.Evaluate.{Evaluated, clause-names, import-names, named-by, names-right, same-function, name-of-function, once-in, once-in-parameters, declared-once, normal-of, clause, clauses, expressions, united, imported, seen-sorts, joined-visible, own-checks, own-equations, joined-hidden, joined-own, evaluate}
@@ -359,9 +359,10 @@ module _ (τ : Name → Name) (keeps : (v w : Name) → same (τ v) (τ w) ≡ s
   once-in-parameters-kept seen [] e = refl
   once-in-parameters-kept seen (p ∷ ps) e = go (member (p .name) seen) e (once-in-parameters-kept (p .name ∷ seen) ps)
     where
-      go : (b : Bool) → pick b (stop declared-twice (p .name)) (once-in (p .signature) >> once-in-parameters (p .name ∷ seen) ps) ≡ fine tt
+      go : (b : Bool) → pick b (stop declared-twice (lone (p .name))) (once-in (p .signature) >> once-in-parameters (p .name ∷ seen) ps) ≡ fine tt
           → (once-in-parameters (p .name ∷ seen) ps ≡ fine tt → once-in-parameters (p .name ∷ seen) (map (re-parameter τ) ps) ≡ fine tt)
-          → pick b (stop declared-twice (p .name)) (once-in (re-signature τ (p .signature)) >> once-in-parameters (p .name ∷ seen) (map (re-parameter τ) ps)) ≡ fine tt
+          → pick b (stop declared-twice (lone (p .name)))
+          (once-in (re-signature τ (p .signature)) >> once-in-parameters (p .name ∷ seen) (map (re-parameter τ) ps)) ≡ fine tt
       go true q i = let z : _≡_ {A = ℕ} 0 1 = cc in absurd (omega arith)
       go false q i =
           let a = then-fine (once-in (p .signature)) _ tt q in
@@ -496,8 +497,11 @@ module _ (τ : Name → Name) (keeps : (v w : Name) → same (τ v) (τ w) ≡ s
       rw (module-names-kept ms, reached-kept asked 0 [] ms)
       (go (member asked (module-names ms)) e)
     where
-      go : (b : Bool) → pick b (in-turn (module-names ms) [] empty (reached asked ms)) (refused-at asked-absent 0 asked (short-or-blank asked)) ≡ normalised count n
+      go : (b : Bool)
+          → pick b (in-turn (module-names ms) [] empty (reached asked ms)) (refused-at asked-absent 0 asked (lone (short-or-blank asked)))
+          ≡ normalised count n
           → EndsAlike count n
-          (pick b (in-turn (module-names ms) [] empty (map re-placed (reached-among asked 0 [] ms))) (refused-at asked-absent 0 asked (short-or-blank asked)))
+          (pick b (in-turn (module-names ms) [] empty (map re-placed (reached-among asked 0 [] ms)))
+          (refused-at asked-absent 0 asked (lone (short-or-blank asked))))
       go true q = in-turn-alike (module-names ms) [] [] tt tt empty empty empty-both (reached-among asked 0 [] ms) g count n q
       go false q = let z : _≡_ {A = ℕ} 0 1 = cc in absurd (omega arith)

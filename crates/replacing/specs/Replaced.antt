@@ -16,6 +16,7 @@ use Rattle.meaning.specs.Origins.{Shape, sort-shape, function-shape, variable-s
 use Rattle.meaning.specs.Normal.{Normal}
 use Rattle.meaning.specs.Written.{in-order}
 use Rattle.meaning.specs.Clauses.{arguments-fit, may-name}
+use Rattle.meaning.specs.Checks.{lone}
 use Rattle.meaning.specs.Reached.{Ended, normalised, refused-at, normalise}
 use Rattle.meaning.specs.Texts.{Texts}
 use Rattle.meaning.specs.Listing.{lines-text, listing-lines}
@@ -161,7 +162,7 @@ unfolding within of-ended refusal pick
 within-so output asked count n = go (leb (length (lines-text (listing-lines asked n))) output) refl
   where
     go : (b : Bool) → leb (length (lines-text (listing-lines asked n))) output ≡ b
-        → let r = pick b (of-ended asked (normalised count n)) (refusal lent-short count asked [] 0) in
+        → let r = pick b (of-ended asked (normalised count n)) (refusal lent-short count asked (lone []) 0) in
         TooShort asked count n output r ⊎ Accepts asked count n r
     go true q = inr (record { number = refl; modules = refl; lines = refl })
     go false q = inl (record { number = refl; modules = refl; longer = leb-false (length (lines-text (listing-lines asked n))) output q })
