@@ -15,13 +15,13 @@ use Rattle.forms.specs.declared.Verdict.the-variants.{Fine, Stop}
 use Rattle.forms.specs.Memory.{part, Same, Kept}
 use Rattle.forms.specs.Forms.{slots-at, items-at}
 use Rattle.forms.specs.FormLaws.{Apart, kept-same, kept-wider, kept-then, slots-same, items-same, tape-same}
-use Rattle.forms.specs.Verdicts.{told}
+use Rattle.forms.specs.Verdicts.{lone-of, told}
 use Rattle.order.specs.Order.{PutInOrder, NamesApart}
 use Rattle.checks.specs.declared.Found.{Found}
 use Rattle.checks.specs.declared.Found.the-variants.{At, Nothing}
 use Rattle.checks.specs.declared.Test.the-variants.{Sorts, Functions, Overloading}
 use Rattle.checks.specs.Clashes.{named, clash-name, repeated-name}
-use Rattle.checks.specs.Consistent.{within, overloading-check, functions-check, items-check, names-check, checks-consistent, RowsLaid, Laid, ItemsChecked, Checked}
+use Rattle.checks.specs.Consistent.{nobody, within, overloading-check, functions-check, items-check, names-check, checks-consistent, RowsLaid, Laid, ItemsChecked, Checked}
 
 -- ---- `room`, `total_room`
 
@@ -30,15 +30,15 @@ module _ (a a-limit b b-limit c c-limit : ℕ) where
   unfolding within pick
   within-fine h k l = rw (le-leb a a-limit h, le-leb b b-limit k, le-leb c c-limit l)
 
-  pub within-first : a-limit < a → Stop 18 0 ≡ within a a-limit b b-limit c c-limit
+  pub within-first : a-limit < a → Stop 18 nobody ≡ within a a-limit b b-limit c c-limit
   unfolding within pick
   within-first h = rw (lt-leb a a-limit h)
 
-  pub within-second : a ≤ a-limit → b-limit < b → Stop 18 0 ≡ within a a-limit b b-limit c c-limit
+  pub within-second : a ≤ a-limit → b-limit < b → Stop 18 nobody ≡ within a a-limit b b-limit c c-limit
   unfolding within pick
   within-second h k = rw (le-leb a a-limit h, lt-leb b b-limit k)
 
-  pub within-third : a ≤ a-limit → b ≤ b-limit → c-limit < c → Stop 18 0 ≡ within a a-limit b b-limit c c-limit
+  pub within-third : a ≤ a-limit → b ≤ b-limit → c-limit < c → Stop 18 nobody ≡ within a a-limit b b-limit c c-limit
   unfolding within pick
   within-third h k l = rw (le-leb a a-limit h, le-leb b b-limit k, lt-leb c c-limit l)
 
@@ -46,17 +46,17 @@ module _ (a a-limit b b-limit c c-limit : ℕ) where
 
 module _ (text : List ℕ) (items : List Item) (f : Found) where
   module _ (x : ℕ) (h : f ≡ At x) where
-    pub overloading-stop : named text f ≡ clash-name Overloading items → told text (Stop 11 x) ≡ overloading-check items
+    pub overloading-stop : named text f ≡ clash-name Overloading items → told text (Stop 11 (record { name = x; actual = 0 })) ≡ overloading-check items
     unfolding overloading-check told unless named
-    overloading-stop e = rw (← e, h)
+    overloading-stop e = rw (lone-of text x, ← e, h)
 
-    pub functions-stop : named text f ≡ clash-name Functions items → told text (Stop 10 x) ≡ functions-check items
+    pub functions-stop : named text f ≡ clash-name Functions items → told text (Stop 10 (record { name = x; actual = 0 })) ≡ functions-check items
     unfolding functions-check told unless named _>>_
-    functions-stop e = rw (← e, h)
+    functions-stop e = rw (lone-of text x, ← e, h)
 
-    pub sorts-stop : named text f ≡ clash-name Sorts items → told text (Stop 10 x) ≡ items-check items
+    pub sorts-stop : named text f ≡ clash-name Sorts items → told text (Stop 10 (record { name = x; actual = 0 })) ≡ items-check items
     unfolding items-check told unless named _>>_
-    sorts-stop e = rw (← e, h)
+    sorts-stop e = rw (lone-of text x, ← e, h)
 
   module _ (h : f ≡ Nothing) where
     pub overloading-fine : named text f ≡ clash-name Overloading items → told text Fine ≡ overloading-check items
@@ -128,11 +128,12 @@ module _ (text w w′ : List ℕ) (t q np b n p : ℕ) (f : Found) (laid : Laid 
       ap (names-check (slots-at text w q np)) (sym (append-nil (items-at text (part w 0 t) w b n)))
       ∙ checks-consistent (record { parameters = slots-at text w q np; items = items-at text (part w 0 t) w b n }) []
 
-  pub consistent-stop : (x : ℕ) → f ≡ At x → Checked text w w′ t q np b n p (Stop 15 x)
+  pub consistent-stop : (x : ℕ) → f ≡ At x → Checked text w w′ t q np b n p (Stop 15 (record { name = x; actual = 0 }))
   unfolding names-check told unless named _>>_
   consistent-stop x h =
       let found : named text f ≡ repeated-name (slots-at text w q np) = e ∙ ap repeated-name slots-kept in
-      let verdict : told text (Stop 15 x) ≡ names-check (slots-at text w q np) (items-at text (part w 0 t) w b n) = rw (← found, h) in
+      let verdict : told text (Stop 15 (record { name = x; actual = 0 })) ≡ names-check (slots-at text w q np) (items-at text (part w 0 t) w b n) =
+      rw (lone-of text x, ← found, h) in
       record { verdict = verdict ∙ whole; kept = wide }
 
   pub consistent-fine : (w″ : List ℕ) (r : Verdict) → f ≡ Nothing → ItemsChecked text w′ w″ t b n p r → Checked text w w″ t q np b n p r

@@ -5,36 +5,39 @@ use mathlib.Core.List.{List, [], _++_, append-nil}
 use Prim.Native.Nat.{ℕ, _+_, _*_, _^_, _≤_, _<_}
 use lib.Dec.{leb}
 use Rattle.meaning.specs.Lists.{pick}
-use Rattle.meaning.specs.Names.{Name}
 use Rattle.meaning.specs.Numbers.{clashing, overloading, bad-parameter, no-room}
 use Rattle.meaning.specs.Origins.{Item}
 use Rattle.meaning.specs.Normal.{Slot, Visible}
-use Rattle.meaning.specs.Checks.{Check, stop, _>>_, unless, fits, consistent}
-use Rattle.names.specs.Word.{no-name}
+use Rattle.meaning.specs.Checks.{Check, _>>_, unless, needs, fits, consistent}
+use Rattle.forms.specs.declared.Culprit.{Culprit}
 use Rattle.forms.specs.declared.Verdict.{Verdict}
 use Rattle.forms.specs.declared.Verdict.the-variants.{Fine, Stop}
 use Rattle.forms.specs.Memory.{part, Kept}
 use Rattle.forms.specs.Forms.{slots-at, items-at}
 use Rattle.forms.specs.FormLaws.{Apart, items-split}
-use Rattle.forms.specs.Verdicts.{told}
+use Rattle.forms.specs.Verdicts.{nobody-of, told}
 use Rattle.checks.specs.declared.Test.the-variants.{Sorts, Functions, Overloading}
 use Rattle.checks.specs.Clashes.{wrong, clash-name, repeated-name}
 
 -- ---- room
 
+-- 18 has no culprit
+abbrev pub nobody : Culprit
+nobody = record { name = 0; actual = 0 }
+
 -- three numbers, each within its limit
 unfoldable pub within : ℕ → ℕ → ℕ → ℕ → ℕ → ℕ → Verdict
-within a a-limit b b-limit c c-limit = pick (leb a a-limit && leb b b-limit && leb c c-limit) Fine (Stop no-room 0)
+within a a-limit b b-limit c c-limit = pick (leb a a-limit && leb b b-limit && leb c c-limit) Fine (Stop no-room nobody)
 
 -- the verdict on them stands for the meaning's
 pub within-told : (text : List ℕ) (a a-limit b b-limit c c-limit : ℕ)
     → told text (within a a-limit b b-limit c c-limit) ≡ fits (leb a a-limit && leb b b-limit && leb c c-limit)
-unfolding told within fits pick
+unfolding told within fits needs pick
 within-told text a a-limit b b-limit c c-limit = go (leb a a-limit && leb b b-limit && leb c c-limit)
   where
-    go : (enough : Bool) → told text (pick enough Fine (Stop no-room 0)) ≡ fits enough
+    go : (enough : Bool) → told text (pick enough Fine (Stop no-room nobody)) ≡ fits enough
     go true = refl
-    go false = ap (λ (n : Name). stop no-room n) (no-name text)
+    go false = rw (nobody-of text)
 
 -- ---- clashes and overloading
 

@@ -6,11 +6,12 @@ use borrow.Author.Needs.{needs}
 use Rattle.meaning.specs.Lists.{pick}
 use Rattle.meaning.specs.Numbers.{parameter-room, item-room, equation-room, item-total, equation-total, node-total, no-room}
 use Rattle.forms.specs.declared.Form.{Form}
+use Rattle.forms.specs.declared.Culprit.{Culprit}
 use Rattle.forms.specs.declared.Made.{Made}
 use Rattle.forms.specs.declared.Made.the-variants.{Done, Refused}
 use Rattle.forms.specs.declared.Verdict.{Verdict}
 use Rattle.forms.specs.declared.Verdict.the-variants.{Fine, Stop}
-use Rattle.checks.specs.Consistent.{within}
+use Rattle.checks.specs.Consistent.{nobody, within}
 use Rattle.making.specs.Checked.{enough}
 use Rattle.completing.specs.declared.Totals.{Totals}
 use Rattle.completing.specs.Room.{together, fitting-together, fitting-all}
@@ -20,7 +21,7 @@ abbrev after : (v : Verdict) → Made → Made
 after Fine r = r
 after (Stop k x) r = Refused k x
 
-after-within : (c : Bool) (r : Made) → after (pick c Fine (Stop no-room 0)) r ≡ pick c r (Refused no-room 0)
+after-within : (c : Bool) (r : Made) → after (pick c Fine (Stop no-room nobody)) r ≡ pick c r (Refused no-room nobody)
 unfolding pick
 after-within true r = refl
 after-within false r = refl
@@ -34,7 +35,7 @@ module _ (f : Form) (totals : Totals) (items equations nodes : ℕ) (v : Verdict
   unfolding within fitting-together together
   told-together = ap (λ (u : Verdict). after u (Done f)) (rw (i, e, n) at h) ∙ after-within (together f totals) (Done f)
 
-  pub together-stop : (k x : ℕ) → v ≡ Stop k x → Refused k x ≡ fitting-together f totals
+  pub together-stop : (k : ℕ) (x : Culprit) → v ≡ Stop k x → Refused k x ≡ fitting-together f totals
   together-stop k x q = ap (λ (u : Verdict). after u (Done f)) (sym q) ∙ told-together
 
   pub together-fine : v ≡ Fine → Done f ≡ fitting-together f totals
@@ -47,9 +48,9 @@ module _ (f : Form) (totals : Totals) (items : ℕ) (v : Verdict) (i : items ≡
   told-all : (r : Made) → r ≡ fitting-together f totals → after v r ≡ fitting-all f totals
   unfolding within fitting-all enough
   told-all r q =
-      ap (λ (u : Verdict). after u r) (rw i at h) ∙ after-within (enough f) r ∙ ap (λ (s : Made). pick (enough f) s (Refused no-room 0)) q
+      ap (λ (u : Verdict). after u r) (rw i at h) ∙ after-within (enough f) r ∙ ap (λ (s : Made). pick (enough f) s (Refused no-room nobody)) q
 
-  pub all-stop : (k x : ℕ) → v ≡ Stop k x → Refused k x ≡ fitting-all f totals
+  pub all-stop : (k : ℕ) (x : Culprit) → v ≡ Stop k x → Refused k x ≡ fitting-all f totals
   all-stop k x q = ap (λ (u : Verdict). after u (fitting-together f totals)) (sym q) ∙ told-all (fitting-together f totals) refl
 
   pub all-fine : (r : Made) → v ≡ Fine → r ≡ fitting-together f totals → r ≡ fitting-all f totals

@@ -16,6 +16,7 @@ use Rattle.meaning.specs.Evaluate.{seen-sorts, joined-visible, own-equations, j
 use Rattle.tape.specs.Tape.{flat-equation}
 use Rattle.forms.specs.declared.Form.{Form}
 use Rattle.forms.specs.declared.Block.{Block}
+use Rattle.forms.specs.declared.Culprit.{Culprit}
 use Rattle.forms.specs.declared.Made.{Made}
 use Rattle.forms.specs.declared.Made.the-variants.{Done, Refused}
 use Rattle.forms.specs.Memory.{part, Kept}
@@ -54,7 +55,8 @@ kept-done low high w w′ (Refused k x) l = tt
 -- ---- one outcome after the other
 
 module _ (text : List ℕ) {A : Type 0} (h : A → Normal) (then : A → Outcome Normal) (tape w tape′ w′ : List ℕ) where
-  refused-on : (o : Outcome A) (k x : ℕ) → Makes text tape w (Refused k x) (o >>= (λ a. fine (h a))) → Makes text tape′ w′ (Refused k x) (o >>= then)
+  refused-on : (o : Outcome A) (k : ℕ) (x : Culprit) → Makes text tape w (Refused k x) (o >>= (λ a. fine (h a)))
+      → Makes text tape′ w′ (Refused k x) (o >>= then)
   unfolding _>>=_
   refused-on (fine a) k x m = absurd m
   refused-on (stop j c) k x m = m

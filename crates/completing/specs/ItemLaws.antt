@@ -8,9 +8,9 @@ use lib.ListN.{length}
 use Rattle.meaning.specs.Syntax.{Module}
 use Rattle.meaning.specs.Normal.{Visible, Normal}
 use Rattle.meaning.specs.Evaluate.{seen-sorts, joined-visible, own-checks}
-use Rattle.names.specs.Word.{name-of}
 use Rattle.forms.specs.declared.Form.{Form}
 use Rattle.forms.specs.declared.Block.{Block}
+use Rattle.forms.specs.declared.Culprit.{Culprit}
 use Rattle.forms.specs.declared.Made.{Made}
 use Rattle.forms.specs.declared.Made.the-variants.{Done, Refused}
 use Rattle.forms.specs.declared.Verdict.{Verdict}
@@ -20,7 +20,7 @@ use Rattle.forms.specs.Forms.{visible-at, Stands}
 use Rattle.forms.specs.FormLaws.{kept-wider, kept-then}
 use Rattle.forms.specs.Frames.{stands-kept}
 use Rattle.forms.specs.Blocks.{Outside}
-use Rattle.forms.specs.Verdicts.{told}
+use Rattle.forms.specs.Verdicts.{culprit-of, told}
 use Rattle.making.specs.Made.{makes-as, refused-makes, stops, goes-on}
 use Rattle.declarations.specs.Sorts.{Ready}
 use Rattle.declarations.specs.ItemLaws.{few-inputs}
@@ -202,14 +202,14 @@ module _ (t : ℕ) (own : Own) (f : Form) (b : Block) (scratch : ℕ) (totals : 
               seen = g .seen;
             }
 
-        pub items-refused : (home k z : ℕ) → v ≡ Stop k z → CompletedIn text t w home own f b scratch totals (Refused k z) w₂
+        pub items-refused : (home k : ℕ) (z : Culprit) → v ≡ Stop k z → CompletedIn text t w home own f b scratch totals (Refused k z) w₂
         unfolding joined-all told
         items-refused home k z e = record {
           made-in = tt;
           right = tt;
           made = λ m n total q g. record {
             makes = refused-makes text (part w₂ 0 t) w₂ k z (joined-all home total m n)
-                (stops (own-checks m (seen-sorts m (n .visible)) (joined-visible m (n .visible))) (equations-joined home total m n) k (name-of text z)
+                (stops (own-checks m (seen-sorts m (n .visible)) (joined-visible m (n .visible))) (equations-joined home total m n) k (culprit-of text z)
                 (verdict-meant m n g ∙ ap (told text) e));
             kept = tt;
           };

@@ -13,8 +13,7 @@ use lib.Seq.{length-take-le, take-all}
 use Rattle.meaning.specs.Lists.{pick}
 use Rattle.meaning.specs.Numbers.{parameter-room, item-room, equation-room, item-total, equation-total, node-total, no-room}
 use Rattle.meaning.specs.Normal.{Visible, Hidden, Normal, unite-hidden}
-use Rattle.meaning.specs.Checks.{Outcome, fine, _>>_, Size, size, add-sizes, fits, room, total-room}
-use Rattle.names.specs.Word.{no-name}
+use Rattle.meaning.specs.Checks.{Outcome, fine, _>>_, Size, size, add-sizes, needs, fits, room, total-room}
 use Rattle.forms.specs.declared.Form.{Form}
 use Rattle.forms.specs.declared.Block.{Block}
 use Rattle.forms.specs.declared.Made.{Made}
@@ -22,7 +21,9 @@ use Rattle.forms.specs.declared.Made.the-variants.{Done, Refused}
 use Rattle.forms.specs.Memory.{part}
 use Rattle.forms.specs.Forms.{visible-at, Stands}
 use Rattle.forms.specs.FormLaws.{length-items}
+use Rattle.forms.specs.Verdicts.{nobody-of}
 use Rattle.forms.specs.Blocks.{Lies, Makes, MadeIn}
+use Rattle.checks.specs.Consistent.{nobody}
 use Rattle.making.specs.Checked.{enough, length-slots, and-true}
 use Rattle.uniting.specs.United.{within}
 use Rattle.completing.specs.declared.Totals.{Totals}
@@ -49,10 +50,10 @@ together f totals =
     && leb (totals .nodes + f .«node_count») node-total
 
 unfoldable pub fitting-together : Form → Totals → Made
-fitting-together f totals = pick (together f totals) (Done f) (Refused no-room 0)
+fitting-together f totals = pick (together f totals) (Done f) (Refused no-room nobody)
 
 unfoldable pub fitting-all : Form → Totals → Made
-fitting-all f totals = pick (enough f) (fitting-together f totals) (Refused no-room 0)
+fitting-all f totals = pick (enough f) (fitting-together f totals) (Refused no-room nobody)
 
 -- with the form that is made, all together are no more than fits
 abbrev pub StillRight : Totals → Made → Type 0
@@ -68,7 +69,7 @@ module _ (f : Form) (totals : Totals) where
   unfolding fitting-all fitting-together together pick
   all-right = go (enough f) (together f totals) refl
     where
-      go : (a c : Bool) → together f totals ≡ c → StillRight totals (pick a (pick c (Done f) (Refused no-room 0)) (Refused no-room 0))
+      go : (a c : Bool) → together f totals ≡ c → StillRight totals (pick a (pick c (Done f) (Refused no-room nobody)) (Refused no-room nobody))
       go true true e =
           let last = and-true _ _ e in
           let front = and-true _ _ (last .0) in (
@@ -83,7 +84,7 @@ module _ (f : Form) (totals : Totals) where
   unfolding fitting-all fitting-together enough pick
   all-in b l nodes = go (enough f) refl (together f totals)
     where
-      go : (a : Bool) → enough f ≡ a → (c : Bool) → MadeIn b (pick a (pick c (Done f) (Refused no-room 0)) (Refused no-room 0))
+      go : (a : Bool) → enough f ≡ a → (c : Bool) → MadeIn b (pick a (pick c (Done f) (Refused no-room nobody)) (Refused no-room nobody))
       go true e true =
           let last = and-true _ _ e in
           let front = and-true _ _ (last .0) in
@@ -217,16 +218,16 @@ module _ (text : List ℕ) (t : ℕ) (w : List ℕ) (g f : Form) (b : Block) (r 
 
   -- the form, or 18, is what the meaning says
   pub fitted : (totals : Totals) (total : Size) → TotalsMeant totals total → Makes text tape w′ (fitting-all r totals) (in-room total all)
-  unfolding fitting-all fitting-together in-room fits pick _>>_
+  unfolding fitting-all fitting-together in-room fits needs pick _>>_
   fitted totals total e = rw room-meant (go (enough r) refl)
     where
       go : (a : Bool) → enough r ≡ a
-          → Makes text tape w′ (pick a (pick (together r totals) (Done r) (Refused no-room 0)) (Refused no-room 0))
+          → Makes text tape w′ (pick a (pick (together r totals) (Done r) (Refused no-room nobody)) (Refused no-room nobody))
           (fits a >> (total-room (add-sizes total (size all)) >> fine all))
       go true q =
           rw (together-meant text tape w′ r all totals total e (all-stands q)) (inner (together r totals) (all-stands q))
         where
-          inner : (c : Bool) → Stands text tape w′ r all → Makes text tape w′ (pick c (Done r) (Refused no-room 0)) (fits c >> fine all)
+          inner : (c : Bool) → Stands text tape w′ r all → Makes text tape w′ (pick c (Done r) (Refused no-room nobody)) (fits c >> fine all)
           inner true z = z
-          inner false z = (refl, no-name text)
-      go false q = (refl, no-name text)
+          inner false z = (refl, nobody-of text)
+      go false q = (refl, nobody-of text)

@@ -11,12 +11,14 @@ use Rattle.meaning.specs.Normal.{Normal, unite-hidden}
 use Rattle.meaning.specs.Checks.{Size}
 use Rattle.forms.specs.declared.Form.{Form}
 use Rattle.forms.specs.declared.Block.{Block}
+use Rattle.forms.specs.declared.Culprit.{Culprit}
 use Rattle.forms.specs.declared.Made.{Made}
 use Rattle.forms.specs.declared.Made.the-variants.{Done, Refused}
 use Rattle.forms.specs.Memory.{part, Kept}
 use Rattle.forms.specs.Forms.{Stands}
 use Rattle.forms.specs.FormLaws.{kept-all}
 use Rattle.forms.specs.Blocks.{Lies, Makes, MadeIn}
+use Rattle.checks.specs.Consistent.{nobody}
 use Rattle.joining.specs.Joined.{with-counts}
 use Rattle.uniting.specs.United.{with-items}
 use Rattle.own.specs.declared.OwnRows.{OwnRows}
@@ -59,7 +61,7 @@ pub record RoomMade (size t : ℕ) (made : Made) (f : Form) (b : Block) : Type 0
   pub room : (g : Form) → made ≡ Done g → JoinRoom size t g f b
 
 pub record MadeJoined (text : List ℕ) (t : ℕ) (w : List ℕ) (made : Made) (f : Form) (b : Block) (totals : Totals) (r : Made) (w′ : List ℕ) : Type 0 where
-  pub refused : (k x : ℕ) → made ≡ Refused k x → r ≡ Refused k x
+  pub refused : (k : ℕ) (x : Culprit) → made ≡ Refused k x → r ≡ Refused k x
   pub done : (g : Form) → made ≡ Done g → SaidJoined text t w g f b totals r w′
 
 -- ---- laws
@@ -68,7 +70,7 @@ pub nodes-few : (g : Form) (few : Bool) → few ≡ leb (g .«node_count») 6553
 nodes-few g few e h = leb-true (g .«node_count») 65536 (sym e ∙ h)
 
 module _ (text : List ℕ) (t : ℕ) (w : List ℕ) (g f : Form) (b : Block) (totals : Totals) where
-  pub said-many : (few : Bool) → few ≡ leb (g .«node_count») 65536 → few ≡ false → SaidJoined text t w g f b totals (Refused 18 0) w
+  pub said-many : (few : Bool) → few ≡ leb (g .«node_count») 65536 → few ≡ false → SaidJoined text t w g f b totals (Refused 18 nobody) w
   said-many few e h = record {
     made-in = tt;
     right = tt;
@@ -120,7 +122,7 @@ IsDone (Done g) = Unit {0}
 IsDone (Refused k x) = ⊥
 
 module _ (text : List ℕ) (t : ℕ) (w : List ℕ) (made : Made) (f : Form) (b : Block) (totals : Totals) where
-  pub joined-refused : (k x : ℕ) → made ≡ Refused k x → MadeJoined text t w made f b totals (Refused k x) w
+  pub joined-refused : (k : ℕ) (x : Culprit) → made ≡ Refused k x → MadeJoined text t w made f b totals (Refused k x) w
   joined-refused k x e = record { refused = λ j y q. sym e ∙ q; done = λ g q. absurd (subst IsDone (sym q ∙ e) tt) }
 
   pub joined-done : (g : Form) (r : Made) (w′ : List ℕ) → made ≡ Done g → SaidJoined text t w g f b totals r w′

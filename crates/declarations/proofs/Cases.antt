@@ -21,9 +21,10 @@ use Rattle.names.specs.Word.{name-of}
 use Rattle.tables.specs.Entries.{role-at, word-at, name-at, last-with, is-function-role, is-parameter-role, declared-at}
 use Rattle.tables.specs.Rows.{hidden-origin, sort-of}
 use Rattle.tables.specs.Decides.{declared-decided}
+use Rattle.forms.specs.declared.Culprit.{Culprit}
 use Rattle.forms.specs.declared.Verdict.{Verdict}
 use Rattle.forms.specs.declared.Verdict.the-variants.{Fine, Stop}
-use Rattle.forms.specs.Verdicts.{told}
+use Rattle.forms.specs.Verdicts.{lone-of, told}
 use Rattle.declarations.specs.Scans.{found, walked, first-of}
 use Rattle.declarations.specs.Sorts.{is-named, is-row, place-of, declares-at, declares-seen, hidden-place, is-seen, is-inside, resolved-in}
 use Rattle.declarations.specs.declared.Own.{Own}
@@ -65,7 +66,7 @@ module _ (text : List ℕ) (f : ℕ → Check) (i e : ℕ) where
     unfolding walked told _>>_
     walked-on q = rw (one-left i e h, ← g, q, add-one i)
 
-    pub walked-stop : (k w : ℕ) → v ≡ Stop k w → walked f i (e - i) ≡ told text (Stop k w)
+    pub walked-stop : (k : ℕ) (w : Culprit) → v ≡ Stop k w → walked f i (e - i) ≡ told text (Stop k w)
     unfolding walked told _>>_
     walked-stop k w q = rw (one-left i e h, ← g, q)
 
@@ -150,9 +151,9 @@ module _ (text tape : List ℕ) (a i r : ℕ) (e : r ≡ role-at tape i) (d : Bo
     unfolding once-at is-repeat told pick
     once-first p = rw (← e, ← f, q, ← g, ← h, p)
 
-    pub once-again : (x : ℕ) → b ≡ true → x ≡ word-at tape i → told text (Stop 9 x) ≡ once-at text tape a i
+    pub once-again : (x : ℕ) → b ≡ true → x ≡ word-at tape i → told text (Stop 9 (record { name = x; actual = 0 })) ≡ once-at text tape a i
     unfolding once-at is-repeat told pick
-    once-again x p k = rw (k, ← e, ← f, q, ← g, ← h, p)
+    once-again x p k = rw (lone-of text x, k, ← e, ← f, q, ← g, ← h, p)
 
 -- ---- the sort that a name means
 

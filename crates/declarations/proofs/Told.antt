@@ -11,7 +11,7 @@ use Rattle.meaning.specs.Lists.{pick}
 use Rattle.names.specs.Word.{name-of}
 use Rattle.tables.specs.Entries.{role-at, word-at, is-function-role, arity-at, sort-place}
 use Rattle.forms.specs.declared.Verdict.the-variants.{Fine, Stop}
-use Rattle.forms.specs.Verdicts.{told}
+use Rattle.forms.specs.Verdicts.{lone-of, told}
 use Rattle.declarations.specs.Scans.{found, first-of}
 use Rattle.declarations.specs.Sorts.{is-named, is-row, is-seen, is-inside}
 use Rattle.declarations.specs.Checked.{lacks, lacks-function, lacks-variable, lacks-sort, available-at, wrong-at, variable-at}
@@ -59,9 +59,9 @@ module _ (text tape w : List ℕ) (own : Own) where
     lack-nothing q h = rw (← e, ← f, q, ne-eqb r 17 h)
 
   module _ (d : ℕ) (b : Bool) (e : b ≡ lacks-sort text tape w own d) where
-    pub available-not : (x : ℕ) → b ≡ true → x ≡ word-at tape d → told text (Stop 13 x) ≡ available-at text tape w own d
+    pub available-not : (x : ℕ) → b ≡ true → x ≡ word-at tape d → told text (Stop 13 (record { name = x; actual = 0 })) ≡ available-at text tape w own d
     unfolding available-at told pick
-    available-not x q f = rw (f, ← e, q)
+    available-not x q f = rw (lone-of text x, f, ← e, q)
 
     pub available-there : b ≡ false → told text Fine ≡ available-at text tape w own d
     unfolding available-at told pick
@@ -87,9 +87,9 @@ module _ (text tape w : List ℕ) (own : Own) where
     variable-other h = rw (← e, ne-eqb r 17 h)
 
     module _ (c : Bool) (h : r ≡ 17) (f : c ≡ wrong-at text tape w own b n i) where
-      pub variable-wrong : (x : ℕ) → c ≡ true → x ≡ word-at tape i → told text (Stop 12 x) ≡ variable-at text tape w own b n i
+      pub variable-wrong : (x : ℕ) → c ≡ true → x ≡ word-at tape i → told text (Stop 12 (record { name = x; actual = 0 })) ≡ variable-at text tape w own b n i
       unfolding variable-at told pick
-      variable-wrong x q g = rw (g, ← e, eq-eqb r 17 h, ← f, q)
+      variable-wrong x q g = rw (lone-of text x, g, ← e, eq-eqb r 17 h, ← f, q)
 
       pub variable-right : c ≡ false → told text Fine ≡ variable-at text tape w own b n i
       unfolding variable-at told pick

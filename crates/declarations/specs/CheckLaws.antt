@@ -14,7 +14,7 @@ use Rattle.meaning.specs.Names.{Name, member}
 use Rattle.meaning.specs.Numbers.{bad-sort}
 use Rattle.meaning.specs.Syntax.{Function, Signature, Parameter, VariableGroup, Module, group-variables, variables-of}
 use Rattle.meaning.specs.Normal.{Visible}
-use Rattle.meaning.specs.Checks.{Check, fine, stop, _>>_, unless}
+use Rattle.meaning.specs.Checks.{lone, Check, fine, stop, _>>_, unless}
 use Rattle.meaning.specs.Own.{lacking, lacking-variable, parameter-functions, available-sorts}
 use Rattle.meaning.specs.Evaluate.{seen-sorts}
 use Rattle.tape.specs.Tape.{Entry, entry, flat-function, flat-signature, flat-parameter, flat-import, flat-group, flat-equation, flat-module}
@@ -82,12 +82,12 @@ last-first true false = refl
 last-first false true = refl
 last-first false false = refl
 
-refused : (k : ℕ) (n : Name) (b : Bool) → pick b (stop k n) (fine tt) ≡ unless k (pick b (some n) none)
+refused : (k : ℕ) (n : Name) (b : Bool) → pick b (stop k (lone n)) (fine tt) ≡ unless k (pick b (some n) none)
 unfolding unless pick
 refused k n true = refl
 refused k n false = refl
 
-refused-not : (k : ℕ) (n : Name) (b : Bool) → pick (not b) (stop k n) (fine tt) ≡ unless k (pick b none (some n))
+refused-not : (k : ℕ) (n : Name) (b : Bool) → pick (not b) (stop k (lone n)) (fine tt) ≡ unless k (pick b none (some n))
 unfolding unless pick
 refused-not k n true = refl
 refused-not k n false = refl

@@ -5,7 +5,7 @@ use mathlib.Core.List.{List}
 use lib.Dec.{eqb, ltb}
 use Rattle.meaning.specs.Lists.{pick}
 use Rattle.meaning.specs.Numbers.{bad-sort, bad-variable}
-use Rattle.meaning.specs.Checks.{Check, fine, stop}
+use Rattle.meaning.specs.Checks.{lone, Check, fine, stop}
 use Rattle.tape.specs.Tape.{hidden-function, variable-role}
 use Rattle.tables.specs.Entries.{role-at, name-at, is-function-role, arity-at, sort-place}
 use Rattle.declarations.specs.Scans.{found, first-of}
@@ -31,7 +31,7 @@ module _ (text tape w : List ℕ) (own : Own) where
       pick (is-function-role (role-at tape d)) f (pick (eqb (role-at tape d) variable-role) v false)
 
   unfoldable pub available-at : ℕ → Check
-  available-at d = pick (lacks-sort d) (stop bad-sort (name-at text tape d)) (fine tt)
+  available-at d = pick (lacks-sort d) (stop bad-sort (lone (name-at text tape d))) (fine tt)
 
   -- the variable at i is called like one before it, or like a constant among the visible rows or the n rows from b on
   unfoldable pub wrong-at : ℕ → ℕ → ℕ → Bool
@@ -42,4 +42,4 @@ module _ (text tape w : List ℕ) (own : Own) where
 
   unfoldable pub variable-at : ℕ → ℕ → ℕ → Check
   variable-at b n i =
-      pick (eqb (role-at tape i) variable-role) (pick (wrong-at b n i) (stop bad-variable (name-at text tape i)) (fine tt)) (fine tt)
+      pick (eqb (role-at tape i) variable-role) (pick (wrong-at b n i) (stop bad-variable (lone (name-at text tape i))) (fine tt)) (fine tt)

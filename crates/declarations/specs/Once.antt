@@ -6,7 +6,7 @@ use lib.Dec.{eqb, ltb}
 use Rattle.meaning.specs.Lists.{pick}
 use Rattle.meaning.specs.Numbers.{declared-twice}
 use Rattle.meaning.specs.Origins.{same-declared}
-use Rattle.meaning.specs.Checks.{Check, fine, stop}
+use Rattle.meaning.specs.Checks.{lone, Check, fine, stop}
 use Rattle.tape.specs.Tape.{parameter-role}
 use Rattle.tables.specs.Entries.{role-at, name-at, last-with, is-parameter-role, declared-at}
 use Rattle.declarations.specs.Scans.{found}
@@ -30,4 +30,4 @@ is-repeat text tape a i = found (repeats text tape i) (section-start tape a i) (
 
 unfoldable pub once-at : List ℕ → List ℕ → ℕ → ℕ → Check
 once-at text tape a i =
-    pick (is-declaring (role-at tape i)) (pick (is-repeat text tape a i) (stop declared-twice (name-at text tape i)) (fine tt)) (fine tt)
+    pick (is-declaring (role-at tape i)) (pick (is-repeat text tape a i) (stop declared-twice (lone (name-at text tape i))) (fine tt)) (fine tt)

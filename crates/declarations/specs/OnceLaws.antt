@@ -14,7 +14,7 @@ use Rattle.meaning.specs.Names.{Name, same, member}
 use Rattle.meaning.specs.Numbers.{declared-twice}
 use Rattle.meaning.specs.Syntax.{Function, Signature, Parameter, Module}
 use Rattle.meaning.specs.Origins.{Declared, declared-sort, declared-function, same-declared}
-use Rattle.meaning.specs.Checks.{Check, fine, stop, _>>_, unless}
+use Rattle.meaning.specs.Checks.{lone, Check, fine, stop, _>>_, unless}
 use Rattle.meaning.specs.Evaluate.{same-function, name-of-function, once-in, once-in-parameters, declared-once}
 use Rattle.tape.specs.Tape.{Entry, entry, flat-function, flat-signature, flat-parameter, flat-import, flat-group, flat-equation, flat-module}
 use Rattle.tables.specs.Entries.{role-at, name-at, is-function-role, is-parameter-role, last-with, declared-at}
@@ -30,7 +30,7 @@ unfolding any member
 any-member n [] = refl
 any-member n (x ∷ xs) = ap (λ (b : Bool). pick (same n x) true b) (any-member n xs)
 
-told-then : (k : ℕ) (n : Name) (b : Bool) (c : Check) → (told-at b k n >> c) ≡ pick b (stop k n) c
+told-then : (k : ℕ) (n : Name) (b : Bool) (c : Check) → (told-at b k n >> c) ≡ pick b (stop k (lone n)) c
 unfolding told-at _>>_ pick
 told-then k n true c = refl
 told-then k n false c = refl

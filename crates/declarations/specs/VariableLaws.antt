@@ -14,7 +14,7 @@ use Rattle.meaning.specs.Numbers.{bad-variable}
 use Rattle.meaning.specs.Syntax.{VariableGroup, Variable, Module, group-variables, variables-of}
 use Rattle.meaning.specs.Origins.{Item}
 use Rattle.meaning.specs.Normal.{Visible, names-in}
-use Rattle.meaning.specs.Checks.{Check, fine, stop, _>>_, unless}
+use Rattle.meaning.specs.Checks.{lone, Check, fine, stop, _>>_, unless}
 use Rattle.meaning.specs.Own.{wrong-variable, is-constant, constants}
 use Rattle.tape.specs.Tape.{Entry, entry, flat-parameter, flat-signature, flat-import, flat-group, flat-equation, flat-module}
 use Rattle.tables.specs.Entries.{role-at, name-at}
@@ -59,7 +59,7 @@ either-way false false = refl
 
 -- the refusal k of n where the test passes
 unfoldable pub told-at : Bool → ℕ → Name → Check
-told-at b k n = pick b (stop k n) (fine tt)
+told-at b k n = pick b (stop k (lone n)) (fine tt)
 
 pub refused-then : (k : ℕ) (n : Name) (b : Bool) (o : Option Name) → _≡_ {A = Check} (told-at b k n >> unless k o) (unless k (pick b (some n) o))
 unfolding told-at unless pick _>>_

@@ -119,7 +119,8 @@ fn available_at(library: &[u8], text: &[u8], work: &[u32], t: usize, own: Own, d
     ensures { λ r. ⌜ told (joint (now (library .entry)) (now (text .entry))) r ≡ available-at (joint (now (library .entry)) (now (text .entry))) (part (now (work .entry)) 0 t) (now (work .entry)) own d ⌝ }
 {
     if lacks_sort(library, text, work, t, own, d) {
-        return Verdict::Stop(13, Culprit { name: name_at(&work[0..t], d as usize), actual: 0 });
+        let name = name_at(&work[0..t], d as usize);
+        return Verdict::Stop(13, Culprit { name, actual: 0 });
     }
     Verdict::Fine
 }
@@ -184,7 +185,8 @@ fn variable_at(
 {
     if role_at(&work[0..t], i as usize) == 17 {
         if wrong_at(library, text, work, t, own, b, n, i) {
-            return Verdict::Stop(12, Culprit { name: name_at(&work[0..t], i as usize), actual: 0 });
+            let name = name_at(&work[0..t], i as usize);
+            return Verdict::Stop(12, Culprit { name, actual: 0 });
         }
         return Verdict::Fine;
     }

@@ -69,7 +69,8 @@ fn once_at(library: &[u8], text: &[u8], tape: &[u32], a: u32, i: u32) -> Verdict
     if is_declaring(role) {
         let start = section_start(tape, a, i);
         if is_repeat(library, text, tape, start, i) {
-            return Verdict::Stop(9, Culprit { name: name_at(tape, i as usize), actual: 0 });
+            let name = name_at(tape, i as usize);
+            return Verdict::Stop(9, Culprit { name, actual: 0 });
         }
         return Verdict::Fine;
     }

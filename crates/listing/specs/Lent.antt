@@ -9,6 +9,7 @@ use Rattle.meaning.specs.Lists.{pick, each}
 use Rattle.meaning.specs.Names.{Name}
 use Rattle.meaning.specs.Numbers.{lent-short}
 use Rattle.meaning.specs.Normal.{Normal}
+use Rattle.meaning.specs.Checks.{lone}
 use Rattle.meaning.specs.Reached.{normalised}
 use Rattle.meaning.specs.Listing.{lines-text, listing-lines}
 use Rattle.meaning.specs.Answer.{Answer, listing, refusal, of-ended, within, output-after}
@@ -25,7 +26,7 @@ use Rattle.listing.specs.Fit.{Result, result, fitted}
 -- the answer to one who asked, when its listing was written so: 19 where it is too long
 unfoldable pub answer-when : Name → Answer → Written → Answer
 answer-when asked a (Fits n) = a
-answer-when asked a TooLong = refusal lent-short (a .modules) asked [] 0
+answer-when asked a TooLong = refusal lent-short (a .modules) asked (lone []) 0
 
 -- the listing of the answer a was written so to the output o, which became o′
 pub record Lent (asked : Name) (a : Answer) (o : List ℕ) (r : Written) (o′ : List ℕ) : Type 0 where

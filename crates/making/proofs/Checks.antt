@@ -9,11 +9,12 @@ use Rattle.meaning.specs.Lists.{pick}
 use Rattle.meaning.specs.Numbers.{parameter-room, item-room, equation-room, no-room}
 use Rattle.forms.specs.declared.Form.{Form}
 use Rattle.forms.specs.declared.Block.{Block}
+use Rattle.forms.specs.declared.Culprit.{Culprit}
 use Rattle.forms.specs.declared.Made.{Made}
 use Rattle.forms.specs.declared.Made.the-variants.{Done, Refused}
 use Rattle.forms.specs.declared.Verdict.{Verdict}
 use Rattle.forms.specs.declared.Verdict.the-variants.{Fine, Stop}
-use Rattle.checks.specs.Consistent.{within, Laid, Checked}
+use Rattle.checks.specs.Consistent.{nobody, within, Laid, Checked}
 use Rattle.making.specs.Checked.{CheckRoom, enough, fitting, CheckedForm, order-laid, checked-stop, checked-fine}
 
 -- the form's verdict
@@ -25,11 +26,11 @@ as-fitting : (f : Form) → verdict-of (within (f .«parameter_count») paramete
 unfolding within fitting enough pick
 as-fitting f = go (enough f)
   where
-    go : (c : Bool) → verdict-of (pick c Fine (Stop no-room 0)) f ≡ pick c (Done f) (Refused no-room 0)
+    go : (c : Bool) → verdict-of (pick c Fine (Stop no-room nobody)) f ≡ pick c (Done f) (Refused no-room nobody)
     go true = refl
     go false = refl
 
-pub fit-stop : (f : Form) (items k x : ℕ) (v : Verdict) → items ≡ f .«visible_count» + f .«hidden_count»
+pub fit-stop : (f : Form) (items k : ℕ) (x : Culprit) (v : Verdict) → items ≡ f .«visible_count» + f .«hidden_count»
     → v ≡ within (f .«parameter_count») parameter-room items item-room (f .«equation_count») equation-room → v ≡ Stop k x → Refused k x ≡ fitting f
 fit-stop f items k x v i e h = ap (λ (u : Verdict). verdict-of u f) (sym h) ∙ ap (λ (u : Verdict). verdict-of u f) (rw i at e) ∙ as-fitting f
 

@@ -11,10 +11,10 @@ use borrow.Author.Tests.{leb-true}
 use Rattle.meaning.specs.Lists.{pick}
 use Rattle.meaning.specs.Numbers.{parameter-room, item-room, equation-room, no-room}
 use Rattle.meaning.specs.Normal.{Visible, Normal}
-use Rattle.meaning.specs.Checks.{fine, stop, _>>_, Check, consistent, size, fits, room, checked}
-use Rattle.names.specs.Word.{name-of, no-name}
+use Rattle.meaning.specs.Checks.{fine, stop, _>>_, Check, needs, consistent, size, fits, room, checked}
 use Rattle.forms.specs.declared.Form.{Form}
 use Rattle.forms.specs.declared.Block.{Block}
+use Rattle.forms.specs.declared.Culprit.{Culprit}
 use Rattle.forms.specs.declared.Made.{Made}
 use Rattle.forms.specs.declared.Made.the-variants.{Done, Refused}
 use Rattle.forms.specs.declared.Verdict.{Verdict}
@@ -24,8 +24,8 @@ use Rattle.forms.specs.Forms.{slots-at, visible-at, Stands}
 use Rattle.forms.specs.FormLaws.{kept-wider, length-items}
 use Rattle.forms.specs.Frames.{stands-kept}
 use Rattle.forms.specs.Blocks.{BlockLaid, Lies, Outside, Makes, MadeIn}
-use Rattle.forms.specs.Verdicts.{told}
-use Rattle.checks.specs.Consistent.{Laid, Checked}
+use Rattle.forms.specs.Verdicts.{culprit-of, nobody-of, told}
+use Rattle.checks.specs.Consistent.{nobody, Laid, Checked}
 use Rattle.making.specs.Made.{makes-as, stops, goes-on}
 
 -- the form lies in the block, which has room for what it has
@@ -49,7 +49,7 @@ unfoldable pub enough : Form → Bool
 enough f = leb (f .«parameter_count») parameter-room && leb (f .«visible_count» + f .«hidden_count») item-room && leb (f .«equation_count») equation-room
 
 unfoldable pub fitting : Form → Made
-fitting f = pick (enough f) (Done f) (Refused no-room 0)
+fitting f = pick (enough f) (Done f) (Refused no-room nobody)
 
 pub record CheckedForm (text : List ℕ) (t : ℕ) (w : List ℕ) (f : Form) (b : Block) (r : Made) (w′ : List ℕ) : Type 0 where
   pub kept : Kept (b .low) (b .high) w w′
@@ -71,7 +71,7 @@ fitting-in : (b : Block) (f : Form) → Lies b f → f .«node_count» ≤ b .«
 unfolding fitting enough pick
 fitting-in b f l nodes = go (enough f) refl
   where
-    go : (c : Bool) → enough f ≡ c → MadeIn b (pick c (Done f) (Refused no-room 0))
+    go : (c : Bool) → enough f ≡ c → MadeIn b (pick c (Done f) (Refused no-room nobody))
     go true e =
         let last = and-true _ _ e in
         let front = and-true _ _ (last .0) in
@@ -87,12 +87,12 @@ fitting-in b f l nodes = go (enough f) refl
     go false e = tt
 
 fitting-made : (text tape w : List ℕ) (f : Form) (n : Normal) → Stands text tape w f n → Makes text tape w (fitting f) (fits (enough f) >> fine n)
-unfolding fitting fits pick _>>_
+unfolding fitting fits needs pick _>>_
 fitting-made text tape w f n s = go (enough f)
   where
-    go : (c : Bool) → Makes text tape w (pick c (Done f) (Refused no-room 0)) (fits c >> fine n)
+    go : (c : Bool) → Makes text tape w (pick c (Done f) (Refused no-room nobody)) (fits c >> fine n)
     go true = s
-    go false = (refl, no-name text)
+    go false = (refl, nobody-of text)
 
 -- a form that lies in a block ends before its order table
 pub record Ends (f : Form) (at : ℕ) : Type 0 where
@@ -157,14 +157,14 @@ module _ (size t : ℕ) (f : Form) (b : Block) (c : CheckRoom size t f b) where
     unfolding visible-at
     verdict-meant n s = ap (λ (u : Visible). consistent u []) (sym (s .visible)) ∙ sym (k .verdict)
 
-    pub checked-stop : (j x : ℕ) → v ≡ Stop j x → CheckedForm text t w f b (Refused j x) w′
+    pub checked-stop : (j : ℕ) (x : Culprit) → v ≡ Stop j x → CheckedForm text t w f b (Refused j x) w′
     unfolding checked told
     checked-stop j x e = record {
       kept = block-kept;
       made-in = tt;
       made = λ n s.
-          makes-as text (part w′ 0 t) w′ (Refused j x) (stop j (name-of text x)) (checked n)
-          (stops (consistent (n .visible) []) (room n >> fine n) j (name-of text x) (verdict-meant n s ∙ ap (told text) e)) (refl, refl);
+          makes-as text (part w′ 0 t) w′ (Refused j x) (stop j (culprit-of text x)) (checked n)
+          (stops (consistent (n .visible) []) (room n >> fine n) j (culprit-of text x) (verdict-meant n s ∙ ap (told text) e)) (refl, refl);
     }
 
     -- 18

@@ -2,14 +2,15 @@
 use mathlib.Core.Path.{_≡_, refl, sym, ap, _∙_, subst}
 use Prim.Native.Nat.{ℕ}
 use mathlib.Core.List.{List}
-use Rattle.meaning.specs.Names.{Name}
 use Rattle.meaning.specs.Normal.{Normal}
+use Rattle.meaning.specs.Checks as Meaning
 use Rattle.meaning.specs.Checks.{Outcome, fine, stop, _>>=_, _>>_, Check}
-use Rattle.names.specs.Word.{name-of}
+use Rattle.forms.specs.declared.Culprit.{Culprit}
 use Rattle.forms.specs.declared.Form.{Form}
 use Rattle.forms.specs.declared.Made.{Made}
 use Rattle.forms.specs.declared.Made.the-variants.{Done, Refused}
 use Rattle.forms.specs.Forms.{Stands}
+use Rattle.forms.specs.Verdicts.{culprit-of}
 use Rattle.forms.specs.Blocks.{Makes}
 
 -- what is made agrees with an equal outcome
@@ -17,12 +18,12 @@ pub makes-as : (text tape w : List ℕ) (r : Made) (o p : Outcome Normal) → p 
 makes-as text tape w r o p e m = subst (λ (q : Outcome Normal). Makes text tape w r q) (sym e) m
 
 -- a refusal is the outcome's
-pub refused-outcome : (text tape w : List ℕ) (k x : ℕ) (o : Outcome Normal) → Makes text tape w (Refused k x) o → o ≡ stop k (name-of text x)
+pub refused-outcome : (text tape w : List ℕ) (k : ℕ) (x : Culprit) (o : Outcome Normal) → Makes text tape w (Refused k x) o → o ≡ stop k (culprit-of text x)
 refused-outcome text tape w k x (fine n) m = absurd m
 refused-outcome text tape w k x (stop j c) m = λ i. stop (sym (m .0) i) (sym (m .1) i)
 
-pub refused-makes : (text tape w : List ℕ) (k x : ℕ) (o : Outcome Normal) → o ≡ stop k (name-of text x) → Makes text tape w (Refused k x) o
-refused-makes text tape w k x o e = makes-as text tape w (Refused k x) (stop k (name-of text x)) o e (refl, refl)
+pub refused-makes : (text tape w : List ℕ) (k : ℕ) (x : Culprit) (o : Outcome Normal) → o ≡ stop k (culprit-of text x) → Makes text tape w (Refused k x) o
+refused-makes text tape w k x o e = makes-as text tape w (Refused k x) (stop k (culprit-of text x)) o e (refl, refl)
 
 -- a form stands for the outcome
 pub record DoneOutcome (text tape w : List ℕ) (f : Form) (o : Outcome Normal) : Type 0 where
@@ -36,7 +37,7 @@ done-outcome text tape w f (stop k c) m = absurd m
 
 -- ---- one outcome after the other
 
-pub then-stops : {A B : Type 0} (o : Outcome A) (f : A → Outcome B) (k : ℕ) (x : Name) → o ≡ stop k x → (o >>= f) ≡ stop k x
+pub then-stops : {A B : Type 0} (o : Outcome A) (f : A → Outcome B) (k : ℕ) (x : Meaning.Culprit) → o ≡ stop k x → (o >>= f) ≡ stop k x
 unfolding _>>=_
 then-stops o f k x e = rw e
 
@@ -44,7 +45,7 @@ pub then-goes-on : {A B : Type 0} (o : Outcome A) (f : A → Outcome B) (a : A) 
 unfolding _>>=_
 then-goes-on o f a e = rw e
 
-pub stops : {A : Type 0} (c : Check) (m : Outcome A) (k : ℕ) (x : Name) → c ≡ stop k x → (c >> m) ≡ stop k x
+pub stops : {A : Type 0} (c : Check) (m : Outcome A) (k : ℕ) (x : Meaning.Culprit) → c ≡ stop k x → (c >> m) ≡ stop k x
 unfolding _>>_
 stops c m k x e = rw e
 

@@ -16,9 +16,10 @@ use Rattle.meaning.specs.Checks.{_>>_}
 use Rattle.meaning.specs.Evaluate.{missing, too-late, names-right}
 use Rattle.names.specs.Word.{name-of}
 use Rattle.tables.specs.Entries.{role-at, word-at, name-at}
+use Rattle.forms.specs.declared.Culprit.{Culprit}
 use Rattle.forms.specs.declared.Verdict.{Verdict}
 use Rattle.forms.specs.declared.Verdict.the-variants.{Fine, Stop}
-use Rattle.forms.specs.Verdicts.{told}
+use Rattle.forms.specs.Verdicts.{lone-of, told}
 use Rattle.module_set.specs.ModuleSet.{holds, nothing, added, either}
 use Rattle.modules.specs.declared.Heads.{Heads}
 use Rattle.modules.specs.Modules.{is-module, names-module, places-from, HeadsOf, names-of, declared, picked, named-in, name-right, with-named, named-set, turned, gathered, reached-set}
@@ -150,17 +151,17 @@ module _ (text tape : List ℕ) (h : Heads) (k w p count : ℕ) (c : count ≡ h
   unfolding declared
   number = length-names text tape (h .places) 0 (h .count) ∙ sym c
 
-  pub right-absent : count ≤ p → told text (Stop 7 w) ≡ name-right (declared text tape h) k (name-of text w)
+  pub right-absent : count ≤ p → told text (Stop 7 (record { name = w; actual = 0 })) ≡ name-right (declared text tape h) k (name-of text w)
   unfolding name-right names-right missing told pick not
-  right-absent l = rw (member-absent (name-of text w) (declared text tape h) (omega (arith, number)))
+  right-absent l = rw (lone-of text w, member-absent (name-of text w) (declared text tape h) (omega (arith, number)))
 
   module _ (l : p < count) where
     there : member (name-of text w) (declared text tape h) ≡ true
     there = member-found (name-of text w) (declared text tape h) (omega (arith, number))
 
-    pub right-late : k ≤ p → told text (Stop 8 w) ≡ name-right (declared text tape h) k (name-of text w)
+    pub right-late : k ≤ p → told text (Stop 8 (record { name = w; actual = 0 })) ≡ name-right (declared text tape h) k (name-of text w)
     unfolding name-right names-right missing too-late told pick not _&&_
-    right-late m = rw (there, member-late (name-of text w) (declared text tape h) k (omega arith))
+    right-late m = rw (lone-of text w, there, member-late (name-of text w) (declared text tape h) k (omega arith))
 
     pub right-fine : p < k → told text Fine ≡ name-right (declared text tape h) k (name-of text w)
     unfolding name-right names-right missing too-late told pick not _&&_
@@ -223,7 +224,7 @@ module _ (text tape : List ℕ) (ds : List Name) (k j end : ℕ) where
         unfolding name-right
         checked = rw (here, names-step ds (take k ds) (name-of text x), ← i)
 
-        pub right-stop : (m w : ℕ) → v ≡ Stop m w → names-right ds (take k ds) (picked names-module text tape j (end - j)) ≡ told text (Stop m w)
+        pub right-stop : (m : ℕ) (w : Culprit) → v ≡ Stop m w → names-right ds (take k ds) (picked names-module text tape j (end - j)) ≡ told text (Stop m w)
         unfolding told _>>_
         right-stop m w d = checked ∙ rw d
 

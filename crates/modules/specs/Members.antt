@@ -8,7 +8,7 @@ use lib.ListN.{length, take}
 use Rattle.meaning.specs.Lists.{pick, before}
 use Rattle.meaning.specs.Names.{Name, same, member}
 use Rattle.meaning.specs.Numbers.{named-absent, named-late}
-use Rattle.meaning.specs.Checks.{Check, fine, stop, _>>_}
+use Rattle.meaning.specs.Checks.{lone, Check, fine, stop, _>>_}
 use Rattle.meaning.specs.Evaluate.{missing, too-late, names-right}
 
 pub member-found : (w : Name) (ds : List Name) → before (same w) ds < length ds → member w ds ≡ true
@@ -60,10 +60,10 @@ unfolding names-right pick _>>_
 names-step ds es w ws = go (missing ds w) (too-late ds es w) (names-right ds es ws)
   where
     absent : Check
-    absent = stop named-absent w
+    absent = stop named-absent (lone w)
 
     late : Check
-    late = stop named-late w
+    late = stop named-late (lone w)
 
     go : (b c : Bool) (more : Check) → pick b absent (pick c late more) ≡ pick b absent (pick c late (fine tt)) >> more
     go true c more = refl

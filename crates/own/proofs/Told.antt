@@ -9,6 +9,7 @@ use Rattle.meaning.specs.Normal.{Visible}
 use Rattle.meaning.specs.Checks.{_>>_, consistent}
 use Rattle.meaning.specs.Own.{own-hidden-items}
 use Rattle.meaning.specs.Evaluate.{seen-sorts, joined-visible}
+use Rattle.forms.specs.declared.Culprit.{Culprit}
 use Rattle.forms.specs.declared.Verdict.{Verdict}
 use Rattle.forms.specs.declared.Verdict.the-variants.{Fine, Stop}
 use Rattle.forms.specs.Memory.{part}
@@ -31,7 +32,7 @@ module _ (text tape w : List ℕ) (own : Own) (visible hidden : ℕ) (r : Verdic
   variables-so e = e
 
   module _ (e : told text r ≡ walked (available-at text tape w own) (own .from) (own .end - own .from)) where
-    pub declared-stop : (k x : ℕ) → r ≡ Stop k x → told text (Stop k x) ≡ declarations-by text tape w own visible hidden
+    pub declared-stop : (k : ℕ) (x : Culprit) → r ≡ Stop k x → told text (Stop k x) ≡ declarations-by text tape w own visible hidden
     unfolding declarations-by told _>>_
     declared-stop k x q = rw (← e, q)
 
@@ -55,7 +56,7 @@ module _ (text w w′ : List ℕ) (t : ℕ) (own : Own) (q : ℕ) (c : OwnRows) 
         own-stands-kept text w w′ t p (p + (c .«parameter_count» + (c .«visible_count» + c .«hidden_count»))) (checked .kept) (room .laid .tape) own q c m v
         (room .imported) (room .laid .parameters) (room .laid .rows) stands
 
-  pub checks-stop : (k x : ℕ) → r ≡ Stop k x → OwnChecked text t own q c p w w′ (Stop k x)
+  pub checks-stop : (k : ℕ) (x : Culprit) → r ≡ Stop k x → OwnChecked text t own q c p w w′ (Stop k x)
   unfolding told _>>_
   checks-stop k x e = record {
     kept = checked .kept;

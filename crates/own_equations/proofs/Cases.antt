@@ -15,7 +15,7 @@ use Rattle.typing.specs.Typed.{known-in, module-in, with-equations, own-made}
 use Rattle.own_equations.specs.Own.{owned, own-at}
 
 module _ (f : Form) (r : Equated) where
-  pub made-refused : (tag : ℕ) → r ≡ Stop tag → Refused 17 tag ≡ own-made f r
+  pub made-refused : (tag : ℕ) → r ≡ Stop tag → Refused 17 (record { name = tag; actual = 0 }) ≡ own-made f r
   unfolding own-made
   made-refused tag e = rw e
 

@@ -56,7 +56,13 @@ fn made_of(f: Form, r: Equated) -> Made
     ensures { λ q. ⌜ q ≡ own-made f r ⌝ }
 {
     match r {
-        Equated::Stop(tag) => Made::Refused(17, Culprit { name: tag, actual: 0 }),
+        Equated::Stop(tag) => Made::Refused(
+            17,
+            Culprit {
+                name: tag,
+                actual: 0,
+            },
+        ),
         Equated::All { count, free } => {
             let nodes = f.nodes as usize;
             let node_count = span(free, nodes);

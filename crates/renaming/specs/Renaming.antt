@@ -12,9 +12,9 @@ use Rattle.meaning.specs.Origins.{FunctionType}
 use Rattle.meaning.specs.Normal.{Visible, Hidden, Normal, empty, nothing-hidden, unite, move}
 use Rattle.meaning.specs.Checks.{Check, fine, stop, _>>=_, _>>_, unless, checked}
 use Rattle.meaning.specs.Clauses.{renaming, wrong-renaming, rename}
-use Rattle.names.specs.Word.{name-of}
 use Rattle.forms.specs.declared.Form.{Form}
 use Rattle.forms.specs.declared.Block.{Block}
+use Rattle.forms.specs.declared.Culprit.{Culprit}
 use Rattle.forms.specs.declared.Made.{Made}
 use Rattle.forms.specs.declared.Made.the-variants.{Done, Refused}
 use Rattle.forms.specs.declared.Verdict.{Verdict}
@@ -23,7 +23,7 @@ use Rattle.forms.specs.Memory.{part, Kept}
 use Rattle.forms.specs.Forms.{items-at, visible-at, Stands}
 use Rattle.forms.specs.FormLaws.{kept-all, kept-then}
 use Rattle.forms.specs.Blocks.{Lies}
-use Rattle.forms.specs.Verdicts.{told}
+use Rattle.forms.specs.Verdicts.{culprit-of, told}
 use Rattle.translation.specs.declared.Mode.{Mode}
 use Rattle.translation.specs.Translation.{pairs-at}
 use Rattle.uniting.specs.Rooms.{Inside, UniteRoom}
@@ -215,13 +215,13 @@ module _ (text : List ℕ) (t : ℕ) (w w₁ : List ℕ) (pairs : ℕ) (g : Form
   names-meant n s =
       ap (λ (u : Visible). unless bad-renaming (wrong-renaming (u .items) [] (pairs-at text (part w 0 t) pairs))) (sym (s .visible)) ∙ sym q
 
-  pub rename-stop : (k x : ℕ) → v ≡ Stop k x → Renamed text t w pairs g b (Refused k x) w
+  pub rename-stop : (k : ℕ) (x : Culprit) → v ≡ Stop k x → Renamed text t w pairs g b (Refused k x) w
   unfolding rename told
   rename-stop k x e = record {
     kept = kept-all (b .low) (b .high) w;
     made-in = tt;
     made = λ n s. refused-makes text (part w 0 t) w k x (rename (pairs-at text (part w 0 t) pairs) n)
-        (stops _ _ k (name-of text x) (names-meant n s ∙ ap (told text) e));
+        (stops _ _ k (culprit-of text x) (names-meant n s ∙ ap (told text) e));
   }
 
   pub rename-fine : (r : Made) → v ≡ Fine → RenamedForm text t w pairs g b r w₁ → Renamed text t w pairs g b r w₁

@@ -150,7 +150,7 @@ module _ (text : List ℕ) (k : Known) (w₀ : List ℕ) where
     pub room : length words ≤ size + size
 
   abbrev pub AgreeEquation : Outcome ResolvedEquation → ℕ → ℕ → ℕ → ℕ → ℕ → List ℕ → Pass → Type 0
-  AgreeEquation (stop number name) i size q q₀ e₀ w o = o .answer ≡ Wrong
+  AgreeEquation (stop number culprit) i size q q₀ e₀ w o = o .answer ≡ Wrong
   AgreeEquation (fine r) i size q q₀ e₀ w o = WellEquation r i size q q₀ e₀ w o
 
   module _ (q₀ e₀ : ℕ) (l : Layout text k w₀ q₀ e₀) (end home at : ℕ) (tag : Name) (i m q : ℕ) (w : List ℕ) (x : q₀ ≤ q) (y : q + (m + m) ≤ e₀) (o : Pass) where

@@ -14,7 +14,7 @@ use Rattle.meaning.specs.Names.{Name}
 use Rattle.meaning.specs.Numbers.{ill-typed}
 use Rattle.meaning.specs.Syntax.{Equation, conditions-of}
 use Rattle.meaning.specs.Origins.{ResolvedSides, ResolvedEquation}
-use Rattle.meaning.specs.Checks.{Outcome, fine, stop, _>>=_, equation-nodes}
+use Rattle.meaning.specs.Checks.{Culprit, lone, Outcome, fine, stop, _>>=_, equation-nodes}
 use Rattle.meaning.specs.Typing.{typed-sides, typed-conditions, made-equation, typed-equations}
 use Rattle.names.specs.Word.{name-of}
 use Rattle.tape.specs.Tape as on-tape
@@ -48,14 +48,14 @@ module _ (text : List ℕ) (k : Known) (w₀ : List ℕ) (m : Module) where
     pub stays : (j : ℕ) → m .nodes ≤ j → j < q → getD (o .memory) j 0 ≡ getD w j 0
 
   -- the tag of the first that is ill typed
-  pub record Stopped (number : ℕ) (name : Name) (o : Told) : Type 0 where
+  pub record Stopped (number : ℕ) (culprit : Culprit) (o : Told) : Type 0 where
     pub tag : ℕ
     pub answer : o .answer ≡ Stop tag
     pub numbered : number ≡ ill-typed
-    pub named : name-of text tag ≡ name
+    pub named : lone (name-of text tag) ≡ culprit
 
   abbrev pub AgreeAll : Outcome (List ResolvedEquation) → ℕ → ℕ → ℕ → ℕ → List ℕ → Told → Type 0
-  AgreeAll (stop number name) position q q₀ e₀ w o = Stopped number name o
+  AgreeAll (stop number culprit) position q q₀ e₀ w o = Stopped number culprit o
   AgreeAll (fine rs) position q q₀ e₀ w o = AllTyped rs position q q₀ e₀ w o
 
   -- a row and its nodes stay where later ones are written behind them
@@ -82,8 +82,8 @@ module _ (text : List ℕ) (k : Known) (w₀ : List ℕ) (m : Module) where
         → AgreeAll (made-equation (m .home) position name c ks >>= (λ x. rest >>= (λ xs. fine (x ∷ xs)))) position q q₀ e₀ w
         (after-turn (equations-from text k m left) position tag (o .answer) (o .memory))
     unfolding made-equation after-turn _>>=_ sum
-    one-more none ks name rest left position i size q tag w o h y x e more = rw h (record { tag = tag; answer = refl; numbered = refl; named = e })
-    one-more (some c) none name rest left position i size q tag w o h y x e more = rw h (record { tag = tag; answer = refl; numbered = refl; named = e })
+    one-more none ks name rest left position i size q tag w o h y x e more = rw h (record { tag = tag; answer = refl; numbered = refl; named = ap lone e })
+    one-more (some c) none name rest left position i size q tag w o h y x e more = rw h (record { tag = tag; answer = refl; numbered = refl; named = ap lone e })
     one-more (some c) (some ks) name rest left position i size q tag w o h y x e more = rw (h .answer) (go rest (more (h .free) (o .memory) (h .kept) (omega (arith, h .counted)) (h .room)))
       where
         r : ResolvedEquation
@@ -91,7 +91,7 @@ module _ (text : List ℕ) (k : Known) (w₀ : List ℕ) (m : Module) where
 
         go : (rest : Outcome (List ResolvedEquation)) → AgreeAll rest (position + 1) (h .free) q₀ e₀ (o .memory) (equations-from text k m left (position + 1) (i + size) (h .free) (o .memory))
             → AgreeAll (rest >>= (λ xs. fine (r ∷ xs))) position q q₀ e₀ w (equations-from text k m left (position + 1) (i + size) (h .free) (o .memory))
-        go (stop number name′) a = a
+        go (stop number culprit) a = a
         go (fine rs) a =
             let s : position + 1 + length rs ≡ position + suc (length rs) = omega arith in
             record {

@@ -70,7 +70,7 @@ module _ (text : List ℕ) (k : Known) (w₀ : List ℕ) (m : Module) where
     pub between : (j : ℕ) → m .rows + position * 8 + 6 ≤ j → j < q → getD (o .memory) j 0 ≡ getD w j 0
 
   abbrev pub AgreeTurn : Outcome ResolvedEquation → ℕ → ℕ → ℕ → ℕ → ℕ → ℕ → List ℕ → Pass → Type 0
-  AgreeTurn (stop number name) position i size q q₀ e₀ w o = o .answer ≡ Wrong
+  AgreeTurn (stop number culprit) position i size q q₀ e₀ w o = o .answer ≡ Wrong
   AgreeTurn (fine r) position i size q q₀ e₀ w o = WellTurn r position i size q q₀ e₀ w o
 
   -- an equation has as many words as nodes

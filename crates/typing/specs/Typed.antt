@@ -26,6 +26,7 @@ use Rattle.forms.specs.declared.Made.the-variants.{Done, Refused}
 use Rattle.forms.specs.Memory.{part, Kept}
 use Rattle.forms.specs.FormLaws.{Apart, kept-all, kept-same, slots-same, items-same, items-split}
 use Rattle.forms.specs.Forms.{items-at, node-row, node-of, node-in, nodes-of, flat-equation, equation-row-at, EquationStands, EquationsStand, node-item, VisiblePoint, HiddenPoint, Pointing, visible-at}
+use Rattle.forms.specs.Verdicts.{lone-of}
 use Rattle.forms.specs.Blocks.{Makes}
 use Rattle.typing.specs.declared.Known.{Known}
 use Rattle.typing.specs.declared.Module.{Module}
@@ -64,7 +65,7 @@ with-equations f equations nodes = record {
 
 -- what is made of it
 unfoldable pub own-made : Form → Equated → Made
-own-made f (Stop tag) = Refused ill-typed tag
+own-made f (Stop tag) = Refused ill-typed (record { name = tag; actual = 0 })
 own-made f (All count free) = Done (with-equations f count (span free (f .nodes)))
 
 -- a visible item
@@ -291,7 +292,8 @@ module _ (text : List ℕ) (t : ℕ) (f : Form) (v : Visible) (hidden : List Ite
   own-stands : (a : Outcome (List ResolvedEquation)) (o : Told) → AgreeAll text k w₀ m a 0 (f .nodes) (f .equations) high w₀ o → EachWithin node-limit a
       → OwnTyped text t f high w₀ (o .memory) (own-made f (o .answer)) (a >>= (λ rs. fine (own rs)))
   unfolding own-made _>>=_
-  own-stands (stop number name) o h small = rw (h .answer) (record { makes = (sym (h .numbered), h .named); made = tt })
+  own-stands (stop number culprit) o h small =
+      rw (h .answer) (record { makes = (sym (h .numbered), lone-of text (h .tag) ∙ h .named); made = tt })
   own-stands (fine rs) o h small =
       let c = sum equation-nodes rs in
       let nodes : span (h .free) (f .nodes) ≡ c = span-is text k w₀ m (h .free) (f .nodes) (omega (arith, h .inside, laid .size)) ∙ omega (arith, h .counted) in
