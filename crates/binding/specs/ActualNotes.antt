@@ -11,7 +11,8 @@ use Rattle.meaning.specs.Lists.{pick, union}
 use Rattle.meaning.specs.Names.{Name}
 use Rattle.meaning.specs.Origins.{FunctionType, Shape, sort-shape, function-shape, variable-shape, is-function, Item, one-item, in-parameter}
 use Rattle.meaning.specs.Normal.{Visible, move-shape, move-item, formals}
-use Rattle.meaning.specs.Clauses.{wrong-pair, unpaired}
+use Rattle.meaning.specs.Checks.{fine}
+use Rattle.meaning.specs.Clauses.{pairs-right, unpaired}
 use Rattle.names.specs.Word.{name-of}
 use Rattle.tables.specs.Rows.{item-of, row-at}
 use Rattle.forms.specs.declared.Form.{Form}
@@ -26,7 +27,7 @@ use Rattle.absorb.specs.Absorb.{Absorbed, taken}
 use Rattle.joining.specs.Found.{pointable, Noted, function-moved}
 use Rattle.uniting.specs.Noting.{item-moved, node-moved, shape-moved, note-inside, note-item}
 use Rattle.clauses.specs.Notes.{mode-item, formal-row, moved-place, FormalsNoted}
-use Rattle.clauses.specs.Bound.{NotedAs, note-right}
+use Rattle.mistakes.specs.Bound.{NotedAs, note-right}
 
 -- ---- a visible function is known at nodes by its name and its type
 
@@ -126,7 +127,8 @@ module _ (text tape w w₁ w₂ w₃ : List ℕ) (m : Mode) (nd notes count : �
   -- the pairs are right, and the actual items were joined
   module _ (whole actual : Visible) (e : items-at text tape w (m .visible) (m .count) ≡ whole .items) (two : m .kind ≡ 2) (others : List Item)
       (joined : items-at text tape w₂ (all .visible) (all .«visible_count») ≡ union one-item others (actual .items))
-      (right : wrong-pair (formals (name-of text (m .parameter)) whole) (pairs-at text tape (m .pairs)) whole actual [] (pairs-at text tape (m .pairs)) ≡ none)
+      (right : pairs-right (formals (name-of text (m .parameter)) whole) (pairs-at text tape (m .pairs)) whole actual [] (pairs-at text tape (m .pairs))
+      ≡ fine tt)
       (paired-all : unpaired (formals (name-of text (m .parameter)) whole) (pairs-at text tape (m .pairs)) whole actual ≡ none) where
     noted : (i : ℕ) → i < m .count → is-function (source i .shape) ≡ true → NotedAs text tape w₃ all (goal i) (note i)
     noted i h f = go (formal-row text tape w₂ m i) refl

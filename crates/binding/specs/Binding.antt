@@ -6,11 +6,11 @@ use mathlib.Core.List.{List, []}
 use Prim.Native.Nat.{ℕ, _+_}
 use lib.ListN.{length}
 use Rattle.meaning.specs.Names.{Name}
-use Rattle.meaning.specs.Numbers.{bad-binding}
+use Rattle.meaning.specs.Numbers.{formal-unpaired}
 use Rattle.meaning.specs.Syntax.{Pair}
 use Rattle.meaning.specs.Normal.{Visible, nothing-visible, nothing-hidden, Normal, unite-visible, unite-hidden, unite, move-visible, move, formals}
-use Rattle.meaning.specs.Checks.{_>>_, Check, unless, checked}
-use Rattle.meaning.specs.Clauses.{new-sort, new-function, wrong-pair, unpaired, without-visible, without}
+use Rattle.meaning.specs.Checks.{fine, _>>_, Check, unless, checked}
+use Rattle.meaning.specs.Clauses.{new-sort, new-function, pairs-right, unpaired, without-visible, without}
 use Rattle.names.specs.Word.{name-of}
 use Rattle.forms.specs.declared.Form.{Form}
 use Rattle.forms.specs.declared.Block.{Block}
@@ -22,22 +22,22 @@ use Rattle.translation.specs.declared.Mode.{Mode}
 use Rattle.translation.specs.Translation.{pairs-at, mode-formals}
 use Rattle.joining.specs.Found.{Noted}
 use Rattle.uniting.specs.United.{empty-in, with-items, hidden-onto, SlotsUnited, VisibleUnited, sorts, functions}
-use Rattle.clauses.specs.Fits.{mode-whole}
 use Rattle.clauses.specs.KeptParameters.{SlotsKept}
+use Rattle.mistakes.specs.Fits.{mode-whole}
 use Rattle.making.specs.Checked.{CheckRoom}
 use Rattle.binding.specs.Rooms.{as-is, Seen}
 
--- 16, of the words of a mode and of an actual form
+-- 22 to 27, of the words of a mode and of an actual form
 unfoldable pub pairs-checked : List ℕ → List ℕ → List ℕ → Mode → Form → Check
 pairs-checked text tape w m actual =
     let formal = mode-formals text tape w m in
     let rs = pairs-at text tape (m .pairs) in
-    unless bad-binding (wrong-pair formal rs (mode-whole text tape w m) (visible-at text tape w actual) [] rs)
-    >> unless bad-binding (unpaired formal rs nothing-visible nothing-visible)
+    pairs-right formal rs (mode-whole text tape w m) (visible-at text tape w actual) [] rs
+    >> unless formal-unpaired (unpaired formal rs nothing-visible nothing-visible)
 
 -- the pairs pass
 pub record PairsRight (p : Name) (rs : List Pair) (whole actual : Visible) : Type 0 where
-  pub right : wrong-pair (formals p whole) rs whole actual [] rs ≡ none
+  pub right : pairs-right (formals p whole) rs whole actual [] rs ≡ fine tt
   pub paired : unpaired (formals p whole) rs whole actual ≡ none
 
 -- ---- what is left of the form that is bound

@@ -1,19 +1,22 @@
--- How a binding ends: 15, 16, or with what is made; and that the checks on words are the meaning's.
+-- How a binding ends: 15, 22 to 27, or with what is made; and that the checks on words are the meaning's.
 use mathlib.Core.Path.{_≡_, refl, sym, ap, ap₂, _∙_, subst}
-use mathlib.Core.Bool.{Bool, true, false, false≢true}
+use mathlib.Core.Bool.{Bool, true, false}
 use mathlib.Core.Option.{Option}
 use mathlib.Core.List.{List, []}
 use Prim.Native.Nat.{ℕ, _≤_}
 use native.Mathlib.Omega.{arith}
 use Rattle.meaning.specs.Lists.{pick}
 use Rattle.meaning.specs.Names.{Name, member}
-use Rattle.meaning.specs.Numbers.{bad-binding}
+use Rattle.meaning.specs.Numbers.{formal-unpaired}
 use Rattle.meaning.specs.Syntax.{Pair}
 use Rattle.meaning.specs.Origins.{Item}
 use Rattle.meaning.specs.Normal.{Visible, nothing-visible, Normal, slot-names, formals}
-use Rattle.meaning.specs.Checks.{Outcome, fine, stop, _>>_, Check, unless, checked}
-use Rattle.meaning.specs.Clauses.{wrong-pair, unpaired, bound-to, bind}
+use Rattle.meaning.specs.Checks as Meaning
+use Rattle.meaning.specs.Checks.{lone, Outcome, fine, stop, _>>_, Check, unless, checked}
+use Rattle.meaning.specs.Clauses.{pairs-right, unpaired, bound-to, bind}
+use Rattle.meaning.specs.Mirror.{then-fine, unless-fine}
 use Rattle.names.specs.Word.{name-of}
+use Rattle.forms.specs.declared.Culprit.{Culprit}
 use Rattle.forms.specs.declared.Form.{Form}
 use Rattle.forms.specs.declared.Block.{Block}
 use Rattle.forms.specs.declared.Made.{Made}
@@ -23,11 +26,11 @@ use Rattle.forms.specs.declared.Verdict.the-variants.{Fine, Stop}
 use Rattle.forms.specs.Memory.{part}
 use Rattle.forms.specs.Forms.{slots-at, items-at, visible-at, Stands}
 use Rattle.forms.specs.FormLaws.{kept-all}
-use Rattle.forms.specs.Verdicts.{told}
+use Rattle.forms.specs.Verdicts.{culprit-of, lone-of, told}
 use Rattle.translation.specs.declared.Mode.{Mode}
 use Rattle.translation.specs.Translation.{pairs-at, mode-formals}
-use Rattle.clauses.specs.Fits.{mode-whole}
-use Rattle.clauses.specs.Bound.{passed-none, wrong-meant, unpaired-meant}
+use Rattle.mistakes.specs.Fits.{mode-whole}
+use Rattle.mistakes.specs.Bound.{pairs-meant, unpaired-meant}
 use Rattle.making.specs.Made.{makes-as, refused-makes, stops, goes-on}
 use Rattle.making.specs.Steps.{Bound}
 use Rattle.binding.specs.Rooms.{binding-mode, Binds, BindRoom, StepRoom}
@@ -37,21 +40,7 @@ use Rattle.binding.specs.WholeSteps.{table-meant}
 
 -- ---- one check after the other
 
-abbrev passed : Check → Bool
-passed (fine x) = true
-passed (stop k x) = false
-
-first-fine : (c d : Check) → (c >> d) ≡ fine tt → c ≡ fine tt
-unfolding _>>_
-first-fine (fine tt) d e = refl
-first-fine (stop k x) d e = absurd (false≢true (ap passed e))
-
-second-fine : (c d : Check) → (c >> d) ≡ fine tt → d ≡ fine tt
-unfolding _>>_
-second-fine (fine tt) d e = e
-second-fine (stop k x) d e = absurd (false≢true (ap passed e))
-
-both-stop : {A : Type 0} (c d : Check) (o : Outcome A) (k : ℕ) (x : Name) → (c >> d) ≡ stop k x → (c >> (d >> o)) ≡ stop k x
+both-stop : {A : Type 0} (c d : Check) (o : Outcome A) (k : ℕ) (x : Meaning.Culprit) → (c >> d) ≡ stop k x → (c >> (d >> o)) ≡ stop k x
 unfolding _>>_
 both-stop (fine tt) d o k x e = stops d o k x e
 both-stop {A} (stop j y) d o k x e = by e
@@ -60,27 +49,27 @@ both-stop {A} (stop j y) d o k x e = by e
     number (fine z) = 0
     number (stop i z) = i
 
-    culprit : Check → Name
-    culprit (fine z) = []
+    culprit : Check → Meaning.Culprit
+    culprit (fine z) = lone []
     culprit (stop i z) = z
 
     by : _≡_ {A = Check} (stop j y) (stop k x) → _≡_ {A = Outcome A} (stop j y) (stop k x)
     by q = λ i. stop (ap number q i) (ap culprit q i)
 
--- ---- 16 on words
+-- ---- 22 to 27 on words
 
 module _ (text tape w : List ℕ) (m : Mode) (actual : Form) where
   abbrev pairs-wrong : Check
   pairs-wrong =
-      unless bad-binding (wrong-pair (mode-formals text tape w m) (pairs-at text tape (m .pairs)) (mode-whole text tape w m)
-      (visible-at text tape w actual) [] (pairs-at text tape (m .pairs)))
+      pairs-right (mode-formals text tape w m) (pairs-at text tape (m .pairs)) (mode-whole text tape w m) (visible-at text tape w actual) []
+      (pairs-at text tape (m .pairs))
 
   abbrev names-wrong : Check
-  names-wrong = unless bad-binding (unpaired (mode-formals text tape w m) (pairs-at text tape (m .pairs)) nothing-visible nothing-visible)
+  names-wrong = unless formal-unpaired (unpaired (mode-formals text tape w m) (pairs-at text tape (m .pairs)) nothing-visible nothing-visible)
 
-  pub pairs-stop : (v : Verdict) (k x : ℕ) → told text v ≡ pairs-wrong → v ≡ Stop k x → told text (Stop k x) ≡ pairs-checked text tape w m actual
+  pub pairs-stop : (v : Verdict) (k : ℕ) (x : Culprit) → told text v ≡ pairs-wrong → v ≡ Stop k x → told text (Stop k x) ≡ pairs-checked text tape w m actual
   unfolding told pairs-checked
-  pairs-stop v k x e h = sym (stops pairs-wrong names-wrong k (name-of text x) (sym e ∙ ap (told text) h))
+  pairs-stop v k x e h = sym (stops pairs-wrong names-wrong k (culprit-of text x) (sym e ∙ ap (told text) h))
 
   pub pairs-fine : (v r : Verdict) → told text v ≡ pairs-wrong → v ≡ Fine → told text r ≡ names-wrong → told text r ≡ pairs-checked text tape w m actual
   unfolding told pairs-checked
@@ -115,14 +104,14 @@ module _ (text : List ℕ) (t : ℕ) (w : List ℕ) (p pairs : ℕ) (g actual : 
   there-meant n s = ap (λ (v : Visible). member name (slot-names (v .parameters))) (sym (s .visible))
 
   -- 15
-  pub no-parameter : (r : Bool) → r ≡ there → r ≡ false → Bound text t w p pairs g actual b (Refused 15 p) w
+  pub no-parameter : (r : Bool) → r ≡ there → r ≡ false → Bound text t w p pairs g actual b (Refused 15 (record { name = p; actual = 0 })) w
   unfolding bind pick
   no-parameter r known e = record {
     kept = kept-all (b .low) (b .high) w;
     made-in = tt;
     made = λ n a s u.
         let missing = there-meant n s ∙ sym known ∙ e in
-        refused-makes text (part w 0 t) w 15 p (bind name rs n a) (rw missing);
+        refused-makes text (part w 0 t) w 15 (record { name = p; actual = 0 }) (bind name rs n a) (rw (missing, lone-of text p));
   }
 
   module _ (m : Mode) (mode : m ≡ binding-mode p pairs g) (r : Bool) (known : r ≡ there) (has : r ≡ true) where
@@ -151,16 +140,16 @@ module _ (text : List ℕ) (t : ℕ) (w : List ℕ) (p pairs : ℕ) (g actual : 
       table = table-meant text (part w 0 t) w m g n binds s
 
       checked-meant : pairs-checked text (part w 0 t) w m actual
-          ≡ (unless bad-binding (wrong-pair formal rs (n .visible) (a .visible) [] rs) >> unless bad-binding (unpaired formal rs (n .visible) (a .visible)))
+          ≡ (pairs-right formal rs (n .visible) (a .visible) [] rs >> unless formal-unpaired (unpaired formal rs (n .visible) (a .visible)))
       unfolding pairs-checked
       checked-meant =
-          ap₂ (λ (x y : Option Name). unless bad-binding x >> unless bad-binding y)
-          (wrong-meant text (part w 0 t) w m (n .visible) table (visible-at text (part w 0 t) w actual) [] (pairs-at text (part w 0 t) (m .pairs))
-          ∙ (λ i. wrong-pair (formal-words i) (words i) (n .visible) (u .visible i) [] (words i)))
+          ap₂ (λ (c : Check) (x : Option Name). c >> unless formal-unpaired x)
+          (pairs-meant text (part w 0 t) w m (n .visible) table (visible-at text (part w 0 t) w actual) [] (pairs-at text (part w 0 t) (m .pairs))
+          ∙ (λ i. pairs-right (formal-words i) (words i) (n .visible) (u .visible i) [] (words i)))
           (unpaired-meant text (part w 0 t) w m (n .visible) table (a .visible) ∙ (λ i. unpaired (formal-words i) (words i) (n .visible) (a .visible)))
 
-    -- 16
-    pub wrong-pairs : (v : Verdict) (k x : ℕ) → told text v ≡ pairs-checked text (part w 0 t) w m actual → v ≡ Stop k x
+    -- 22 to 27
+    pub wrong-pairs : (v : Verdict) (k : ℕ) (x : Culprit) → told text v ≡ pairs-checked text (part w 0 t) w m actual → v ≡ Stop k x
         → Bound text t w p pairs g actual b (Refused k x) w
     unfolding told bound-to
     wrong-pairs v k x e h = record {
@@ -168,7 +157,7 @@ module _ (text : List ℕ) (t : ℕ) (w : List ℕ) (p pairs : ℕ) (g actual : 
       made-in = tt;
       made = λ n a s u.
           refused-makes text (part w 0 t) w k x (bind name rs n a)
-          (has-parameter n a s ∙ both-stop _ _ _ k (name-of text x) (sym (checked-meant n a s u) ∙ sym e ∙ ap (told text) h));
+          (has-parameter n a s ∙ both-stop _ _ _ k (culprit-of text x) (sym (checked-meant n a s u) ∙ sym e ∙ ap (told text) h));
     }
 
     pub right-pairs : (v : Verdict) (z : Made) (w′ : List ℕ) → told text v ≡ pairs-checked text (part w 0 t) w m actual → v ≡ Fine
@@ -181,9 +170,8 @@ module _ (text : List ℕ) (t : ℕ) (w : List ℕ) (p pairs : ℕ) (g actual : 
           made-in = x .made-in;
           made = λ n a s u.
               let all-fine = sym (checked-meant n a s u) ∙ sym e ∙ ap (told text) h in
-              let pairs-pass = first-fine _ _ all-fine in
-              let names-pass = second-fine _ _ all-fine in
+              let pass = then-fine _ _ tt all-fine in
               makes-as text (part w′ 0 t) w′ z (checked (bound-normal text t w (binding-mode p pairs g) n a)) (bind name rs n a)
-              (has-parameter n a s ∙ goes-on _ _ pairs-pass ∙ goes-on _ _ names-pass)
-              (y .made n a s u (record { right = passed-none _ _ (sym pairs-pass); paired = passed-none _ _ (sym names-pass) }));
+              (has-parameter n a s ∙ goes-on _ _ (pass .0) ∙ goes-on _ _ (pass .1))
+              (y .made n a s u (record { right = pass .0; paired = unless-fine _ _ (pass .1) }));
         }

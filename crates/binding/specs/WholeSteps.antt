@@ -20,7 +20,7 @@ use Rattle.translation.specs.declared.Mode.{Mode}
 use Rattle.translation.specs.Translation.{pairs-at}
 use Rattle.uniting.specs.United.{hidden-onto, sorts, functions}
 use Rattle.uniting.specs.Whole.{sorts-stay, functions-stay}
-use Rattle.clauses.specs.Bound.{sorts-meant, functions-meant}
+use Rattle.mistakes.specs.Bound.{sorts-meant, functions-meant}
 use Rattle.making.specs.Checked.{CheckRoom, CheckedForm}
 use Rattle.binding.specs.Rooms.{Binds, StepRoom, SeenRoom}
 use Rattle.binding.specs.Binding.{PairsRight, left-of, FrontBound, HiddenBound, bound-normal, BoundForm}

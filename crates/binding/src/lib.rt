@@ -1,6 +1,4 @@
-// A parameter of a form bound to a form: 15, 16, and formal items replaced by actual ones. The form is made in a block, and checked.
-use clauses::bindings::wrong_pair;
-use clauses::formals::unpaired;
+// A parameter of a form bound to a form: 15, 22 to 27, and formal items replaced by actual ones. The form is made in a block, and checked.
 use clauses::notes::note_formals;
 use clauses::parameters::has_parameter;
 use clauses::parameters::keep_parameters;
@@ -10,6 +8,8 @@ use forms::Form;
 use forms::Made;
 use forms::Verdict;
 use making::checked::checked;
+use mistakes::bindings::pairs_right;
+use mistakes::formals::unpaired;
 use translation::Mode;
 use uniting::unite_hidden;
 use uniting::unite_parameters;
@@ -190,7 +190,7 @@ fn bound(
     checked(library, text, work, t, f, b)
 }
 
-// 16: the pairs, and then the formal names without one.
+// 22 to 27: the pairs, and then the formal names without one.
 fn binding_right(
     library: &[u8],
     text: &[u8],
@@ -203,13 +203,13 @@ fn binding_right(
     requires { ⌜ m .kind ≡ 2 ⌝ }
     ensures { λ r. ⌜ told (joint (now (library .entry)) (now (text .entry))) r ≡ pairs-checked (joint (now (library .entry)) (now (text .entry))) (part (now (work .entry)) 0 t) (now (work .entry)) m actual ⌝ }
 {
-    match wrong_pair(library, text, work, t, m, actual) {
+    match pairs_right(library, text, work, t, m, actual) {
         Verdict::Stop(k, w) => Verdict::Stop(k, w),
         Verdict::Fine => unpaired(library, text, work, t, m),
     }
 }
 
-// The parameter p of g bound to the actual form by the pairs on the tape from `pairs` on: 15, 16.
+// The parameter p of g bound to the actual form by the pairs on the tape from `pairs` on: 15, 22 to 27.
 pub fn bind(
     library: &[u8],
     text: &[u8],

@@ -2,9 +2,10 @@
 use mathlib.Core.Path.{_≡_, refl, sym, ap, _∙_}
 use Prim.Native.Nat.{ℕ, _+_, _-_, _*_, _≤_, _<_, min}
 use mathlib.Core.Bool.{Bool, true, false, not, _&&_}
-use mathlib.Core.Option.{Option}
+use mathlib.Core.Option.{Option, some}
 use mathlib.Core.List.{List, [], _∷_, map}
 use native.Mathlib.Omega.{arith}
+use native.Mathlib.Numerals.{add-one}
 use lib.Dec.{eqb, leb}
 use lib.ListN.{length, getD, take, length-take, length-map}
 use borrow.Author.Needs.{needs}
@@ -18,17 +19,17 @@ use Rattle.meaning.specs.Checks.{unless}
 use Rattle.meaning.specs.Clauses.{arguments-fit, may-name, renames, wrong-renaming}
 use Rattle.names.specs.Word.{name-of}
 use Rattle.tables.specs.declared.Row.{Row}
-use Rattle.tables.specs.Entries.{word-at}
+use Rattle.tables.specs.Entries.{word-at, name-at}
 use Rattle.tables.specs.Rows.{sort-of, type-of, shape-of, item-of}
 use Rattle.forms.specs.declared.Verdict.the-variants.{Fine, Stop}
 use Rattle.forms.specs.Forms.{items-at}
-use Rattle.forms.specs.Verdicts.{told}
+use Rattle.forms.specs.Verdicts.{told, lone-of}
 use Rattle.translation.specs.Translation.{pairs-at}
-use Rattle.clauses.specs.Pairs.{pair-at, rightly, first-wrong, renaming-wrong}
+use Rattle.clauses.specs.Pairs.{pair-count, given, pair-at, rightly}
+use Rattle.clauses.specs.PairWalks.{Walking, walk-start, walk-end, walk-here, walk-again}
 use Rattle.clauses.specs.Renamed.{kind-named, unfit}
 use Rattle.clauses.specs.Walks.{none-below}
-use Rattle.clauses.proofs.RowSearches.{named-any}
-use Rattle.clauses.proofs.PairWalks.{Checking, check-start, check-again, none-wrong, one-wrong}
+use Rattle.clauses.specs.Searches.{named-any}
 
 -- ---- what a name may stand for, by the kind k of a row
 
@@ -155,25 +156,36 @@ module _ (text tape w : List ℕ) (pairs k visible count x : ℕ) (e : x ≡ wor
 
 -- ---- all pairs
 
-module _ (text tape w : List ℕ) (pairs visible count n : ℕ) where
-  abbrev right : Pair → Bool
-  right = renames (items-at text tape w visible count)
+abbrev pub Checking : List Item → List ℕ → List ℕ → ℕ → ℕ → ℕ → Type 0
+Checking visible text tape pairs n k = Walking (λ (j : ℕ) (ps : List Pair). wrong-renaming visible (given text tape pairs j) ps) text tape pairs n k
+
+module _ (visible : List Item) (text tape : List ℕ) (pairs n : ℕ) where
+  abbrev checked : ℕ → List Pair → Option Name
+  checked j ps = wrong-renaming visible (given text tape pairs j) ps
 
   abbrev wrong : Option Name
-  wrong = wrong-renaming (items-at text tape w visible count) [] (pairs-at text tape pairs)
+  wrong = wrong-renaming visible [] (pairs-at text tape pairs)
 
-  wrong-walked : first-wrong right [] (pairs-at text tape pairs) ≡ wrong
-  wrong-walked = renaming-wrong (items-at text tape w visible count) [] (pairs-at text tape pairs)
+  pub check-start : n ≡ pair-count tape pairs 32 → Checking visible text tape pairs n 0
+  check-start h = walk-start checked text tape pairs n h
 
-  module _ (k : ℕ) (inv : Checking right text tape pairs n k) where
+  module _ (k : ℕ) (inv : Checking visible text tape pairs n k) where
     pub renamings-fine : n ≤ k → told text Fine ≡ unless 14 wrong
-    unfolding told unless
-    renamings-fine h = rw (← wrong-walked, none-wrong right text tape pairs n k h inv)
+    unfolding told unless wrong-renaming given
+    renamings-fine h = rw (walk-end checked text tape pairs n k h inv)
 
-    pub renaming-stops : (x : ℕ) (r : Bool) → k < n → r ≡ rightly right text tape pairs k → r ≡ false → x ≡ word-at tape (pairs + k * 2)
-        → told text (Stop 14 x) ≡ unless 14 wrong
-    unfolding told unless
-    renaming-stops x r h f q e = rw (← wrong-walked, one-wrong right text tape pairs n k r h inv f q, e)
+    module _ (r : Bool) (h : k < n) (f : r ≡ rightly (renames visible) text tape pairs k) where
+      pub check-again : r ≡ true → Checking visible text tape pairs n (k + 1)
+      unfolding wrong-renaming given rightly pair-at pick
+      check-again q = walk-again checked text tape pairs n k h inv (rw (← f, q, add-one k))
+
+      one-wrong : r ≡ false → wrong ≡ some (name-at text tape (pairs + k * 2))
+      unfolding wrong-renaming given rightly pair-at pick
+      one-wrong q = walk-here checked text tape pairs n k h inv ∙ rw (← f, q)
+
+      pub renaming-stops : (x : ℕ) → r ≡ false → x ≡ word-at tape (pairs + k * 2) → told text (Stop 14 (record { name = x; actual = 0 })) ≡ unless 14 wrong
+      unfolding told unless
+      renaming-stops x q e = rw (one-wrong q, ← e, lone-of text x)
 
 pub ruleset kinds = (named-variable, named-plain, named-infix, named-prefix, needs)
 

@@ -1,30 +1,26 @@
--- Laws of searches, in the code's terms: whether there is a parameter or a row, and the tests on one row.
+-- Laws of searches, in the code's terms: whether there is a parameter or a row, and the tests on one row and on two.
 use mathlib.Core.Path.{_≡_, refl, sym, _∙_}
 use Prim.Native.Nat.{ℕ, _+_, _-_, _*_, _≤_, _<_}
 use mathlib.Core.Bool.{Bool, true, false}
-use mathlib.Core.List.{List, [], _∷_, map}
-use lib.Dec.{eqb, ltb}
+use mathlib.Core.List.{List}
+use native.Mathlib.Omega.{arith}
+use lib.Dec.{eqb, ltb, leb}
 use lib.ListN.{getD}
 use borrow.Author.Needs.{needs}
-use borrow.Author.Tests.{eq-eqb, ne-eqb}
+use borrow.Author.Tests.{eq-eqb, ne-eqb, eqb-true, eqb-false, lt-ltb, le-ltb, le-leb, lt-leb}
 use Rattle.meaning.specs.Lists.{pick, any, before}
-use Rattle.meaning.specs.Names.{Name, same, member}
-use Rattle.meaning.specs.Origins.{Sort, FunctionType, same-shape, is-sort, sort-shape, function-shape, variable-shape, Item}
+use Rattle.meaning.specs.Names.{same, member}
+use Rattle.meaning.specs.Origins.{same-origin, Sort, FunctionType, same-shape, is-sort, is-function, sort-shape, function-shape, variable-shape, Item}
 use Rattle.meaning.specs.Normal.{Slot, names-in, sorts-among, is-called, slot-names}
 use Rattle.names.specs.Word.{name-of}
 use Rattle.tables.specs.declared.Row.{Row}
-use Rattle.tables.specs.Rows.{sort-of, type-of, shape-of, item-of}
+use Rattle.tables.specs.Rows.{origin-of, sort-of, type-of, shape-of, item-of, row-at}
 use Rattle.forms.specs.Forms.{slot-at, slots-at, items-at}
 use Rattle.clauses.specs.Joined.{any-keep}
-use Rattle.clauses.specs.Walks.{Seeking, seek-start, seek-end, seek-again, seek-found, find-start, find-end, find-again, find-here, found-below}
-use Rattle.clauses.specs.Searches.{slot-called, sort-called, like}
+use Rattle.clauses.specs.Walks.{Seeking, seek-start, seek-end, seek-again, seek-found, Finding, find-start, find-end, find-again, find-here, found-below}
+use Rattle.clauses.specs.Searches.{slot-called, sort-called, function-called, like, called-any, named-any}
 
 -- ---- whether there is a parameter of the name
-
-called-any : {A : Type 0} (f : A → Name) (a : Name) (xs : List A) → member a (map f xs) ≡ any (λ (x : A). same a (f x)) xs
-unfolding member any
-called-any f a [] = refl
-called-any f a (x ∷ xs) = rw (called-any f a xs)
 
 module _ (text w : List ℕ) (b n a : ℕ) where
   abbrev wanted : Slot → Bool
@@ -57,10 +53,6 @@ module _ (text w : List ℕ) (b n a : ℕ) where
 
 -- ---- whether there is a row
 
-pub named-any : (a : Name) (is : List Item) → member a (names-in is) ≡ any (is-called a) is
-unfolding names-in is-called
-named-any a is = called-any (λ (i : Item). i .name) a is
-
 module _ (text tape w : List ℕ) (b n i : ℕ) where
   abbrev items : List Item
   items = items-at text tape w b n
@@ -75,6 +67,14 @@ module _ (text tape w : List ℕ) (b n i : ℕ) where
         found-below text tape w b n i (sort-called (name-of text a)) e
         ∙ sym (named-any (name-of text a) (sorts-among items) ∙ any-keep (λ (x : Item). is-sort (x .shape)) (is-called (name-of text a)) items)
 
+module _ (test : Item → Bool) (text tape w : List ℕ) (b n i : ℕ) (inv : Finding test text tape w b n i) where
+  pub nowhere : n ≤ i → false ≡ any test (items-at text tape w b n)
+  nowhere h = sym (le-ltb n n (omega arith)) ∙ found-below text tape w b n n test (find-end test text tape w b n i h inv)
+
+  pub somewhere : (y : Row) (r : Bool) → i < n → y ≡ row-at w (b + i * 16) → r ≡ test (item-of text tape y) → r ≡ true
+      → true ≡ any test (items-at text tape w b n)
+  somewhere y r h e f q = sym (lt-ltb i n h) ∙ found-below text tape w b n i test (find-here test text tape w b n i y r h inv e f q)
+
 -- ---- the tests on one row
 
 is-sort-kind : (text tape : List ℕ) (x : Row) → is-sort (shape-of text tape (x .kind) (x .sorts)) ≡ eqb (x .kind) 0
@@ -86,6 +86,17 @@ is-sort-kind text tape x =
     go true b s t = refl
     go false true s t = refl
     go false false s t = refl
+
+is-function-kind : (text tape : List ℕ) (x : Row) → leb 2 (x .kind) ≡ is-function (shape-of text tape (x .kind) (x .sorts))
+unfolding is-function shape-of pick
+is-function-kind text tape x =
+    go (eqb (x .kind) 0) (eqb (x .kind) 1) (sort-of text tape (getD (x .sorts) 8 0)) (type-of text tape (x .kind - 2) (x .sorts)) refl refl
+  where
+    go : (a b : Bool) (s : Sort) (t : FunctionType) → eqb (x .kind) 0 ≡ a → eqb (x .kind) 1 ≡ b
+        → leb 2 (x .kind) ≡ is-function (pick a sort-shape (pick b (variable-shape s) (function-shape t)))
+    go true b s t e f = lt-leb 2 (x .kind) (omega (arith, eqb-true (x .kind) 0 e))
+    go false true s t e f = lt-leb 2 (x .kind) (omega (arith, eqb-true (x .kind) 1 f))
+    go false false s t e f = le-leb 2 (x .kind) (omega (arith, eqb-false (x .kind) 0 e, eqb-false (x .kind) 1 f))
 
 module _ (text tape : List ℕ) (a : ℕ) (x : Row) where
   pub called-row : (r : Bool) → r ≡ same (name-of text a) (name-of text (x .name)) → r ≡ is-called (name-of text a) (item-of text tape x)
@@ -100,6 +111,15 @@ module _ (text tape : List ℕ) (a : ℕ) (x : Row) where
   unfolding sort-called item-of pick
   called-other h = rw (is-sort-kind text tape x, ne-eqb (x .kind) 0 h)
 
+  module _ (c : Bool) (e : c ≡ same (name-of text a) (name-of text (x .name))) where
+    pub called-function : c ≡ true → leb 2 (x .kind) ≡ function-called (name-of text a) (item-of text tape x)
+    unfolding function-called item-of is-called
+    called-function h = rw (← e, h) (is-function-kind text tape x)
+
+    pub called-not : c ≡ false → false ≡ function-called (name-of text a) (item-of text tape x)
+    unfolding function-called item-of is-called
+    called-not h = rw (← e, h)
+
 module _ (text tape : List ℕ) (a : ℕ) (x y : Row) (c : Bool) (e : c ≡ same (name-of text a) (name-of text (y .name))) where
   pub like-shape : (r : Bool) → c ≡ true → r ≡ same-shape (shape-of text tape (x .kind) (x .sorts)) (shape-of text tape (y .kind) (y .sorts))
       → r ≡ like (name-of text a) (shape-of text tape (x .kind) (x .sorts)) (item-of text tape y)
@@ -110,10 +130,15 @@ module _ (text tape : List ℕ) (a : ℕ) (x y : Row) (c : Bool) (e : c ≡ same
   unfolding like item-of is-called
   like-other h = rw (← e, h)
 
+pub origins-told : (text tape w : List ℕ) (b c : ℕ) (x y : Row) (r : Bool) → x ≡ row-at w b → y ≡ row-at w c
+    → r ≡ same-origin (origin-of text tape (x .origin)) (origin-of text tape (y .origin))
+    → r ≡ same-origin (origin-of text tape (row-at w b .origin)) (origin-of text tape (row-at w c .origin))
+origins-told text tape w b c x y r e f g = rw (← e, ← f) g
+
 pub ruleset seeks = (parameter-start, parameter-again, parameter-found, parameter-end, needs)
 
 pub ruleset theres = (name-there, sort-there, needs)
 
-pub ruleset finds = (find-start, find-end, find-again, find-here, needs)
+pub ruleset finds = (find-start, find-end, find-again, find-here, nowhere, somewhere, needs)
 
-pub ruleset tests = (called-row, called-sort, called-other, like-shape, like-other, needs)
+pub ruleset tests = (called-row, called-sort, called-other, called-function, called-not, like-shape, like-other, origins-told, needs)

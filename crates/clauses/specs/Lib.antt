@@ -1,12 +1,9 @@
 pub mod Pairs
+pub mod PairWalks
 pub mod Renamed
 pub mod Searches
 pub mod Joined
 pub mod SortOrigins
 pub mod Walks
-pub mod Unpaired
-pub mod Fits
-pub mod Formals
 pub mod Notes
 pub mod KeptParameters
-pub mod Bound

@@ -1,5 +1,4 @@
--- The pairs of a clause one by one: how many there are, the old names given by the first of them, and the first pair that is wrong.
-use mathlib.Core.Path.{_≡_, refl}
+-- The pairs of a clause one by one: how many there are, the old names given by the first of them, and whether one of them is right.
 use Prim.Native.Nat.{ℕ, zero, suc, _+_, _*_}
 use mathlib.Core.Bool.{Bool, not, _&&_}
 use mathlib.Core.Option.{Option, none, some}
@@ -8,8 +7,6 @@ use lib.Dec.{eqb}
 use Rattle.meaning.specs.Lists.{pick}
 use Rattle.meaning.specs.Names.{Name, member}
 use Rattle.meaning.specs.Syntax.{Pair}
-use Rattle.meaning.specs.Origins.{Item}
-use Rattle.meaning.specs.Clauses.{renames, wrong-renaming}
 use Rattle.names.specs.Word.{name-of}
 use Rattle.tape.specs.Tape.{old-role}
 use Rattle.tables.specs.Entries.{role-at, name-at}
@@ -37,16 +34,3 @@ pair-at text tape pairs k = record { old = name-at text tape (pairs + k * 2); ne
 -- pair k is right, and its old name was not given before
 unfoldable pub rightly : (Pair → Bool) → List ℕ → List ℕ → ℕ → ℕ → Bool
 rightly right text tape pairs k = right (pair-at text tape pairs k) && not (member (name-at text tape (pairs + k * 2)) (given text tape pairs k))
-
--- the first pair that is not right, or whose old name was given before
-unfoldable pub first-wrong : (Pair → Bool) → List Name → List Pair → Option Name
-first-wrong right seen [] = none
-first-wrong right seen (r ∷ rs) =
-    let more = first-wrong right (r .old ∷ seen) rs in pick (right r && not (member (r .old) seen)) more (some (r .old))
-
--- ---- renaming
-
-pub renaming-wrong : (visible : List Item) (seen : List Name) (rs : List Pair) → first-wrong (renames visible) seen rs ≡ wrong-renaming visible seen rs
-unfolding first-wrong wrong-renaming
-renaming-wrong visible seen [] = refl
-renaming-wrong visible seen (r ∷ rs) = rw (renaming-wrong visible (r .old ∷ seen) rs)

@@ -1,6 +1,4 @@
-// The clauses of an import expression: renaming, 14, and binding, 15 and 16; and where formal items are found once they are bound.
-pub mod bindings;
-pub mod formals;
+// The clauses of an import expression: renaming, 14, and for binding its parameter, 15, and where formal items are found once they are bound.
 pub mod notes;
 pub mod pairs;
 pub mod parameters;

@@ -153,7 +153,13 @@ pub fn wrong_renaming(
         if renames(library, text, work, t, pairs, k, visible, count) {
             k += 1;
         } else {
-            return Verdict::Stop(14, Culprit { name: old_word(&work[0..t], pairs, k), actual: 0 });
+            return Verdict::Stop(
+                14,
+                Culprit {
+                    name: old_word(&work[0..t], pairs, k),
+                    actual: 0,
+                },
+            );
         }
     }
     Verdict::Fine

@@ -6,7 +6,7 @@ use tables::sorts::same_shape;
 ghost use mathlib.Core.Path.{_≡_};
 ghost use Prim.Native.Nat.{_≤_};
 ghost use lib.ListN.{length};
-ghost use Rattle.meaning.specs.Lists.{before};
+ghost use Rattle.meaning.specs.Lists.{any, before};
 ghost use Rattle.meaning.specs.Names.{member};
 ghost use Rattle.meaning.specs.Normal.{names-in, sorts-among, is-called};
 ghost use Rattle.names.specs.Word.{name-of};
@@ -14,7 +14,7 @@ ghost use Rattle.names.specs.Joint.{joint};
 ghost use Rattle.tables.specs.Rows.{item-of, shape-of};
 ghost use Rattle.forms.specs.Memory.{part};
 ghost use Rattle.forms.specs.Forms.{items-at};
-ghost use Rattle.clauses.specs.Searches.{sort-called, like};
+ghost use Rattle.clauses.specs.Searches.{sort-called, function-called, like};
 
 // Is the row called a?
 fn is_row_called(library: &[u8], text: &[u8], tape: &[u32], a: u32, row: Row) -> bool
@@ -90,6 +90,42 @@ pub fn has_sort(library: &[u8], text: &[u8], work: &[u32], t: usize, b: u32, n: 
     ensures { λ r. ⌜ r ≡ member (name-of (joint (now (library .entry)) (now (text .entry))) a) (names-in (sorts-among (items-at (joint (now (library .entry)) (now (text .entry))) (part (now (work .entry)) 0 t) (now (work .entry)) b n))) ⌝ }
 {
     find_sort(library, text, work, t, b, n, a) < n
+}
+
+// Is the row a function called a?
+fn is_function_called(library: &[u8], text: &[u8], tape: &[u32], a: u32, row: Row) -> bool
+    ensures { λ r. ⌜ r ≡ function-called (name-of (joint (now (library .entry)) (now (text .entry))) a) (item-of (joint (now (library .entry)) (now (text .entry))) (now (tape .entry)) row) ⌝ }
+{
+    let name = row.name;
+    let kind = row.kind;
+    if same_word(library, text, a, name) {
+        return 2 <= kind;
+    }
+    false
+}
+
+// Is one of the n rows at b a function called a?
+pub fn has_function(
+    library: &[u8],
+    text: &[u8],
+    work: &[u32],
+    t: usize,
+    b: u32,
+    n: u32,
+    a: u32,
+) -> bool
+    requires { ⌜ t ≤ length (now work) ⌝ }
+    ensures { λ r. ⌜ r ≡ any (function-called (name-of (joint (now (library .entry)) (now (text .entry))) a)) (items-at (joint (now (library .entry)) (now (text .entry))) (part (now (work .entry)) 0 t) (now (work .entry)) b n) ⌝ }
+{
+    let mut i = 0;
+    while i < n {
+        let row = read_row(work, b, i);
+        if is_function_called(library, text, &work[0..t], a, row) {
+            return true;
+        }
+        i += 1;
+    }
+    false
 }
 
 // Is `other` called a, and has it the row's shape?

@@ -9,7 +9,7 @@ pub binding-right-spec : {M : Type 1} → statement M
 binding-right-spec =
     tie.close
     (tie.spec
-    (λ c κs. search needs)  -- wrong-pair-requires
+    (λ c κs. search needs)  -- pairs-right-requires
     (λ c. search needs)  -- enum-known-k
     (λ c. search needs)  -- enum-told
     (λ c κs. search needs)  -- unpaired-requires

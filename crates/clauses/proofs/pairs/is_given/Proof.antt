@@ -1,7 +1,7 @@
 -- `clauses::pairs::is_given` meets its contract.
 -- Assumes nothing.
 use Rattle.names.specs.Joint.{joint}
-use Rattle.clauses.proofs.PairWalks.{looks, Looking}
+use Rattle.clauses.proofs.PairCases.{looks, Looking}
 use Rattle.clauses.proofs.pairs.is_given.Statement.{statement}
 use Rattle.clauses.proofs.pairs.is_given.Tie as tie
 

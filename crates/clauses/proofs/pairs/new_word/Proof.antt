@@ -1,6 +1,6 @@
 -- `clauses::pairs::new_word` meets its contract.
 -- Assumes nothing.
-use Rattle.clauses.proofs.PairWalks.{words}
+use Rattle.clauses.proofs.PairCases.{words}
 use borrow.Author.Needs.{needs}
 use Rattle.clauses.proofs.pairs.new_word.Statement.{statement}
 use Rattle.clauses.proofs.pairs.new_word.Tie as tie

@@ -1,6 +1,6 @@
 -- `clauses::pairs::pair_count` meets its contract.
 -- Assumes nothing.
-use Rattle.clauses.proofs.PairWalks.{counts, Counting}
+use Rattle.clauses.proofs.PairCases.{counts, Counting}
 use Prim.Native.Nat.{_-_}
 use Rattle.clauses.proofs.pairs.pair_count.Statement.{statement}
 use Rattle.clauses.proofs.pairs.pair_count.Tie as tie

@@ -1,6 +1,6 @@
 -- `clauses::pairs::paired_word` meets its contract.
 -- Assumes nothing.
-use Rattle.clauses.proofs.PairWalks.{pairings, Pairing}
+use Rattle.clauses.proofs.PairCases.{pairings, Pairing}
 use Prim.Native.Nat.{_-_}
 use Rattle.names.specs.Joint.{joint}
 use Rattle.clauses.proofs.pairs.paired_word.Statement.{statement}

@@ -1,6 +1,6 @@
 -- `clauses::renamings::renames` meets its contract.
 -- Assumes nothing.
-use Rattle.clauses.proofs.PairWalks.{singles}
+use Rattle.clauses.proofs.PairCases.{singles}
 use borrow.Author.Needs.{needs}
 use Rattle.clauses.proofs.renamings.renames.Statement.{statement}
 use Rattle.clauses.proofs.renamings.renames.Tie as tie

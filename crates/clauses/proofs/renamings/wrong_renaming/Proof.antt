@@ -1,9 +1,7 @@
 -- `clauses::renamings::wrong_renaming` meets its contract.
 -- Assumes nothing.
-use Rattle.clauses.proofs.PairWalks.{Checking}
-use Rattle.clauses.proofs.RenamingCases.{renamings}
+use Rattle.clauses.proofs.RenamingCases.{renamings, Checking}
 use Prim.Native.Nat.{_-_}
-use Rattle.meaning.specs.Clauses.{renames}
 use Rattle.names.specs.Joint.{joint}
 use Rattle.forms.specs.Memory.{part}
 use Rattle.forms.specs.Forms.{items-at}
@@ -12,7 +10,7 @@ use Rattle.clauses.proofs.renamings.wrong_renaming.Tie as tie
 
 abbrev Inv-loop : tie.InvT-loop
 Inv-loop library text work t pairs visible count n k₀ k =
-    Checking (renames (items-at (joint library text) (part work 0 t) work visible count)) (joint library text) (part work 0 t) pairs n k
+    Checking (items-at (joint library text) (part work 0 t) work visible count) (joint library text) (part work 0 t) pairs n k
 
 abbrev μ-loop : tie.MeasureT-loop
 μ-loop library text work t pairs visible count n k₀ k = n - k

@@ -1,6 +1,6 @@
 -- `clauses::sorts::same_origin_at` meets its contract.
 -- Assumes nothing.
-use Rattle.clauses.proofs.SortCases.{origins}
+use Rattle.clauses.proofs.RowSearches.{tests}
 use borrow.Author.Needs.{needs}
 use Rattle.clauses.proofs.sorts.same_origin_at.Statement.{statement}
 use Rattle.clauses.proofs.sorts.same_origin_at.Tie as tie
@@ -15,5 +15,5 @@ same-origin-at-spec =
     (λ c. search needs)  -- part-same-origin-start
     (λ c. search needs)  -- part-same-origin-end
     (λ c κs. search needs)  -- same-origin-requires
-    (λ c. search origins)  -- returns
+    (λ c. search tests)  -- returns
     )

@@ -1,0 +1,36 @@
+-- `clauses::searches::has_function` meets its contract.
+-- Assumes nothing.
+use Rattle.clauses.proofs.RowSearches.{finds}
+use Rattle.clauses.specs.Walks.{Finding}
+use Prim.Native.Nat.{_-_}
+use Rattle.names.specs.Word.{name-of}
+use Rattle.names.specs.Joint.{joint}
+use Rattle.forms.specs.Memory.{part}
+use Rattle.clauses.specs.Searches.{function-called}
+use Rattle.clauses.proofs.searches.has_function.Statement.{statement}
+use Rattle.clauses.proofs.searches.has_function.Tie as tie
+
+abbrev Inv-loop : tie.InvT-loop
+Inv-loop library text work t b n a i₀ i = Finding (function-called (name-of (joint library text) a)) (joint library text) (part work 0 t) work b n i
+
+abbrev μ-loop : tie.MeasureT-loop
+μ-loop library text work t b n a i₀ i = n - i
+
+pub has-function-spec : {M : Type 1} → statement M
+has-function-spec =
+    tie.close
+    (tie.spec
+    Inv-loop
+    μ-loop
+    (λ c. search finds)  -- loop-holds
+    (λ c κs. search finds)  -- read-row-requires
+    (λ c. search finds)  -- sub-is-function-called
+    (λ c. search finds)  -- part-is-function-called-start
+    (λ c. search finds)  -- part-is-function-called-end
+    (λ c κs. search finds)  -- is-function-called-requires
+    (λ c. search finds)  -- returns
+    (λ c. search finds)  -- add-i
+    (λ c. search finds)  -- loop-less
+    (λ c. search finds)  -- loop-again
+    (λ c. search finds)  -- returns-2
+    )
