@@ -1,5 +1,5 @@
--- Demand 3 for the code: two calls whose texts differ in what the reached modules hide return the same number and names and the same visible
--- lines; or one of them is out of room.
+-- Demand 3 for the code: two calls whose texts differ in what the reached modules hide return the same number and names, a culprit's two among
+-- them, and the same visible lines; or one of them is out of room.
 use mathlib.Core.Path.{_≡_, sym, ap, _∙_}
 use mathlib.Core.Logic.{_⊎_, ⊎-elim, inl, inr}
 use Prim.Native.Nat.{ℕ}
@@ -7,6 +7,7 @@ use mathlib.Core.List.{List}
 use lib.ListN.{length, take}
 use Rattle.meaning.specs.Names as Names
 use Rattle.meaning.specs.Numbers.{no-room, lent-short}
+use Rattle.meaning.specs.Checks.{Culprit}
 use Rattle.meaning.specs.Reached.{short-or-blank}
 use Rattle.meaning.specs.Syntax.{Module}
 use Rattle.meaning.specs.Texts.{Texts}
@@ -16,8 +17,8 @@ use Rattle.promises.specs.VisiblePart.{visible-part}
 use Rattle.promises.specs.Demand.{Acceptance, Comparable, Demand3, InTheCall, ByItself, SameAnswer}
 use Rattle.promises.specs.Proof.{demand-3}
 use Rattle.promises.specs.Alone.{demand-3-alone}
-use Rattle.asf.specs.declared.answers.Answer.{Answer}
-use Rattle.asf.specs.Answers.{held, told, Returned, told-call}
+use Rattle.answers.specs.declared.Answer.{Answer}
+use Rattle.answers.specs.Answers.{held, told, Returned, told-call}
 use Rattle.asf.specs.Promises.{answer-told, number-told, listing-told}
 
 -- all is the same but for the listing's length and the lines that are not visible
@@ -26,6 +27,7 @@ pub record SameReturned (r r′ : Returned) : Type 0 where
   pub modules : r .answer .modules ≡ r′ .answer .modules
   pub evaluating : r .answer .evaluating ≡ r′ .answer .evaluating
   pub culprit : r .answer .culprit ≡ r′ .answer .culprit
+  pub actual : r .answer .actual ≡ r′ .answer .actual
   pub at : r .answer .at ≡ r′ .answer .at
   pub in-library : r .answer .«in_library» ≡ r′ .answer .«in_library»
   pub visible-lines : visible-part (take (r .answer .listing) (r .output)) ≡ visible-part (take (r′ .answer .listing) (r′ .output))
@@ -58,7 +60,14 @@ module _ (asked : Names.Name) (texts texts′ : Texts) (memory memory′ output 
             ap (λ (x : Answer). x .evaluating) here
             ∙ ap (λ (m : Names.Name). held (short-or-blank m)) (s .evaluating)
             ∙ sym (ap (λ (x : Answer). x .evaluating) there);
-        culprit = ap (λ (x : Answer). x .culprit) here ∙ ap held (s .culprit) ∙ sym (ap (λ (x : Answer). x .culprit) there);
+        culprit =
+            ap (λ (x : Answer). x .culprit) here
+            ∙ ap (λ (c : Culprit). held (c .name)) (s .culprit)
+            ∙ sym (ap (λ (x : Answer). x .culprit) there);
+        actual =
+            ap (λ (x : Answer). x .actual) here
+            ∙ ap (λ (c : Culprit). held (c .actual)) (s .culprit)
+            ∙ sym (ap (λ (x : Answer). x .actual) there);
         at = ap (λ (x : Answer). x .at) here ∙ s .at ∙ sym (ap (λ (x : Answer). x .at) there);
         in-library =
             ap (λ (x : Answer). x .«in_library») here ∙ s .in-library ∙ sym (ap (λ (x : Answer). x .«in_library») there);

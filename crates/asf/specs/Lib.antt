@@ -1,5 +1,3 @@
-pub mod Answers
-pub mod Told
 pub mod Steps
 pub mod Meant
 pub mod ReadNames

@@ -13,6 +13,8 @@ use Rattle.meaning.specs.Syntax.{Module}
 use Rattle.meaning.specs.Distinct.{read-fresh}
 use Rattle.meaning.specs.Texts.{Reading, two-texts, all-read, refused-in, read-texts}
 use Rattle.meaning.specs.Normal.{Normal, empty}
+use Rattle.meaning.specs.Checks as Checks
+use Rattle.meaning.specs.Checks.{lone}
 use Rattle.meaning.specs.Reached as Reached
 use Rattle.meaning.specs.Reached.{normalised, refused-at, in-turn, reached, module-names, short-or-blank, normalise}
 use Rattle.meaning.specs.Listing.{lines-text, listing-lines}
@@ -29,8 +31,10 @@ use Rattle.limits.specs.Limits.{limits-read, modules-few}
 use Rattle.tables.specs.Entries.{word-at, name-at}
 use Rattle.hidden_items.specs.Sound.{HiddenSound}
 use Rattle.hidden_items.specs.Evaluated.{SoundEnd, normalise-sound}
+use Rattle.forms.specs.declared.Culprit.{Culprit}
 use Rattle.forms.specs.declared.Form.{Form}
 use Rattle.forms.specs.Memory.{part}
+use Rattle.forms.specs.Verdicts.{culprit-of}
 use Rattle.layout.specs.Layout.{tape-end, table-start}
 use Rattle.keeping.specs.Keeping.{form-at}
 use Rattle.modules.specs.declared.Heads.{Heads}
@@ -51,14 +55,14 @@ use Rattle.listing.specs.Meant.{listing-meant}
 use Rattle.listing.specs.Fit as Fit
 use Rattle.listing.specs.Fit.{result, fitted}
 use Rattle.listing.specs.Lent.{Lent, answer-when, lent-meant}
-use Rattle.asf.specs.declared.answers.Answer.{Answer}
-use Rattle.asf.specs.Answers.{held, told, told-listed}
-use Rattle.asf.specs.Told.{short-name, refusal-within, refusal-leaves, unread-within, unread-leaves}
+use Rattle.answers.specs.declared.Answer.{Answer}
+use Rattle.answers.specs.Answers.{held, told, told-listed}
+use Rattle.answers.specs.Told.{short-name, refusal-within, refusal-leaves, unread-within, unread-leaves}
 use Rattle.asf.specs.Steps.{Answered, Spoken, Found, Evaluated}
 
 -- ---- a refusal leaves the output
 
-pub refusal-answered : (asked : Name) (x : Reading) (o : List ℕ) (r : Answer) (number count : ℕ) (m c : Name) (at : ℕ)
+pub refusal-answered : (asked : Name) (x : Reading) (o : List ℕ) (r : Answer) (number count : ℕ) (m : Name) (c : Checks.Culprit) (at : ℕ)
     → of-read asked x ≡ refusal number count m c at → r ≡ told (refusal number count m c at) → Answered asked x o r o
 refusal-answered asked x o r number count m c at e h =
     let whole : within (length o) asked (of-read asked x) ≡ refusal number count m c at =
@@ -157,22 +161,22 @@ module _ (x : Reading) (text : List ℕ) (t : ℕ) (w : List ℕ) (spoken : Spok
       pub asked-found : k < h .count → Found asked x text t w h k
       asked-found l = record { spoken = spoken; heads = heads; number = number-so; there = omega (arith, l, count-so) }
 
-      pub absent-answered : (o : List ℕ) (r : Answer) → h .count ≤ k → r ≡ told (refusal asked-absent 0 asked (short-or-blank asked) 0)
+      pub absent-answered : (o : List ℕ) (r : Answer) → h .count ≤ k → r ≡ told (refusal asked-absent 0 asked (lone (short-or-blank asked)) 0)
           → Answered asked x o r o
       unfolding of-read of-ended normalise pick
       absent-answered o r l q =
           let none : member asked (module-names all) ≡ false = member-absent asked (module-names all) (omega (arith, l, count-so, number-so)) in
-          let ended : normalise asked all ≡ refused-at asked-absent 0 asked (short-or-blank asked) = rw none in
-          refusal-answered asked x o r asked-absent 0 asked (short-or-blank asked) 0
+          let ended : normalise asked all ≡ refused-at asked-absent 0 asked (lone (short-or-blank asked)) = rw none in
+          refusal-answered asked x o r asked-absent 0 asked (lone (short-or-blank asked)) 0
           (ap (of-read asked) (spoken .read-so) ∙ ap (of-ended asked) ended) q
 
 -- ---- what is evaluated
 
 -- a refusal is that of the meaning
-refused-end : (text : List ℕ) (t : ℕ) (w : List ℕ) (number count m c : ℕ) (e : Reached.Ended) → EndsAs text t w (Ended.Refused number count m c) e
-    → e ≡ refused-at number count (name-of text m) (name-of text c)
+refused-end : (text : List ℕ) (t : ℕ) (w : List ℕ) (number count m : ℕ) (c : Culprit) (e : Reached.Ended)
+    → EndsAs text t w (Ended.Refused number count m c) e → e ≡ refused-at number count (name-of text m) (culprit-of text c)
 refused-end text t w number count m c (normalised counted n) h = absurd h
-refused-end text t w number count m c (refused-at told counted evaluating name) h =
+refused-end text t w number count m c (refused-at told counted evaluating meant) h =
     λ i. refused-at (sym (h .number-so) i) (sym (h .count-so) i) (sym (h .module-so) i) (sym (h .culprit-so) i)
 
 -- the last form stands for the normal form of the meaning
@@ -186,7 +190,7 @@ normal-end : (text : List ℕ) (t : ℕ) (w : List ℕ) (count last : ℕ) (e : 
     → NormalEnd text t w count last e
 normal-end text t w count last (normalised counted n) s h =
     record { normal = n; ended = ap (λ (c : ℕ). normalised c n) (sym (h .count-so)); stands = h .last-so; sound = s }
-normal-end text t w count last (refused-at told counted evaluating name) s h = absurd h
+normal-end text t w count last (refused-at told counted evaluating meant) s h = absurd h
 
 -- a module's name by its number
 name-by-number : (text tape places : List ℕ) (i c j : ℕ) → j < c → getD (names-of text tape places i c) j [] ≡ name-at text tape (getD places (i + j) 0)
@@ -235,12 +239,12 @@ module _ (asked : List ℕ) (x : Reading) (text : List ℕ) (t : ℕ) (w : List 
         subst (EndsAs text t w′ e) (sym ending)
         (turned .meant ms asked (spoken-told x text t w (found .spoken) h (found .heads)) (found .number))
 
-    pub refused-answered : (number count m c : ℕ) (o : List ℕ) (r : Answer) → e ≡ Ended.Refused number count m c
-        → r ≡ told (refusal number count (name-of text m) (name-of text c) 0) → Answered asked x o r o
+    pub refused-answered : (number count m : ℕ) (c : Culprit) (o : List ℕ) (r : Answer) → e ≡ Ended.Refused number count m c
+        → r ≡ told (refusal number count (name-of text m) (culprit-of text c) 0) → Answered asked x o r o
     unfolding of-ended
     refused-answered number count m c o r d q =
         let end = refused-end text t w′ number count m c (normalise asked ms) (subst (λ (x : Ended). EndsAs text t w′ x (normalise asked ms)) d ends) in
-        refusal-answered asked x o r number count (name-of text m) (name-of text c) 0 (answering ∙ ap (of-ended asked) end) q
+        refusal-answered asked x o r number count (name-of text m) (culprit-of text c) 0 (answering ∙ ap (of-ended asked) end) q
 
     pub form-evaluated : (name count last : ℕ) → name ≡ word-at (part w 0 t) (getD (h .places) k 0) → length w′ ≡ length w
         → e ≡ Ended.Normalised count last → Evaluated asked x text t w′ name count last
@@ -266,6 +270,7 @@ listing-told asked count n = λ i. record {
   modules = count;
   evaluating = held (short-name [] (omega arith) i);
   culprit = held [];
+  actual = held [];
   at = 0;
   «in_library» = false;
   listing = length (lines-text (listing-lines asked n));
@@ -327,7 +332,7 @@ module _ (asked : List ℕ) (x : Reading) (text : List ℕ) (t : ℕ) (w : List 
             output = output-so;
           }
 
-      pub long-answered : (r : Answer) → v ≡ TooLong → r ≡ told (refusal lent-short count asked [] 0) → Answered asked x o r o′
+      pub long-answered : (r : Answer) → v ≡ TooLong → r ≡ told (refusal lent-short count asked (lone []) 0) → Answered asked x o r o′
       unfolding answer-when of-ended
       long-answered r d q =
           record { answer = q ∙ ap told (sym (answer-lent ∙ ap (answer-when asked whole) d)); output = output-so }

@@ -14,6 +14,7 @@ use Rattle.meaning.specs.Laws.{by-cases}
 use Rattle.meaning.specs.Lists.{pick}
 use Rattle.meaning.specs.Names as Names
 use Rattle.meaning.specs.Numbers.{name-size}
+use Rattle.meaning.specs.Checks.{Culprit}
 use Rattle.meaning.specs.Reached.{short-or-blank}
 use Rattle.meaning.specs.Texts.{Texts}
 use Rattle.meaning.specs.Answer as Meaning
@@ -21,19 +22,19 @@ use Rattle.meaning.specs.Answer.{answer, output-after, memory-after}
 use Rattle.meaning.specs.Contract.{call}
 use Rattle.meaning.specs.Contract as Contract
 use Rattle.promises.specs.NoCycle.{never-in-cycle}
-use Rattle.asf.specs.declared.answers.Name.{Name}
-use Rattle.asf.specs.declared.answers.Answer.{Answer}
-use Rattle.asf.specs.Answers.{held, told, Returned, told-call}
-use Rattle.asf.specs.Told.{short-name}
+use Rattle.answers.specs.declared.Name.{Name}
+use Rattle.answers.specs.declared.Answer.{Answer}
+use Rattle.answers.specs.Answers.{held, told, Returned, told-call}
+use Rattle.answers.specs.Told.{short-name}
 use Rattle.asf.specs.ReadNames.{answer-named, named-by-number, answer-long}
 
--- ---- document 01's five values, and the mark of the place
+-- ---- document 01's five values, the culprit with the actual name, and the mark of the place
 
 pub record Values : Type 0 where
   pub number : ℕ
   pub modules : ℕ
   pub evaluating : Names.Name
-  pub culprit : Names.Name
+  pub culprit : Culprit
   pub at : ℕ
   pub in-library : Bool
 
@@ -49,7 +50,14 @@ unfoldable pub module-told : Names.Name → Answer → Names.Name
 module-told asked r = pick (leb (length asked) name-size) (named (r .evaluating)) (named-by-number asked (r .number))
 
 abbrev pub values : Names.Name → Answer → Values
-values asked r = record { number = r .number; modules = r .modules; evaluating = module-told asked r; culprit = named (r .culprit); at = r .at; in-library = r .«in_library» }
+values asked r = record {
+  number = r .number;
+  modules = r .modules;
+  evaluating = module-told asked r;
+  culprit = record { name = named (r .culprit); actual = named (r .actual) };
+  at = r .at;
+  in-library = r .«in_library»;
+}
 
 named-held : (n : Names.Name) → named (held n) ≡ n
 unfolding held
@@ -94,7 +102,14 @@ module _ (memory output : List ℕ) (asked : Names.Name) (texts : Texts) (r : Re
   unfolding told
   values-told =
       ap (values asked) answer-told
-      ∙ (λ i. record { number = a .number; modules = a .modules; evaluating = module-so i; culprit = named-held (a .culprit) i; at = a .at; in-library = a .in-library })
+      ∙ (λ i. record {
+        number = a .number;
+        modules = a .modules;
+        evaluating = module-so i;
+        culprit = record { name = named-held (a .culprit .name) i; actual = named-held (a .culprit .actual) i };
+        at = a .at;
+        in-library = a .in-library;
+      })
 
   -- ---- the lent slices
 

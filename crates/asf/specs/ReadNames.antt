@@ -17,7 +17,7 @@ use Rattle.meaning.specs.Numbers.{name-size, asked-absent, lent-short}
 use Rattle.meaning.specs.Syntax.{Module}
 use Rattle.meaning.specs.Texts.{Texts, Reading, all-read, refused-in, read-texts}
 use Rattle.meaning.specs.Normal.{Normal, empty}
-use Rattle.meaning.specs.Checks.{Outcome, fine, stop}
+use Rattle.meaning.specs.Checks.{Culprit, lone, Outcome, fine, stop}
 use Rattle.meaning.specs.Evaluate.{Evaluated, evaluate}
 use Rattle.meaning.specs.Reached.{Placed, reached-among, reached, Ended, normalised, refused-at, end-or, total-of, in-turn, module-names, short-or-blank, normalise}
 use Rattle.meaning.specs.Answer.{Answer, refusal, of-ended, unread, of-read, within, answer}
@@ -101,20 +101,20 @@ named-by-number asked number = pick (leb number 5) [] asked
 abbrev ByNumber : Name → Answer → Type 0
 ByNumber asked a = a .evaluating ≡ named-by-number asked (a .number)
 
-from-six : (asked : Name) (number count : ℕ) (c : Name) (at : ℕ) → 5 < number → ByNumber asked (refusal number count asked c at)
+from-six : (asked : Name) (number count : ℕ) (c : Culprit) (at : ℕ) → 5 < number → ByNumber asked (refusal number count asked c at)
 unfolding refusal pick
 from-six asked number count c at h = rw (lt-leb number 5 h)
 
 read-long : (asked : Name) (texts : Texts) → name-size < length asked → (r : Reading) → read-texts texts ≡ r → ByNumber asked (of-read asked r)
 unfolding of-read of-ended normalise unread pick
 read-long asked texts l (all-read ms) e =
-    let absent : normalise asked ms ≡ refused-at asked-absent 0 asked (short-or-blank asked) = rw (none-long asked l ms (read-names texts ms e)) in
-    rw absent (from-six asked asked-absent 0 (short-or-blank asked) 0 (omega arith))
+    let absent : normalise asked ms ≡ refused-at asked-absent 0 asked (lone (short-or-blank asked)) = rw (none-long asked l ms (read-names texts ms e)) in
+    rw absent (from-six asked asked-absent 0 (lone (short-or-blank asked)) 0 (omega arith))
 read-long asked texts l (refused-in m number at) e = rw (le-leb number 5 (refused-low texts m number at e))
 
 pub answer-long : (memory-lent output-lent : ℕ) (asked : Name) (texts : Texts) → name-size < length asked
     → ByNumber asked (answer memory-lent output-lent asked texts)
 unfolding answer within
 answer-long memory-lent output-lent asked texts l =
-    by-cases (ByNumber asked) _ _ _ (λ e. from-six asked lent-short 0 [] 0 (omega arith))
-    (λ e. by-cases (ByNumber asked) _ _ _ (λ k. read-long asked texts l (read-texts texts) refl) (λ k. from-six asked lent-short _ [] 0 (omega arith)))
+    by-cases (ByNumber asked) _ _ _ (λ e. from-six asked lent-short 0 (lone []) 0 (omega arith))
+    (λ e. by-cases (ByNumber asked) _ _ _ (λ k. read-long asked texts l (read-texts texts) refl) (λ k. from-six asked lent-short _ (lone []) 0 (omega arith)))

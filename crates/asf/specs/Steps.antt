@@ -22,8 +22,8 @@ use Rattle.layout.specs.Layout.{tape-end}
 use Rattle.modules.specs.declared.Heads.{Heads}
 use Rattle.modules.specs.Modules.{HeadsOf}
 use Rattle.turns.specs.Turns.{LastStands}
-use Rattle.asf.specs.declared.answers.Answer.{Answer}
-use Rattle.asf.specs.Answers.{told}
+use Rattle.answers.specs.declared.Answer.{Answer}
+use Rattle.answers.specs.Answers.{told}
 
 -- the answer to one who asked, where there is enough memory; the output o became o′
 pub record Answered (asked : Name) (x : Reading) (o : List ℕ) (r : Answer) (o′ : List ℕ) : Type 0 where

@@ -1,6 +1,4 @@
 // Normalising one module of two texts, our library and the customer's: from bytes to the answer and the listing. All working memory is lent, and zero afterwards.
-pub mod answers;
-
 use answers::Answer;
 use answers::absent;
 use answers::lent_short;
@@ -27,7 +25,7 @@ ghost use Rattle.meaning.specs.Numbers.{memory-size};
 ghost use Rattle.meaning.specs.Texts.{two-texts, read-texts};
 ghost use Rattle.meaning.specs.Contract.{call};
 ghost use Rattle.names.specs.Joint.{joint};
-ghost use Rattle.asf.specs.Answers.{returned, told-call};
+ghost use Rattle.answers.specs.Answers.{returned, told-call};
 ghost use Rattle.asf.specs.Steps.{Answered, Spoken, Found, Evaluated};
 
 // How many words the working memory has at the least.

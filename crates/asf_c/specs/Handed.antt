@@ -1,22 +1,10 @@
 -- What a caller in C is handed of a call: the values and names of an answer, laid over what is lent for them. What has no room is left out.
 use mathlib.Core.Path.{_≡_, sym, _∙_}
-use Prim.Native.Nat.{ℕ, _+_}
-use mathlib.Core.List.{List, [], _∷_}
-use lib.ListN.{length}
-use Rattle.values.specs.Values.{laid, bit-of}
-use Rattle.pen.specs.Pen.{pen, written}
-use Rattle.asf.specs.declared.answers.Name.{Name}
-use Rattle.asf.specs.declared.answers.Answer.{Answer}
-use Rattle.asf.specs.Answers.{Returned}
-
--- the values of an answer, and last 1 where the place is in the library
-unfoldable pub answer-values : Answer → List ℕ
-answer-values r =
-    r .number ∷ r .modules ∷ r .at ∷ r .evaluating .length ∷ r .culprit .length ∷ r .listing ∷ bit-of (r .«in_library») ∷ []
-
--- the two names, one behind the other, each in 42 bytes
-unfoldable pub names-laid : Name → Name → List ℕ → List ℕ
-names-laid m w names = written (length names + 1) (w .bytes) (written (length names + 1) (m .bytes) (pen 0 names)) .out
+use Prim.Native.Nat.{ℕ}
+use mathlib.Core.List.{List}
+use Rattle.values.specs.Values.{laid}
+use Rattle.answers.specs.Answers.{Returned}
+use Rattle.answer_values.specs.Laid.{answer-values, names-laid}
 
 -- what a call gives: the number, and the lent slices afterwards
 pub record Handed : Type 0 where
@@ -36,7 +24,7 @@ handed-call c values names = record {
   output = c .output;
   memory = c .memory;
   values = laid 0 (answer-values (c .answer)) values;
-  names = names-laid (c .answer .evaluating) (c .answer .culprit) names;
+  names = names-laid (c .answer .evaluating) (c .answer .culprit) (c .answer .actual) names;
 }
 
 -- two results that the contract allows coincide

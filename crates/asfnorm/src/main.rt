@@ -12,10 +12,10 @@ fn print_response(input: &[u8], work: &mut [u32], out: &mut [u8], page: &mut [u8
     io::write_all(STDOUT_FILENO, &page[..size]);
 }
 
-// The page is as long as the output, and 157 bytes more.
+// The page is as long as the output, and 207 bytes more.
 fn respond_with(input: &[u8], work: &mut [u32; 1048576]) {
     let mut out = [0; 65536];
-    let mut page = [0; 65693];
+    let mut page = [0; 65743];
     print_response(input, work, &mut out, &mut page);
 }
 

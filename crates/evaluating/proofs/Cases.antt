@@ -14,16 +14,16 @@ use Rattle.meaning.specs.Normal.{empty}
 use Rattle.meaning.specs.Checks.{Check, fine, _>>_}
 use Rattle.meaning.specs.Evaluate.{names-right, imported}
 use Rattle.meaning.specs.Reached.{total-of}
-use Rattle.names.specs.Word.{name-of}
 use Rattle.tables.specs.Entries.{role-at, next-with}
 use Rattle.forms.specs.declared.Form.{Form}
 use Rattle.forms.specs.declared.Block.{Block}
+use Rattle.forms.specs.declared.Culprit.{Culprit}
 use Rattle.forms.specs.declared.Made.{Made}
 use Rattle.forms.specs.declared.Made.the-variants.{Done}
 use Rattle.forms.specs.declared.Verdict.{Verdict}
 use Rattle.forms.specs.declared.Verdict.the-variants.{Fine, Stop}
 use Rattle.forms.specs.Memory.{part}
-use Rattle.forms.specs.Verdicts.{told}
+use Rattle.forms.specs.Verdicts.{culprit-of, told}
 use Rattle.forms.specs.Forms.{Stands}
 use Rattle.forms.specs.Blocks.{MadeThere}
 use Rattle.layout.specs.Layout.{joining-block, tape-end, kept-start}
@@ -52,17 +52,17 @@ use Rattle.evaluating.specs.Next.{LastStepping, last-completed, last-ref
 
 -- ---- one check after the other
 
-told-stop : (text : List ℕ) (a b : Check) (v : Verdict) (k x : ℕ) → told text v ≡ a → v ≡ Stop k x → told text (Stop k x) ≡ (a >> b)
+told-stop : (text : List ℕ) (a b : Check) (v : Verdict) (k : ℕ) (x : Culprit) → told text v ≡ a → v ≡ Stop k x → told text (Stop k x) ≡ (a >> b)
 unfolding told
-told-stop text a b v k x e h = sym (stops a b k (name-of text x) (sym e ∙ ap (told text) h))
+told-stop text a b v k x e h = sym (stops a b k (culprit-of text x) (sym e ∙ ap (told text) h))
 
 told-fine : (text : List ℕ) (a b : Check) (v r : Verdict) → told text v ≡ a → v ≡ Fine → told text r ≡ b → told text r ≡ (a >> b)
 unfolding told
 told-fine text a b v r e h q = q ∙ sym (goes-on a b (sym e ∙ ap (told text) h))
 
 module _ (text tape : List ℕ) (h : Heads) (k from end : ℕ) where
-  pub names-stop : (v : Verdict) (j x : ℕ) → told text v ≡ names-right (declared text tape h) (take k (declared text tape h)) (named-in text tape h k) → v ≡ Stop j x
-      → told text (Stop j x) ≡ first-checks text tape h k from end
+  pub names-stop : (v : Verdict) (j : ℕ) (x : Culprit) → told text v ≡ names-right (declared text tape h) (take k (declared text tape h)) (named-in text tape h k)
+      → v ≡ Stop j x → told text (Stop j x) ≡ first-checks text tape h k from end
   unfolding first-checks
   names-stop v j x e q = told-stop text _ _ v j x e q
 
@@ -155,11 +155,11 @@ module _ (text : List ℕ) (t : ℕ) (w : List ℕ) (h : Heads) (k from end : �
   short : length (part w 0 t) ≤ t
   short = omega (arith, length-take (t - 0) (drop 0 w))
 
-  pub steps-stop : (j y : ℕ) → v ≡ Stop j y → Stepping text t w h k s (NotKept j y) w
+  pub steps-stop : (j : ℕ) (y : Culprit) → v ≡ Stop j y → Stepping text t w h k s (NotKept j y) w
   unfolding told
   steps-stop j y e = record {
     meant = λ ms env m ys earlier sofar d f.
-        refused-first text (part w 0 t) t h ms (sofar .told) short k m ys d earlier f env (total-of env) j (name-of text y)
+        refused-first text (part w 0 t) t h ms (sofar .told) short k m ys d earlier f env (total-of env) j (culprit-of text y)
         (checks-there ∙ ap (told text) e);
   }
 

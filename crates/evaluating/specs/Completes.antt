@@ -12,15 +12,16 @@ use Rattle.meaning.specs.Syntax.{Clause, renamed-by, bound-by, Import, Module}
 use Rattle.meaning.specs.Normal.{Normal}
 use Rattle.meaning.specs.Checks.{Outcome, fine, stop, _>>=_, Size}
 use Rattle.meaning.specs.Evaluate.{Evaluated, imported}
-use Rattle.names.specs.Word.{name-of}
 use Rattle.limits.specs.Limits.{Limited}
 use Rattle.tape.specs.Tape.{flat-clause, flat-import, flat-module}
+use Rattle.forms.specs.declared.Culprit.{Culprit}
 use Rattle.forms.specs.declared.Form.{Form}
 use Rattle.forms.specs.declared.Made.{Made}
 use Rattle.forms.specs.declared.Made.the-variants.{Done, Refused}
 use Rattle.forms.specs.Memory.{part, Kept}
 use Rattle.forms.specs.FormLaws.{kept-then, tape-same}
 use Rattle.forms.specs.Blocks.{Makes, MadeIn}
+use Rattle.forms.specs.Verdicts.{culprit-of}
 use Rattle.layout.specs.Layout.{joining-block, second-block, tape-end, Laid}
 use Rattle.modules.specs.declared.Heads.{Heads}
 use Rattle.modules.specs.Modules.{declared}
@@ -84,7 +85,7 @@ module _ (text : List ℕ) (t : ℕ) (w w₁ : List ℕ) (h : Heads) (k from end
       let few : length (each flat-import (m .imports)) ≤ 32768 = omega (arith, size, a .whole, c .few-entries) in
       x .made (m .imports) env (imports-there text (part w 0 t) from end m a) (le-trans (a .limited .imports) (omega arith)) (few-clauses (m .imports) few) v
 
-  pub completed-refused : (j y : ℕ) → r₁ ≡ Refused j y → CompletedAll text t w h k from end totals (Refused j y) w₁
+  pub completed-refused : (j : ℕ) (y : Culprit) → r₁ ≡ Refused j y → CompletedAll text t w h k from end totals (Refused j y) w₁
   unfolding all-joined
   completed-refused j y e = record {
     made-in = tt;
@@ -94,7 +95,7 @@ module _ (text : List ℕ) (t : ℕ) (w w₁ : List ℕ) (h : Heads) (k from end
         let z = subst (λ (u : Made). Makes text (part w₁ 0 t) w₁ u o) e (at-first m env a v) in
         record {
           makes = refused-makes text (part w₁ 0 t) w₁ j y (all-joined env k total m)
-              (then-stops o (λ (n : Normal). joined-all k total m n) j (name-of text y) (refused-outcome text (part w₁ 0 t) w₁ j y o z));
+              (then-stops o (λ (n : Normal). joined-all k total m n) j (culprit-of text y) (refused-outcome text (part w₁ 0 t) w₁ j y o z));
           kept = tt;
         };
   }

@@ -7,7 +7,7 @@ use lib.ListN.{length, getD, drop}
 use Rattle.meaning.specs.Names.{Name}
 use Rattle.meaning.specs.Syntax.{Module}
 use Rattle.meaning.specs.Normal.{Normal}
-use Rattle.meaning.specs.Checks.{Check, Outcome, fine, stop, _>>=_, _>>_, Size}
+use Rattle.meaning.specs.Checks.{Culprit, Check, Outcome, fine, stop, _>>=_, _>>_, Size}
 use Rattle.meaning.specs.Evaluate.{Evaluated, named-by, names-right, declared-once, imported, joined-own, evaluate}
 use Rattle.meaning.specs.Reached.{module-names}
 use Rattle.tape.specs.Tape.{flat-module}
@@ -56,7 +56,7 @@ module _ (text tape : List ℕ) (t : ℕ) (h : Heads) (ms : List Module) (told :
         once-by-places text tape (getD (h .places) k 0) m (few-inputs m (there .limited)) (there .entries),
       )
 
-  pub refused-first : (env : List Evaluated) (total : Size) (j : ℕ) (w : Name)
+  pub refused-first : (env : List Evaluated) (total : Size) (j : ℕ) (w : Culprit)
       → first-checks text tape h k (getD (h .places) k 0) (getD (h .places) (k + 1) 0) ≡ stop j w
       → evaluate (module-names ms) earlier k total env m ≡ stop j w
   refused-first env total j w q = steps-parted (module-names ms) earlier k total env m ∙ stops _ (last-steps env k total m) j w (sym first-told ∙ q)

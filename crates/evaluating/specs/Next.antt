@@ -11,7 +11,7 @@ use Rattle.meaning.specs.Checks.{fine, Size, size, add-sizes}
 use Rattle.meaning.specs.Written.{in-order}
 use Rattle.meaning.specs.Evaluate.{Evaluated, evaluate}
 use Rattle.meaning.specs.Reached.{total-of, module-names}
-use Rattle.names.specs.Word.{name-of}
+use Rattle.forms.specs.declared.Culprit.{Culprit}
 use Rattle.forms.specs.declared.Form.{Form}
 use Rattle.forms.specs.declared.Made.{Made}
 use Rattle.forms.specs.declared.Made.the-variants.{Done}
@@ -20,6 +20,7 @@ use Rattle.forms.specs.Memory.{part, Kept as KeptOutside}
 use Rattle.forms.specs.Forms.{Stands}
 use Rattle.forms.specs.FormLaws.{tape-same}
 use Rattle.forms.specs.Blocks.{Makes, Fits, MadeIn, MadeThere}
+use Rattle.forms.specs.Verdicts.{culprit-of}
 use Rattle.layout.specs.Layout.{joining-block, second-block, kept-start, table-start, Laid}
 use Rattle.keeping.specs.Keeping.{form-same}
 use Rattle.modules.specs.declared.Heads.{Heads}
@@ -150,14 +151,14 @@ module _ (text : List ℕ) (t : ℕ) (w w₁ : List ℕ) (h : Heads) (k from end
     made-so : MakesIn text t (joining-block .low) (second-block .high) w w₁ r₁ (all-joined env k (total-of env) m)
     made-so = x .made m env (total-of env) there (sofar .stands) (sofar .seen) (sofar .totals)
 
-  pub last-refused : (j y : ℕ) → r₁ ≡ NotMade j y → LastStepping text t w h k s (Refused j y) w₁
+  pub last-refused : (j : ℕ) (y : Culprit) → r₁ ≡ NotMade j y → LastStepping text t w h k s (Refused j y) w₁
   last-refused j y q = record {
     meant = λ ms env m ys earlier sofar e passed.
         let o = all-joined env k (total-of env) m in
         let z = subst (λ (u : Made). Makes text (part w₁ 0 t) w₁ u o) q (made-so ms env m ys sofar e .makes) in
         passed
         ∙ last-ordered env k (total-of env) m
-        ∙ then-stops o (λ (a : Normal). fine (in-order a)) j (name-of text y) (refused-outcome text (part w₁ 0 t) w₁ j y o z);
+        ∙ then-stops o (λ (a : Normal). fine (in-order a)) j (culprit-of text y) (refused-outcome text (part w₁ 0 t) w₁ j y o z);
   }
 
   module _ (f : Form) (q : r₁ ≡ Done f) where

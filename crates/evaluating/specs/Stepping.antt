@@ -9,7 +9,7 @@ use Rattle.meaning.specs.Normal.{Normal}
 use Rattle.meaning.specs.Checks.{Outcome, fine, stop}
 use Rattle.meaning.specs.Evaluate.{Evaluated, evaluate}
 use Rattle.meaning.specs.Reached.{total-of, module-names}
-use Rattle.names.specs.Word.{name-of}
+use Rattle.forms.specs.Verdicts.{culprit-of}
 use Rattle.modules.specs.declared.Heads.{Heads}
 use Rattle.modules.specs.Meant.{Earlier}
 use Rattle.evaluating.specs.declared.states.State.{State}
@@ -31,7 +31,7 @@ pub record KeptMeant (text : List ℕ) (t : ℕ) (w′ : List ℕ) (h : Heads) (
 
 abbrev pub StepMeant : List ℕ → ℕ → List ℕ → Heads → ℕ → List Module → List Evaluated → Module → Outcome Normal → Stepped → Type 0
 StepMeant text t w′ h k ms env m outcome (Kept r) = KeptMeant text t w′ h k r ms env m outcome
-StepMeant text t w′ h k ms env m outcome (Refused j y) = outcome ≡ stop j (name-of text y)
+StepMeant text t w′ h k ms env m outcome (Refused j y) = outcome ≡ stop j (culprit-of text y)
 
 -- for whatever modules the tape spells, and whichever of them are evaluated
 pub record Stepping (text : List ℕ) (t : ℕ) (w : List ℕ) (h : Heads) (k : ℕ) (s : State) (r : Stepped) (w′ : List ℕ) : Type 0 where

@@ -21,12 +21,14 @@ use Rattle.tape.specs.Tape.{entry, flat-pair}
 use Rattle.tables.specs.Entries.{role-at, word-at, name-at}
 use Rattle.forms.specs.declared.Form.{Form}
 use Rattle.forms.specs.declared.Block.{Block}
+use Rattle.forms.specs.declared.Culprit.{Culprit}
 use Rattle.forms.specs.declared.Made.{Made}
 use Rattle.forms.specs.declared.Made.the-variants.{Done, Refused}
 use Rattle.forms.specs.Memory.{part, Kept}
 use Rattle.forms.specs.Forms.{Stands}
 use Rattle.forms.specs.FormLaws.{kept-all, kept-wider, kept-then, tape-same}
 use Rattle.forms.specs.Blocks.{BlockLaid, Outside, Fits, Makes, MadeThere, MadeIn}
+use Rattle.forms.specs.Verdicts.{culprit-of}
 use Rattle.translation.specs.Translation.{pairs-at}
 use Rattle.modules.specs.declared.Heads.{Heads}
 use Rattle.modules.specs.Modules.{declared}
@@ -479,7 +481,7 @@ module _ (text : List ℕ) (t : ℕ) (w : List ℕ) (h : Heads) (left i : ℕ) (
         let there = clause-there text (part w 0 t) i d cs k in
         x .made d env n there (at ∙ clause-ends text (part w 0 t) i d there (starts-within (part w 0 t) i starts)) v s
 
-    clauses-refused : (j y : ℕ) → r ≡ Refused j y → ClausesMade text t w h left i g (Refused j y) w₁
+    clauses-refused : (j : ℕ) (y : Culprit) → r ≡ Refused j y → ClausesMade text t w h left i g (Refused j y) w₁
     unfolding clauses
     clauses-refused j y e = record { kept = wide; source = tt; made = go }
       where
@@ -490,7 +492,7 @@ module _ (text : List ℕ) (t : ℕ) (w : List ℕ) (h : Heads) (left i : ℕ) (
         go (d ∷ cs) env n k l v s =
             let m = subst (λ (z : Made). Makes text (part w₁ 0 t) w₁ z (clause env d n)) e (at-first d cs env n k v s) in
             refused-makes text (part w₁ 0 t) w₁ j y (clauses env (d ∷ cs) n)
-            (then-stops (clause env d n) (λ (z : Normal). clauses env cs z) j (name-of text y) (refused-outcome text (part w₁ 0 t) w₁ j y (clause env d n) m))
+            (then-stops (clause env d n) (λ (z : Normal). clauses env cs z) j (culprit-of text y) (refused-outcome text (part w₁ 0 t) w₁ j y (clause env d n) m))
 
     -- the clauses behind it, of the form that it made
     module _ (f : Form) (e : r ≡ Done f) where
@@ -581,7 +583,7 @@ module _ (text : List ℕ) (t : ℕ) (w₀ : List ℕ) (h : Heads) (all start : 
 
     module _ (b : Bool) (end : ℕ) (w₁ : List ℕ) (r : Made) (told : b ≡ starts-clause (part w 0 t) i) (goes : b ≡ true)
         (at : end ≡ run-end 14 (part w 0 t) (i + 1) (length (part w 0 t) - (i + 1))) (x : ClauseMade text t w h i end g (turn-block first) r w₁) where
-      pub clauses-stop : (j y : ℕ) → r ≡ Refused j y → ClausesMade text t w₀ h all start source (Refused j y) w₁
+      pub clauses-stop : (j : ℕ) (y : Culprit) → r ≡ Refused j y → ClausesMade text t w₀ h all start source (Refused j y) w₁
       clauses-stop j y e = v .goes-on (Refused j y) w₁ (clauses-refused text t w h left i g first b end w₁ r told goes at (v .room) x j y e)
 
       pub clauses-again : (f : Form) (next : Bool) → r ≡ Done f → next ≡ not first → ClausesGoing text t w₀ h all start source (left - 1) end f next w₁

@@ -15,17 +15,18 @@ use Rattle.meaning.specs.Syntax.{Clause, Import}
 use Rattle.meaning.specs.Normal.{Normal, empty, unite}
 use Rattle.meaning.specs.Checks.{Outcome, fine, stop, _>>=_, checked}
 use Rattle.meaning.specs.Evaluate.{Evaluated, normal-of, clauses, expressions, united, imported}
-use Rattle.names.specs.Word.{name-of}
 use Rattle.tape.specs.Tape.{flat-clause}
 use Rattle.tables.specs.Entries.{role-at, name-at}
 use Rattle.forms.specs.declared.Form.{Form}
 use Rattle.forms.specs.declared.Block.{Block}
+use Rattle.forms.specs.declared.Culprit.{Culprit}
 use Rattle.forms.specs.declared.Made.{Made}
 use Rattle.forms.specs.declared.Made.the-variants.{Done, Refused}
 use Rattle.forms.specs.Memory.{part, Kept}
 use Rattle.forms.specs.Forms.{Stands}
 use Rattle.forms.specs.FormLaws.{kept-all, kept-wider, kept-then, tape-same}
 use Rattle.forms.specs.Blocks.{Makes, MadeThere, MadeIn}
+use Rattle.forms.specs.Verdicts.{culprit-of}
 use Rattle.forms.specs.Frames.{stands-kept}
 use Rattle.modules.specs.declared.Heads.{Heads}
 use Rattle.modules.specs.Modules.{declared}
@@ -159,13 +160,13 @@ join-room size t g f b so-far e q c =
       there = subst (MadeIn joining-block) q (c .there);
     })
 
-pub union-waits : (text : List ℕ) (t : ℕ) (w : List ℕ) (g : Form) (so-far : Made) (k x : ℕ) → so-far ≡ Refused k x → UnionMade text t w g so-far (Refused k x) w
+pub union-waits : (text : List ℕ) (t : ℕ) (w : List ℕ) (g : Form) (so-far : Made) (k : ℕ) (x : Culprit) → so-far ≡ Refused k x → UnionMade text t w g so-far (Refused k x) w
 union-waits text t w g so-far k x e = record {
   kept = kept-all (joining-block .low) (joining-block .high) w;
   made-in = tt;
   made = λ n o s m.
       refused-makes text (part w 0 t) w k x (o >>= λ u. checked (unite u n))
-      (then-stops o (λ (u : Normal). checked (unite u n)) k (name-of text x)
+      (then-stops o (λ (u : Normal). checked (unite u n)) k (culprit-of text x)
       (refused-outcome text (part w 0 t) w k x o (subst (λ (z : Made). Makes text (part w 0 t) w z o) e m)));
 }
 
@@ -300,7 +301,7 @@ module _ (text : List ℕ) (t : ℕ) (w : List ℕ) (h : Heads) (i : ℕ) (so-fa
       wide : Kept (joining-block .low) (second-block .high) w w₁
       wide = kept-wider (first-block .low) (second-block .high) (joining-block .low) (second-block .high) w w₁ joining-low (omega arith) (x .kept)
 
-      imports-refused : (left j y : ℕ) → r ≡ Refused j y → ImportsMade text t w h left i so-far (Refused j y) w₁
+      imports-refused : (left j : ℕ) (y : Culprit) → r ≡ Refused j y → ImportsMade text t w h left i so-far (Refused j y) w₁
       unfolding expressions
       imports-refused left j y e = record { kept = wide; made-in = tt; made = go }
         where
@@ -312,8 +313,8 @@ module _ (text : List ℕ) (t : ℕ) (w : List ℕ) (h : Heads) (i : ℕ) (so-fa
               let one = clauses env (z .clauses) (normal-of env (z .name)) in
               let s = subst (λ (q : Made). Makes text (part w₁ 0 t) w₁ q one) e (x .made z env (import-there text (part w 0 t) i z is k) (f .0) v) in
               refused-makes text (part w₁ 0 t) w₁ j y (expressions env (z ∷ is) >>= onto o)
-              (then-stops (expressions env (z ∷ is)) (onto o) j (name-of text y)
-              (then-stops one (λ (n : Normal). expressions env is >>= λ ns. fine (n ∷ ns)) j (name-of text y)
+              (then-stops (expressions env (z ∷ is)) (onto o) j (culprit-of text y)
+              (then-stops one (λ (n : Normal). expressions env is >>= λ ns. fine (n ∷ ns)) j (culprit-of text y)
               (refused-outcome text (part w₁ 0 t) w₁ j y one s)))
 
       -- what there is so far is not touched by the expression
@@ -426,7 +427,7 @@ module _ (text : List ℕ) (t : ℕ) (w₀ : List ℕ) (h : Heads) (all start : 
 
     module _ (role : ℕ) (told : role ≡ role-at (part w 0 t) i) (goes : role ≡ 11) (end : ℕ) (w₁ : List ℕ) (r : Made)
         (at : end ≡ run-end 12 (part w 0 t) (i + 1) (length (part w 0 t) - (i + 1))) (x : ExpressionMade text t w h i r w₁) where
-      pub imports-stop : (j y : ℕ) → r ≡ Refused j y → ImportsMade text t w₀ h all start given (Refused j y) w₁
+      pub imports-stop : (j : ℕ) (y : Culprit) → r ≡ Refused j y → ImportsMade text t w₀ h all start given (Refused j y) w₁
       imports-stop j y e =
           v .goes-on (Refused j y) w₁ (imports-refused text t w h i so-far role told goes (v .room) end w₁ r at x left j y e)
 

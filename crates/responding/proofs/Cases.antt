@@ -5,7 +5,7 @@ use mathlib.Core.List.{List, [], _++_}
 use Prim.Native.Nat.{ℕ, _+_, _-_, _<_, _≤_}
 use native.Mathlib.Omega.{arith}
 use borrow.Author.Needs.{needs}
-use borrow.Author.Tests.{eq-eqb, ne-eqb, lt-ltb, le-ltb}
+use borrow.Author.Tests.{lt-ltb, le-ltb}
 use lib.Dec.{eqb, ltb}
 use lib.ListN.{length, take, drop, length-append, length-take, length-drop}
 use lib.Seq.{take-length}
@@ -13,70 +13,28 @@ use Rattle.meaning.specs.Laws.{by-cases}
 use Rattle.meaning.specs.Lists.{pick, each}
 use Rattle.meaning.specs.Names.{bytes, slice}
 use Rattle.meaning.specs.Numbers.{text-size, memory-size, lent-short}
-use Rattle.meaning.specs.Written.{digits, decimal}
+use Rattle.meaning.specs.Written.{decimal}
+use Rattle.meaning.specs.Checks.{lone}
+use Rattle.meaning.specs.Reached.{short-or-blank}
 use Rattle.meaning.specs.Texts.{Texts, two-texts}
 use Rattle.meaning.specs.Answer.{request-end, has-request, library-too-long, texts-in, answer, answer-to, output-after, memory-after, refusal, unread}
 use Rattle.meaning.specs.Answer as Meaning
 use Rattle.meaning.specs.Listing.{lines-text}
 use Rattle.meaning.specs.Contract.{call, same-length}
-use Rattle.pen.specs.Pen.{Pen, pen, written}
-use Rattle.pen.proofs.Laws.{then, reached}
-use Rattle.asf.specs.declared.answers.Name.{Name}
-use Rattle.asf.specs.declared.answers.Answer.{Answer}
-use Rattle.asf.specs.Answers as Answers
-use Rattle.asf.specs.Answers.{told-size, returned, told-call}
+use Rattle.pen.specs.Pen.{pen, written}
+use Rattle.pen.proofs.Laws.{reached}
+use Rattle.answers.specs.declared.Name.{Name}
+use Rattle.answers.specs.declared.Answer.{Answer}
+use Rattle.answers.specs.Answers as Answers
+use Rattle.answers.specs.Answers.{told-size, returned, told-call}
 use Rattle.framing.specs.declared.Framing.{Framing}
 use Rattle.framing.specs.declared.Framing.the-variants.{Alone, TooLong, Both}
 use Rattle.framing.specs.Framed.{Framed, AloneFramed, BothFramed}
 use Rattle.framing.proofs.Cases.{request-start, request-ends, request-ends-within, request-short, request-fits, behind-request, digits-size}
-use Rattle.responding.specs.Program.{asfnorm-with, page-room, with-memory, answer-behind, Behind, Refused, line-of, spelled, marked-place, refusal-text, answer-text, Responded}
+use Rattle.answer_lines.specs.Lines.{line-of, spelled, actual-text, marked-place, refusal-text, answer-text}
+use Rattle.responding.specs.Program.{asfnorm-with, page-room, with-memory, answer-behind, Behind, Refused, Responded}
 use Rattle.responding.specs.Short.{with-short, behind-short}
 use Rattle.responding.specs.Printed.{answer-told}
-
--- ---- lines: p is where the pen stands before, q after
-
-module _ (l : ℕ) (p q : Pen) where
-  pub line-done : (key value : List ℕ) (a b c : Pen) → a ≡ written l key p → b ≡ written l (bytes "=") a → c ≡ written l value b
-      → q ≡ written l (bytes "\n") c → q ≡ written l (line-of key value) p
-  unfolding line-of
-  line-done key value a b c e f g h =
-      then l key (bytes "=" ++ (value ++ bytes "\n")) p a q e
-      (then l (bytes "=") (value ++ bytes "\n") a b q f (then l value (bytes "\n") b c q g h))
-
-  pub number-done : (key : List ℕ) (n : ℕ) (a b c : Pen) → a ≡ written l key p → b ≡ written l (bytes "=") a → c ≡ written l (digits 10 n) b
-      → q ≡ written l (bytes "\n") c → q ≡ written l (line-of key (decimal n)) p
-  unfolding decimal
-  number-done key n a b c e f g h = line-done key (digits 10 n) a b c e f g h
-
-  pub name-done : (key : List ℕ) (n : Name) → q ≡ written l (line-of key (take (n .length) (n .bytes))) p → q ≡ written l (line-of key (spelled n)) p
-  unfolding spelled
-  name-done key n e = e
-
-  pub place-marked : (b : Bool) (n : ℕ) (a c : Pen) → b ≡ true → a ≡ written l (bytes "at=library:") p → c ≡ written l (digits 10 n) a
-      → q ≡ written l (bytes "\n") c → q ≡ written l (line-of (bytes "at") (marked-place b n)) p
-  unfolding marked-place decimal line-of pick
-  place-marked b n a c y e f g = rw y (then l (bytes "at=library:") (digits 10 n ++ bytes "\n") p a q e (then l (digits 10 n) (bytes "\n") a c q f g))
-
-  pub place-plain : (b : Bool) (n : ℕ) → b ≡ false → q ≡ written l (line-of (bytes "at") (decimal n)) p
-      → q ≡ written l (line-of (bytes "at") (marked-place b n)) p
-  unfolding marked-place pick
-  place-plain b n y e = rw y e
-
-  pub refusal-done : (r : Answer) (a b : Pen) → a ≡ written l (line-of (bytes "module") (spelled (r .evaluating))) p
-      → b ≡ written l (line-of (bytes "name") (spelled (r .culprit))) a → q ≡ written l (line-of (bytes "at") (marked-place (r .«in_library») (r .at))) b
-      → q ≡ written l (refusal-text r) p
-  unfolding refusal-text
-  refusal-done r a b e f g = then l _ _ p a q e (then l _ _ a b q f g)
-
-  module _ (r : Answer) (output : List ℕ) (a b : Pen) (first : a ≡ written l (line-of (bytes "answer") (decimal (r .number))) p)
-      (second : b ≡ written l (line-of (bytes "modules") (decimal (r .modules))) a) where
-    pub answer-accepted : r .number ≡ 0 → q ≡ written l (take (r .listing) output) b → q ≡ written l (answer-text r output) p
-    unfolding answer-text pick
-    answer-accepted z g = rw (eq-eqb (r .number) 0 z) (then l _ _ p a q first (then l _ _ a b q second g))
-
-    pub answer-refused : (r .number ≡ 0 → ⊥) → q ≡ written l (refusal-text r) b → q ≡ written l (answer-text r output) p
-    unfolding answer-text pick
-    answer-refused z g = rw (ne-eqb (r .number) 0 z) (then l _ _ p a q first (then l _ _ a b q second g))
 
 -- ---- how long what is printed is
 
@@ -97,24 +55,33 @@ spelled-size n h = omega (arith, h, length-take (n .length) (n .bytes))
 record Sized (r : Answer) : Type 0 where
   pub module-bytes : length (r .evaluating .bytes) ≡ told-size
   pub culprit-bytes : length (r .culprit .bytes) ≡ told-size
+  pub actual-bytes : length (r .actual .bytes) ≡ told-size
+
+actual-size : (k : ℕ) (n : Name) → length (n .bytes) ≡ told-size → length (actual-text k n) ≤ 50
+unfolding actual-text
+actual-size k n h =
+    by-cases (λ (t : List ℕ). length t ≤ 50) _ _ _ (λ e. line-size (bytes "actual") (spelled n) told-size (spelled-size n h)) (λ e. omega arith)
 
 place-size : (b : Bool) (n : ℕ) → length (marked-place b n) ≤ 18
 unfolding marked-place pick
 place-size true n = omega (arith, decimal-size n)
 place-size false n = omega (arith, decimal-size n)
 
-refusal-size : (r : Answer) → Sized r → length (refusal-text r) ≤ 120
+refusal-size : (r : Answer) → Sized r → length (refusal-text r) ≤ 170
 unfolding refusal-text
 refusal-size r h =
     let module-line = line-of (bytes "module") (spelled (r .evaluating)) in
     let name-line = line-of (bytes "name") (spelled (r .culprit)) in
+    let actual-line = actual-text (r .number) (r .actual) in
     let place-line = line-of (bytes "at") (marked-place (r .«in_library») (r .at)) in
     omega (
       arith,
-      length-append module-line (name-line ++ place-line),
-      length-append name-line place-line,
+      length-append module-line (name-line ++ (actual-line ++ place-line)),
+      length-append name-line (actual-line ++ place-line),
+      length-append actual-line place-line,
       line-size (bytes "module") (spelled (r .evaluating)) told-size (spelled-size (r .evaluating) (h .module-bytes)),
       line-size (bytes "name") (spelled (r .culprit)) told-size (spelled-size (r .culprit) (h .culprit-bytes)),
+      actual-size (r .number) (r .actual) (h .actual-bytes),
       line-size (bytes "at") (marked-place (r .«in_library») (r .at)) 18 (place-size (r .«in_library») (r .at)),
     )
 
@@ -124,8 +91,8 @@ answer-size r output h =
     let number-line = line-of (bytes "answer") (decimal (r .number)) in
     let count-line = line-of (bytes "modules") (decimal (r .modules)) in
     let rest = pick (eqb (r .number) 0) (take (r .listing) output) (refusal-text r) in
-    let most : length rest ≤ length output + 120 =
-    by-cases (λ (t : List ℕ). length t ≤ length output + 120) (eqb (r .number) 0) _ _
+    let most : length rest ≤ length output + 170 =
+    by-cases (λ (t : List ℕ). length t ≤ length output + 170) (eqb (r .number) 0) _ _
     (λ e. omega (arith, length-take (r .listing) output)) (λ e. omega (arith, refusal-size r h)) in
     omega (
       arith,
@@ -162,7 +129,7 @@ all-behind : (s : List ℕ) (i : ℕ) → take (length s - i) (drop i s) ≡ dro
 all-behind s i = ap (λ (n : ℕ). take n (drop i s)) (sym (length-drop i s)) ∙ take-length (drop i s)
 
 module _ (asked : List ℕ) (r : Answer) (work work′ : List ℕ) (z : work′ ≡ memory-after work) (size : ℕ) (e : size ≡ memory-size) where
-  pub refused-short : (q : Answer) → length work < size → q ≡ Answers.told (refusal lent-short 0 asked [] 0) → Refused asked r work q work′
+  pub refused-short : (q : Answer) → length work < size → q ≡ Answers.told (refusal lent-short 0 asked (lone []) 0) → Refused asked r work q work′
   unfolding pick
   refused-short q h f = record { answer = rw (lt-ltb (length work) memory-size (rw e at h)) f; memory = z }
 
@@ -179,7 +146,7 @@ module _ (asked work out : List ℕ) (a : Meaning.Answer) (bare : a .lines ≡ [
   pub bare-told : (n r : Answer) (work′ : List ℕ) → n ≡ Answers.told a → Refused asked n work r work′ → r ≡ Answers.told (with-memory (length work) asked a)
   unfolding with-memory
   bare-told n r work′ e q =
-      q .answer ∙ ap (pick (ltb (length work) memory-size) _) e ∙ told-either (ltb (length work) memory-size) (refusal lent-short 0 asked [] 0) a
+      q .answer ∙ ap (pick (ltb (length work) memory-size) _) e ∙ told-either (ltb (length work) memory-size) (refusal lent-short 0 asked (lone []) 0) a
 
 module _ (rest : List ℕ) (g : Framing) (h : Framed rest g) (from to : ℕ) (e : g ≡ Both from to) where
   both-framed : BothFramed rest from to
@@ -241,11 +208,24 @@ module _ (asked rest work out : List ℕ) (r : Answer) (work′ out′ : List �
       by-cases (λ (a : Meaning.Answer). length (output-after a out) ≡ length out) _ _ _ (λ e. refl)
       (λ e. by-cases (λ (a : Meaning.Answer). length (output-after a out) ≡ length out) _ _ _ (λ k. refl) (λ k. same-length work out asked (texts-in rest)))
 
+-- without a first line all names are blank
+blank-size : length (Answers.held (short-or-blank []) .bytes) ≡ told-size
+unfolding Answers.held short-or-blank pick
+blank-size = refl
+
+bare-sized : (memory : ℕ) → Sized (Answers.told (with-memory memory [] (unread false 2 0)))
+unfolding with-memory Answers.told Answers.held refusal unread
+bare-sized memory =
+    by-cases (λ (a : Meaning.Answer). Sized (Answers.told a)) (ltb memory memory-size) (refusal lent-short 0 [] (lone []) 0) (unread false 2 0)
+    (λ e. record { module-bytes = blank-size; culprit-bytes = refl; actual-bytes = refl })
+    (λ e. record { module-bytes = blank-size; culprit-bytes = refl; actual-bytes = refl })
+
 -- ---- the two ways of a response
 
 module _ (input work out page : List ℕ) (e : ℕ) (at-end : e ≡ request-end input) (b : Bool) (told : b ≡ has-request input)
-    (r : Answer) (size : ℕ) (work′ out′ page′ : List ℕ) (m : length (r .evaluating .bytes) ≡ told-size) (w : length (r .culprit .bytes) ≡ told-size) where
-  module _ (passed : b ≡ true) where
+    (r : Answer) (size : ℕ) (work′ out′ page′ : List ℕ) where
+  module _ (passed : b ≡ true) (m : length (r .evaluating .bytes) ≡ told-size) (w : length (r .culprit .bytes) ≡ told-size)
+      (v : length (r .actual .bytes) ≡ told-size) where
     abbrev asked : List ℕ
     asked = take (e - 10) (drop 10 input)
 
@@ -280,7 +260,7 @@ module _ (input work out page : List ℕ) (e : ℕ) (at-end : e ≡ request-end 
         few =
             omega (
               arith,
-              answer-size r out′ (record { module-bytes = m; culprit-bytes = w }),
+              answer-size r out′ (record { module-bytes = m; culprit-bytes = w; actual-bytes = v }),
               ap (λ (x : List ℕ). length x) (c .output),
               behind-kept asked rest work out r work′ out′,
             )
@@ -299,11 +279,14 @@ module _ (input work out page : List ℕ) (e : ℕ) (at-end : e ≡ request-end 
     unfolding asfnorm-with unread
     respond-unasked n f q o p = record {
       printed = p ∙ ap (λ (bs : List ℕ). written (length page + 1) bs (pen 0 page)) text-is;
-      fits = page-holds size (answer-text r []) out page page′ (omega (arith, answer-size r [] (record { module-bytes = m; culprit-bytes = w }))) p;
+      fits = page-holds size (answer-text r []) out page page′ (omega (arith, answer-size r [] sized)) p;
       memory = q .memory;
       output = rw not-answered (o ∙ sym (bare-output [] work out none refl));
     }
       where
+        sized : Sized r
+        sized = subst Sized (sym (bare-told [] work out none refl n r work′ f q)) (bare-sized (length work))
+
         text-is : answer-text r [] ≡ Meaning.printed (answer-to (length work) (length out) input)
         text-is =
             rw (not-answered, bare-told [] work out none refl n r work′ f q)
@@ -311,4 +294,4 @@ module _ (input work out page : List ℕ) (e : ℕ) (at-end : e ≡ request-end 
             ∙ answer-told (with-memory (length work) [] none) (with-short [] (omega arith) (length work) none (omega arith)) [])
 
 -- what the answers of this crate hand to `search`
-pub ruleset cases = (request-start, request-ends, request-ends-within, request-fits, behind-request, refused-short, refused-kept, both-forward, both-within, behind-alone, behind-both, behind-long, line-done, number-done, name-done, place-marked, place-plain, refusal-done, answer-accepted, answer-refused, needs)
+pub ruleset cases = (request-start, request-ends, request-ends-within, request-fits, behind-request, refused-short, refused-kept, both-forward, both-within, behind-alone, behind-both, behind-long, needs)

@@ -9,15 +9,15 @@ use mathlib.Core.List.{List, [], _∷_}
 use lib.Dec.{eqb, leb, ltb}
 use lib.ListN.{length, take, drop, length-take, length-drop}
 use lib.Seq.{take-all, take-nil, take-take}
-use borrow.Author.Tests.{lt-ltb, le-ltb, le-leb, lt-leb, ltb-true, ltb-false, leb-true, leb-false}
+use borrow.Author.Tests.{lt-ltb, le-leb, lt-leb, leb-true, leb-false}
 use Rattle.meaning.specs.Lists.{pick}
 use Rattle.meaning.specs.Names.{Name, slice, same}
 use Rattle.meaning.specs.Numbers.{text-size, name-size, over-size, memory-size, program-output, module-limit}
 use Rattle.meaning.specs.Tokens.{run, run-end}
 use Rattle.meaning.specs.Syntax.{Module}
 use Rattle.meaning.specs.Grammar.{Result, done, refused, read}
-use Rattle.meaning.specs.Texts.{Texts, two-texts, Reading, refused-in, behind, read-behind, library-first, read-texts}
-use Rattle.meaning.specs.Answer.{Answer, answer, within, of-read, in-line, request, request-end, has-request, library-request, library-request-end, library-written, library-length, has-library-line, library-too-long, texts-in, answer-to, printed, asfnorm}
+use Rattle.meaning.specs.Texts.{two-texts, behind, read-behind, library-first, read-texts}
+use Rattle.meaning.specs.Answer.{answer, in-line, request, request-end, has-request, library-request, library-request-end, library-written, library-length, has-library-line, library-too-long, texts-in, answer-to, printed, asfnorm}
 use Rattle.responding.specs.Program.{answer-behind, asfnorm-with, as-lent}
 
 -- the longest first line, the longest line of a library, the longest library, and a text that is one byte too long

@@ -14,8 +14,8 @@ use Rattle.meaning.specs.Written.{decimal}
 use Rattle.meaning.specs.Listing.{Line, line, line-text, lines-text}
 use Rattle.meaning.specs.Reached.{short-or-blank}
 use Rattle.meaning.specs.Answer as Meaning
-use Rattle.asf.specs.Answers.{held, told}
-use Rattle.responding.specs.Program.{line-of, spelled, marked-place, refusal-text, answer-text}
+use Rattle.answers.specs.Answers.{held, told}
+use Rattle.answer_lines.specs.Lines.{line-of, spelled, actual-text, marked-place, refusal-text, answer-text}
 use Rattle.responding.specs.Short.{Short}
 
 -- a name that is held is spelled as it was
@@ -27,19 +27,23 @@ spelled-short : (n : Names.Name) → Short n → spelled (held (short-or-blank n
 unfolding short-or-blank pick
 spelled-short n h = rw (le-leb (length n) name-size h) (spelled-held n)
 
-three-lines : (x y z : Line) → line-text x ++ (line-text y ++ line-text z) ≡ lines-text (x ∷ y ∷ z ∷ [])
-unfolding lines-text each
-three-lines x y z = ap (λ (t : List ℕ). line-text x ++ (line-text y ++ t)) (sym (append-nil (line-text z)))
+-- with the line z, or without
+lines-told : (b : Bool) (x y z u : Line)
+    → line-text x ++ (line-text y ++ (pick b (line-text z) [] ++ line-text u)) ≡ lines-text ((x ∷ y ∷ pick b (z ∷ []) []) ++ (u ∷ []))
+unfolding lines-text each pick
+lines-told true x y z u = ap (λ (t : List ℕ). line-text x ++ (line-text y ++ (line-text z ++ t))) (sym (append-nil (line-text u)))
+lines-told false x y z u = ap (λ (t : List ℕ). line-text x ++ (line-text y ++ t)) (sym (append-nil (line-text u)))
 
 module _ (a : Meaning.Answer) (short : Short (a .evaluating)) where
   abbrev refused-lines : List Line
-  refused-lines = line "module" (a .evaluating) ∷ line "name" (a .culprit) ∷ line "at" (Meaning.place-text a) ∷ []
+  refused-lines = Meaning.names-told a ++ (line "at" (Meaning.place-text a) ∷ [])
 
   refusal-told : refusal-text (told a) ≡ lines-text refused-lines
-  unfolding refusal-text told line-of marked-place Meaning.place-text lines-text line-text each
+  unfolding refusal-text told line-of actual-text marked-place Meaning.names-told Meaning.place-text lines-text line-text each
   refusal-told =
-      rw (spelled-short (a .evaluating) short, spelled-held (a .culprit))
-      (three-lines (line "module" (a .evaluating)) (line "name" (a .culprit)) (line "at" (Meaning.place-text a)))
+      rw (spelled-short (a .evaluating) short, spelled-held (a .culprit .name), spelled-held (a .culprit .actual))
+      (lines-told (Meaning.tells-actual (a .number)) (line "module" (a .evaluating)) (line "name" (a .culprit .name)) (line "actual" (a .culprit .actual))
+      (line "at" (Meaning.place-text a)))
 
   -- what follows the number and the count
   rest-told : (output : List ℕ) (b : Bool)

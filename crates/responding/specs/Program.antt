@@ -1,20 +1,20 @@
 -- What the program prints (meaning/specs/Answer.antt), whatever working memory and output are lent; and the same of an answer as the code has it.
 use mathlib.Core.Path.{_≡_, refl, sym, _∙_}
 use Prim.Native.Nat.{ℕ, _+_, _≤_}
-use mathlib.Core.Bool.{Bool, true}
-use mathlib.Core.List.{List, [], _++_}
-use lib.Dec.{eqb, ltb}
-use lib.ListN.{length, take}
+use mathlib.Core.Bool.{true}
+use mathlib.Core.List.{List, []}
+use lib.Dec.{ltb}
+use lib.ListN.{length}
 use Rattle.meaning.specs.Lists.{pick}
 use Rattle.meaning.specs.Names as Names
 use Rattle.meaning.specs.Names.{bytes}
-use Rattle.meaning.specs.Numbers.{text-size, memory-size, program-output, accepted, over-size, lent-short}
-use Rattle.meaning.specs.Written.{decimal}
+use Rattle.meaning.specs.Numbers.{text-size, memory-size, program-output, over-size, lent-short}
+use Rattle.meaning.specs.Checks.{lone}
 use Rattle.meaning.specs.Answer as Meaning
 use Rattle.pen.specs.Pen.{pen, written}
-use Rattle.asf.specs.declared.answers.Name.{Name}
-use Rattle.asf.specs.declared.answers.Answer.{Answer}
-use Rattle.asf.specs.Answers.{told}
+use Rattle.answers.specs.declared.Name.{Name}
+use Rattle.answers.specs.declared.Answer.{Answer}
+use Rattle.answers.specs.Answers.{told}
 
 unfoldable pub asfnorm-with : (memory-lent output-lent : ℕ) → List ℕ → List ℕ
 asfnorm-with memory-lent output-lent input = Meaning.printed (Meaning.answer-to memory-lent output-lent input)
@@ -27,7 +27,7 @@ as-lent input = refl
 -- how many bytes more than the output a page must have to hold whatever is printed: the longest refusal, which is longer than the two lines
 -- before a listing
 abbrev pub page-room : ℕ
-page-room = 157
+page-room = 207
 
 -- what a call leaves behind: at the front of the page what is printed, and its length, which is one more than the page's where that is too
 -- short; the working memory zero and the output as a call leaves it, without the first line too
@@ -47,7 +47,7 @@ respond-coincide input work out page m n w o p w′ o′ p′ h g =
 
 -- before all else the working memory may be too short
 unfoldable pub with-memory : ℕ → Names.Name → Meaning.Answer → Meaning.Answer
-with-memory memory-lent asked r = pick (ltb memory-lent memory-size) (Meaning.refusal lent-short 0 asked [] 0) r
+with-memory memory-lent asked r = pick (ltb memory-lent memory-size) (Meaning.refusal lent-short 0 asked (lone []) 0) r
 
 -- the answer for the asked module, where this is behind the first line
 unfoldable pub answer-behind : (memory-lent output-lent : ℕ) → Names.Name → List ℕ → Meaning.Answer
@@ -62,26 +62,5 @@ pub record Behind (asked rest work out : List ℕ) (r : Answer) (work′ out′ 
 
 -- an answer that is refused in any case
 pub record Refused (asked : List ℕ) (r : Answer) (work : List ℕ) (q : Answer) (work′ : List ℕ) : Type 0 where
-  pub answer : q ≡ pick (ltb (length work) memory-size) (told (Meaning.refusal lent-short 0 asked [] 0)) r
+  pub answer : q ≡ pick (ltb (length work) memory-size) (told (Meaning.refusal lent-short 0 asked (lone []) 0)) r
   pub memory : work′ ≡ Meaning.memory-after work
-
--- ---- an answer as the code has it
-
-unfoldable pub line-of : List ℕ → List ℕ → List ℕ
-line-of key value = key ++ (bytes "=" ++ (value ++ bytes "\n"))
-
-unfoldable pub spelled : Name → List ℕ
-spelled n = take (n .length) (n .bytes)
-
-unfoldable pub marked-place : Bool → ℕ → List ℕ
-marked-place in-library place = pick in-library (bytes "library:") [] ++ decimal place
-
-unfoldable pub refusal-text : Answer → List ℕ
-refusal-text r =
-    line-of (bytes "module") (spelled (r .evaluating))
-    ++ (line-of (bytes "name") (spelled (r .culprit)) ++ line-of (bytes "at") (marked-place (r .«in_library») (r .at)))
-
-unfoldable pub answer-text : Answer → List ℕ → List ℕ
-answer-text r output =
-    let rest = pick (eqb (r .number) accepted) (take (r .listing) output) (refusal-text r) in
-    line-of (bytes "answer") (decimal (r .number)) ++ (line-of (bytes "modules") (decimal (r .modules)) ++ rest)

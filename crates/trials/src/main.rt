@@ -164,7 +164,7 @@ fn run(cases: &[u8], work: &mut [u32], out: &mut [u8], page: &mut [u8]) {
 
 fn run_with(cases: &[u8], work: &mut [u32; 1048576]) {
     let mut out = [0; 65536];
-    let mut page = [0; 65693];
+    let mut page = [0; 65743];
     run(cases, work, &mut out, &mut page);
 }
 

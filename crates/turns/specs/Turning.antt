@@ -11,13 +11,16 @@ use Rattle.meaning.specs.Numbers.{module-limit}
 use Rattle.meaning.specs.OrderLaws.{same-self}
 use Rattle.meaning.specs.Syntax.{Module}
 use Rattle.meaning.specs.Normal.{Normal}
+use Rattle.meaning.specs.Checks as Meaning
 use Rattle.meaning.specs.Checks.{fine, stop}
 use Rattle.meaning.specs.Evaluate.{Evaluated, normal-of, evaluate}
 use Rattle.meaning.specs.Reached.{Placed, refused-at, end-or, in-turn, total-of, module-names}
 use Rattle.names.specs.Word.{name-of}
 use Rattle.tables.specs.Entries.{word-at}
+use Rattle.forms.specs.declared.Culprit.{Culprit}
 use Rattle.forms.specs.Memory.{part}
 use Rattle.forms.specs.Forms.{Stands}
+use Rattle.forms.specs.Verdicts.{culprit-of}
 use Rattle.module_set.specs.ModuleSet.{holds}
 use Rattle.modules.specs.declared.Heads.{Heads}
 use Rattle.modules.specs.ModuleLaws.{heads-number}
@@ -50,7 +53,7 @@ module _ (set k : ℕ) (earlier : List Name) (ms ys : List Module) (m : Module) 
   chosen-not c = rw (e, c, drop-later k ms ys m e)
 
 module _ (ds : List Name) (env : List Evaluated) (n : Normal) (x : Placed) (xs : List Placed) where
-  turn-stop : (j : ℕ) (y : Name) → evaluate ds (x .earlier) (x .number) (total-of env) env (x .self) ≡ stop j y
+  turn-stop : (j : ℕ) (y : Meaning.Culprit) → evaluate ds (x .earlier) (x .number) (total-of env) env (x .self) ≡ stop j y
       → in-turn ds env n (x ∷ xs) ≡ refused-at j (length env + 1) (x .self .name) y
   unfolding in-turn end-or
   turn-stop j y e = rw e
@@ -153,7 +156,7 @@ module _ (text : List ℕ) (t : ℕ) (w : List ℕ) (h : Heads) (k : ℕ) (s : S
         (stepping .meant ms env (m .self) (m .later) earlier sofar (m .here) before-it)
 
     -- module k is in the set, and refused
-    pub turn-refused : (set count : ℕ) (b : Bool) (name number culprit : ℕ) → b ≡ holds set k → b ≡ true
+    pub turn-refused : (set count : ℕ) (b : Bool) (name number : ℕ) (culprit : Culprit) → b ≡ holds set k → b ≡ true
         → name ≡ word-at (part w 0 t) (getD (h .places) k 0) → step ≡ StepRefused number culprit
         → Turned text t w h set k count s (Refused number (count + 1) name culprit) w₁
     turn-refused set count b name number culprit e f q g = record {
@@ -163,7 +166,7 @@ module _ (text : List ℕ) (t : ℕ) (w : List ℕ) (h : Heads) (k : ℕ) (s : S
           let end = Refused number (count + 1) name culprit in
           subst (λ (xs : List Placed). EndsAs text t w₁ end (in-turn (module-names ms) env n xs))
           (sym (chosen-here set k earlier ms (m .later) (m .self) (m .here) (sym e ∙ f)))
-          (subst (EndsAs text t w₁ end) (sym (turn-stop (module-names ms) env n _ _ number (name-of text culprit) stop-so))
+          (subst (EndsAs text t w₁ end) (sym (turn-stop (module-names ms) env n _ _ number (culprit-of text culprit) stop-so))
           (record {
             number-so = refl;
             count-so = ap (λ (i : ℕ). i + 1) (sym size);
@@ -276,7 +279,7 @@ module _ (text : List ℕ) (t : ℕ) (w₀ : List ℕ) (h : Heads) (set asked : 
       }
 
       module _ (f : b ≡ true) (step : Stepped) (w₁ : List ℕ) (stepping : Stepping text t w h k s step w₁) where
-        pub going-refused : (name number culprit : ℕ) → name ≡ word-at (part w 0 t) (getD (h .places) k 0) → step ≡ StepRefused number culprit
+        pub going-refused : (name number : ℕ) (culprit : Culprit) → name ≡ word-at (part w 0 t) (getD (h .places) k 0) → step ≡ StepRefused number culprit
             → Turned text t w₀ h set 0 0 first (Refused number (count + 1) name culprit) w₁
         going-refused name number culprit q g =
             v .goes-on (Refused number (count + 1) name culprit) w₁
@@ -295,7 +298,7 @@ module _ (text : List ℕ) (t : ℕ) (w₀ : List ℕ) (h : Heads) (set asked : 
 
 module _ (text : List ℕ) (t : ℕ) (w : List ℕ) (h : Heads) (k count : ℕ) (s : State) (c : k < h .count) (step : Stepped) (w₁ : List ℕ)
     (stepping : Stepping text t w h k s step w₁) where
-  pub asked-refused : (name number culprit : ℕ) → name ≡ word-at (part w 0 t) (getD (h .places) k 0) → step ≡ StepRefused number culprit
+  pub asked-refused : (name number : ℕ) (culprit : Culprit) → name ≡ word-at (part w 0 t) (getD (h .places) k 0) → step ≡ StepRefused number culprit
       → AskedTurned text t w h k count s (Refused number (count + 1) name culprit) w₁
   asked-refused name number culprit q g = record {
     turned = λ set a. turn-refused text t w h k s c step w₁ stepping set count true name number culprit (sym (a .in-it)) refl q g;

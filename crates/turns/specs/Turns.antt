@@ -8,13 +8,16 @@ use Rattle.meaning.specs.Names.{Name, same}
 use Rattle.meaning.specs.Numbers.{module-limit, memory-size}
 use Rattle.meaning.specs.Syntax.{Module}
 use Rattle.meaning.specs.Normal.{Normal, empty}
+use Rattle.meaning.specs.Checks as Meaning
 use Rattle.meaning.specs.Evaluate.{Evaluated}
 use Rattle.meaning.specs.Reached as Reached
 use Rattle.meaning.specs.Reached.{in-turn, reached, module-names}
 use Rattle.names.specs.Word.{name-of}
+use Rattle.forms.specs.declared.Culprit.{Culprit}
 use Rattle.forms.specs.Memory.{part}
 use Rattle.forms.specs.Forms.{Stands}
 use Rattle.forms.specs.Blocks.{Fits}
+use Rattle.forms.specs.Verdicts.{culprit-of}
 use Rattle.layout.specs.Layout.{tape-end}
 use Rattle.module_set.specs.ModuleSet.{holds}
 use Rattle.modules.specs.declared.Heads.{Heads}
@@ -37,18 +40,18 @@ pub record ListedAs (text : List ℕ) (t : ℕ) (w : List ℕ) (count last : ℕ
   pub count-so : count ≡ counted
   pub last-so : LastStands text t w last n
 
-pub record RefusedAs (text : List ℕ) (number count m culprit : ℕ) (told counted : ℕ) (evaluating name : Name) : Type 0 where
+pub record RefusedAs (text : List ℕ) (number count m : ℕ) (culprit : Culprit) (told counted : ℕ) (evaluating : Name) (meant : Meaning.Culprit) : Type 0 where
   pub number-so : number ≡ told
   pub count-so : count ≡ counted
   pub module-so : name-of text m ≡ evaluating
-  pub culprit-so : name-of text culprit ≡ name
+  pub culprit-so : culprit-of text culprit ≡ meant
 
 abbrev pub EndsAs : List ℕ → ℕ → List ℕ → Ended → Reached.Ended → Type 0
 EndsAs text t w (Normalised count last) (Reached.normalised counted n) = ListedAs text t w count last counted n
-EndsAs text t w (Normalised count last) (Reached.refused-at told counted evaluating name) = ⊥
+EndsAs text t w (Normalised count last) (Reached.refused-at told counted evaluating meant) = ⊥
 EndsAs text t w (Refused number count m culprit) (Reached.normalised counted n) = ⊥
-EndsAs text t w (Refused number count m culprit) (Reached.refused-at told counted evaluating name) =
-    RefusedAs text number count m culprit told counted evaluating name
+EndsAs text t w (Refused number count m culprit) (Reached.refused-at told counted evaluating meant) =
+    RefusedAs text number count m culprit told counted evaluating meant
 
 -- there are such modules, and names of those before module k
 pub record Resumed (text : List ℕ) (t : ℕ) (w : List ℕ) (h : Heads) (k : ℕ) (s : State) : Type 0 where

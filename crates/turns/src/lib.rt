@@ -15,8 +15,8 @@ ghost use Rattle.names.specs.Joint.{joint};
 ghost use Rattle.turns.specs.Asked.{Asked};
 ghost use Rattle.turns.specs.Turns.{Resumed, Given, Turned, AskedTurned, AllTurned};
 
-// How a call ends: each normal form is kept, that of the latest module for number `last`; or the refusal's number with the word of the module evaluated then and the culprit.
-// `count` modules were evaluated, the refused one included.
+// How a call ends: each normal form is kept, that of the latest module for number `last`; or the refusal's number with the word of the module
+// evaluated then and the culprit. `count` modules were evaluated, the refused one included.
 pub enum Ended {
     Normalised {
         count: u32,

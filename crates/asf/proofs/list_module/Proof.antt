@@ -1,5 +1,6 @@
 -- `asf::list_module` meets its contract. Assumes nothing.
 use Rattle.asf.proofs.Cases.{cases}
+use Rattle.asf.specs.Meant.{listed-answered}
 use borrow.Author.Needs.{needs}
 use Rattle.asf.proofs.list_module.Statement.{statement}
 use Rattle.asf.proofs.list_module.Tie as tie
@@ -16,7 +17,10 @@ list-module-spec =
     (λ c. search needs)  -- enum-told
     (λ c κs. search needs)  -- lent-short-requires
     (λ c. search needs)  -- same-length
-    (λ c. search cases)  -- returns
+    (λ c.
+    let read = c .before .before .before .before .before .before .before .before in
+    let first = read .before .before .before .before .before .before .before in
+    search (listed-answered, read .read-form .ensures, read .before .table-start .ensures, first .pre, needs))  -- returns
     (λ c. search needs)  -- same-length-2
     (λ c. search cases)  -- returns-2
     )

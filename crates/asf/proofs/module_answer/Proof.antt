@@ -1,5 +1,5 @@
 -- `asf::module_answer` meets its contract. Assumes nothing.
-use Rattle.asf.specs.Meant.{form-evaluated}
+use Rattle.asf.specs.Meant.{refused-answered, form-evaluated}
 use Rattle.asf.proofs.Cases.{cases}
 use borrow.Author.Needs.{needs}
 use Rattle.asf.proofs.module_answer.Statement.{statement}
@@ -19,7 +19,10 @@ module-answer-spec =
     (λ c. search needs)  -- enum-known-count
     (λ c κs. search (form-evaluated, c .before .before .before .count .given .1, c .before .before .before .before .before .before .before .evaluate-reached .ensures, c .before .before .before .before .before .before .before .before .before .name-of-module .ensures, c .before .before .before .before .before .before .before .before .before .before .before .before .before .before .before .before .before .pre, needs))  -- list-module-requires
     (λ c. search needs)  -- same-length
-    (λ c. search cases)  -- returns
+    (λ c.
+    let evaluated = c .before .before .before .before .before .before in
+    let first = evaluated .before .before .before .before .before .before .before .before .before .before in
+    search (refused-answered, evaluated .evaluate-reached .ensures, first .pre, needs))  -- returns
     (λ c. search needs)  -- same-length-2
     (λ c. search needs)  -- same-length-3
     (λ c. search needs)  -- returns-2

@@ -24,7 +24,7 @@ respond-spec =
     (λ c. search cases)  -- same-length
     (λ c. search cases)  -- same-length-2
     (λ c. search cases)  -- same-length-3
-    (λ c. search (respond-asked, needs))  -- returns
+    (λ c. search (respond-asked, c .before .before .put-answer .ensures, c .before .before .before .before .before .before .before .before .before .answer-behind, c .before .before .before .before .before .before .before .before .before .answer-behind .ensures, c .before .before .before .before .before .before .before .before .before .before .before .before .before .before .if1 .taken, c .before .before .before .before .before .before .before .before .before .before .before .before .before .before .before .has-request .ensures, c .before .before .before .before .before .before .before .before .before .before .before .before .before .before .before .before .line-end .ensures, needs))  -- returns
     (λ c κs. search cases)  -- unread-requires
     (λ c. search cases)  -- slice-aggregate-refuse
     (λ c κs. search cases)  -- refuse-requires
@@ -32,5 +32,5 @@ respond-spec =
     (λ c κs. search cases)  -- put-answer-requires-2
     (λ c. search cases)  -- same-length-4
     (λ c. search cases)  -- same-length-5
-    (λ c. search (respond-unasked, c .before .before .put-answer2 .ensures, c .before .before .before .before .before .before .before .refuse, c .before .before .before .before .before .before .before .refuse .ensures, c .before .before .before .before .before .before .before .before .before .before .unread .ensures, c .before .before .before .before .before .before .before .before .before .before .before .if1 .left, c .before .before .before .before .before .before .before .before .before .before .before .before .has-request .ensures, c .before .before .before .before .before .before .before .before .before .before .before .before .before .line-end .ensures, needs))  -- returns-2
+    (λ c. search (respond-unasked, c .before .before .put-answer2 .ensures, c .before .before .before .before .before .before .before .refuse .ensures, c .before .before .before .before .before .before .before .before .before .before .unread .ensures, c .before .before .before .before .before .before .before .before .before .before .before .if1 .left, c .before .before .before .before .before .before .before .before .before .before .before .before .has-request .ensures, c .before .before .before .before .before .before .before .before .before .before .before .before .before .line-end .ensures, needs))  -- returns-2
     )

@@ -1,0 +1,11 @@
+-- `answers::blank` meets its contract. Assumes nothing.
+use Rattle.answers.proofs.Cases.{cases}
+use Rattle.answers.proofs.blank.Statement.{statement}
+use Rattle.answers.proofs.blank.Tie as tie
+
+pub blank-spec : {M : Type 1} → statement M
+blank-spec =
+    tie.close
+    (tie.spec
+    (λ c. search cases)  -- returns
+    )
