@@ -23,21 +23,23 @@ extern "C" {
 
 /* Where asf_normalise puts what in `values`, and how many values there are. */
 enum {
-    ASF_NUMBER,         /* the answer, as returned: 0 done, 1 to 19 refused */
+    ASF_NUMBER,         /* the answer, as returned: 0 done, 1 to 15, 17 to 19 and 22 to 27 refused */
     ASF_MODULES,        /* how many modules were evaluated, a refused one included */
     ASF_AT,             /* for 1 to 5 the place in the text or, where ASF_IN_LIBRARY is 1, in the library, in bytes from 0 */
     ASF_MODULE_LENGTH,  /* bytes of the name of the module that was evaluated when refused; for 6 and 19 the asked one, blank (0) if it has
                            more than 40 bytes */
-    ASF_CULPRIT_LENGTH, /* bytes of the culprit's name */
+    ASF_CULPRIT_LENGTH, /* bytes of the culprit's name, for 22 to 27 a formal name */
     ASF_LISTING_LENGTH, /* bytes of the listing, at the front of the output */
     ASF_IN_LIBRARY,     /* 1 where ASF_AT is a place in the library, else 0 */
+    ASF_ACTUAL_LENGTH,  /* for 22 to 26 bytes of the actual name that the culprit is paired with; else 0 */
     ASF_VALUES
 };
 
-/* Where asf_normalise puts the two names in `names`, zeros behind each, and how many bytes there are. */
+/* Where asf_normalise puts the three names in `names`, zeros behind each, and how many bytes there are. */
 #define ASF_MODULE_NAME 0
 #define ASF_CULPRIT_NAME ASF_NAME_BYTES
-#define ASF_NAMES (2 * ASF_NAME_BYTES)
+#define ASF_ACTUAL_NAME (2 * ASF_NAME_BYTES)
+#define ASF_NAMES (3 * ASF_NAME_BYTES)
 
 /* Where asf_line puts what in `values`, and how many values there are. */
 enum {

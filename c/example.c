@@ -19,10 +19,16 @@ static int read_library(const char *path, size_t *length) {
     return 1;
 }
 
+static void print_name(const char *what, const uint8_t *name, size_t length) {
+    printf("%s %.*s", what, (int)length, (const char *)name);
+}
+
 static void print_refusal(const size_t *values, const uint8_t *names) {
-    printf("refused by %zu, after %zu modules: module %.*s, name %.*s, at byte %zu%s\n", values[ASF_NUMBER], values[ASF_MODULES],
-           (int)values[ASF_MODULE_LENGTH], (const char *)names + ASF_MODULE_NAME, (int)values[ASF_CULPRIT_LENGTH],
-           (const char *)names + ASF_CULPRIT_NAME, values[ASF_AT], values[ASF_IN_LIBRARY] ? " of the library" : "");
+    printf("refused by %zu, after %zu modules:", values[ASF_NUMBER], values[ASF_MODULES]);
+    print_name(" module", names + ASF_MODULE_NAME, values[ASF_MODULE_LENGTH]);
+    print_name(", name", names + ASF_CULPRIT_NAME, values[ASF_CULPRIT_LENGTH]);
+    if (values[ASF_ACTUAL_LENGTH] > 0) print_name(", actual", names + ASF_ACTUAL_NAME, values[ASF_ACTUAL_LENGTH]);
+    printf(", at byte %zu%s\n", values[ASF_AT], values[ASF_IN_LIBRARY] ? " of the library" : "");
 }
 
 static void print_visible(size_t listing_length) {

@@ -24,6 +24,9 @@ refusal=$("${RUN[@]}" build/example M3 <build/L.asf) && exit 1
 printf 'module M1' >build/broken.asf
 refusal=$("${RUN[@]}" build/example M2 build/broken.asf <build/customer.asf) && exit 1
 [ "$refusal" = "refused by 2, after 0 modules: module , name , at byte 9 of the library" ]
+tail -n +2 rust/reference/vectors/five/b-five-01.in >build/bound.asf
+refusal=$("${RUN[@]}" build/example M <build/bound.asf) && exit 1
+[ "$refusal" = "refused by 22, after 3 modules: module M, name Z, actual A, at byte 0" ]
 echo "the example in C ran"
 rust test --quiet
 rust run --quiet --example normalise -- M2 <build/L.asf | diff c/example.out -

@@ -159,6 +159,30 @@ def shared(count):
 tried('parameters-8', shared(8), 0)
 tried('parameters-9', shared(9), 18)
 
+# ---- mistakes in a binding: names as long as they may be, the last pair that there may be, formals of the library
+
+
+def bound(last, formals, pairs):
+    """a module that binds these formals, and the sort X, by the pairs"""
+    return ('normalise=%s\nmodule N begin parameters P begin sorts X functions %s end P end N\n'
+            'module O begin exports begin sorts A functions a : -> A end end O\n'
+            'module %s begin imports N { P bound by [ %s ] to O } end %s\n') % (last, formals, last, ', '.join(pairs), last)
+
+
+def in_library(given):
+    """the input with its first module in the library"""
+    return divided(given, given.index('module O') - given.index('module N'))
+
+
+longest = tuple('_%s_' % (symbol * 40) for symbol in '+*')
+tried('mistake-names-long', bound('M' * 40, '%s : X#X -> X' % longest[0], ['X -> A', '%s -> %s' % longest]), 24)
+constants = ' '.join('c%d : -> X' % i for i in range(31))
+pairs = ['X -> A'] + ['c%d -> a' % i for i in range(31)]
+tried('mistake-none-in-32', bound('M', constants, pairs), 0)
+tried('mistake-in-pair-32', bound('M', constants, pairs[:-1] + ['c30 -> A']), 25)
+tried('mistake-divided', in_library(bound('M', 'f : X -> X', ['X -> A', 'f -> a'])), 26)
+tried('unpaired-divided', in_library(bound('M', 'c10 : -> X c9 : -> X', ['X -> A'])), 27)
+
 # ---- the listing's size: all that the program lends, and one byte more. An equation's tag makes it longer byte by byte
 
 

@@ -77,10 +77,10 @@ impl Memory {
         asked: &[u8],
         specification: impl Into<Specification<'t>>,
     ) -> Result<Listing, Refusal> {
-        let mut values = [0; 7];
-        let mut names = [0; 2 * NAME_BYTES];
+        let mut values = [0; 8];
+        let mut names = [0; 3 * NAME_BYTES];
         let number = self.call(asked, specification.into(), &mut values, &mut names);
-        let [_, modules, at, module, name, listing, in_library] = values;
+        let [_, modules, at, module, name, listing, in_library, actual] = values;
         if number == 0 {
             return Ok(Listing {
                 bytes: self.out[..listing].to_vec(),
@@ -96,6 +96,7 @@ impl Memory {
                 _ => names[..module].to_vec(),
             },
             name: names[NAME_BYTES..][..name].to_vec(),
+            actual: names[2 * NAME_BYTES..][..actual].to_vec(),
             at,
             in_library: in_library != 0,
         })

@@ -3,20 +3,21 @@
 use std::error::Error;
 use std::fmt;
 
-/// The number, how many modules were evaluated (the refused one included), the module evaluated when refused, the culprit's name, and for
-/// 1 to 5 its place in the text or in the library. What a number does not tell is blank or 0.
+/// The number, how many modules were evaluated (the refused one included), the module evaluated when refused, the culprit's name, for 22 to 26
+/// the actual name that it is paired with, and for 1 to 5 its place in the text or in the library. What a number does not tell is blank or 0.
 #[derive(Clone, Debug, PartialEq, Eq)]
 pub struct Refusal {
     pub(crate) number: u32,
     pub(crate) modules: u32,
     pub(crate) module: Vec<u8>,
     pub(crate) name: Vec<u8>,
+    pub(crate) actual: Vec<u8>,
     pub(crate) at: usize,
     pub(crate) in_library: bool,
 }
 
 impl Refusal {
-    /// 1 to 19.
+    /// 1 to 15, 17 to 19, or 22 to 27.
     pub fn number(&self) -> u32 {
         self.number
     }
@@ -31,9 +32,14 @@ impl Refusal {
         &self.module
     }
 
-    /// The culprit's name.
+    /// The culprit's name; for 22 to 27 a formal name of the parameter that is bound, or what a pair has for one.
     pub fn name(&self) -> &[u8] {
         &self.name
+    }
+
+    /// For 22 to 26 the actual name in the pair that is wrong.
+    pub fn actual(&self) -> &[u8] {
+        &self.actual
     }
 
     /// The culprit's place in the text or in the library, in bytes from 0; 0 from 6 up.
@@ -65,10 +71,15 @@ fn text(number: u32) -> &'static str {
         13 => "this sort is not there",
         14 => "nothing to rename",
         15 => "no such parameter, or one too many",
-        16 => "what is bound does not fit",
         17 => "an equation makes no sense",
         18 => "the normal form is too large",
         19 => "the listing does not fit",
+        22 => "the parameter has no such name",
+        23 => "this name is paired twice",
+        24 => "the actual name is not shown",
+        25 => "a sort and a function are paired",
+        26 => "the types do not agree",
+        27 => "this name has no pair",
         _ => "no such number",
     }
 }
@@ -84,11 +95,15 @@ impl fmt::Display for Refusal {
             };
             return write!(f, ", at byte {}{}", self.at, of);
         }
-        if !self.module.is_empty() {
-            write!(f, ", module {}", String::from_utf8_lossy(&self.module))?;
-        }
-        if !self.name.is_empty() {
-            write!(f, ", name {}", String::from_utf8_lossy(&self.name))?;
+        let names = [
+            ("module", &self.module),
+            ("name", &self.name),
+            ("actual", &self.actual),
+        ];
+        for (what, name) in names {
+            if !name.is_empty() {
+                write!(f, ", {} {}", what, String::from_utf8_lossy(name))?;
+            }
         }
         Ok(())
     }

@@ -121,6 +121,56 @@ module N begin imports M { renamed by [_+_ -> -_] } end N
     assert_eq!(refusal.name().len(), NAME_BYTES);
 }
 
+/// Bits, Lists over a parameter, and a module that binds it by these pairs.
+fn bound(pairs: &str) -> String {
+    let bits = "module Bits begin exports begin sorts Bit functions zero : -> Bit not : Bit -> Bit end end Bits";
+    let lists = "module Lists begin parameters Item begin sorts Elem functions none : -> Elem end Item end Lists";
+    let top = format!(
+        "module M begin imports Lists {{ Item bound by [ {} ] to Bits }} end M",
+        pairs
+    );
+    [bits, lists, &top].join("\n")
+}
+
+/// A binding's mistakes are told by both names of the pair; where there is no pair, by the formal one.
+#[test]
+fn mistakes_in_a_binding() {
+    assert!(normalise(b"M", &bound("Elem -> Bit, none -> zero")).is_ok());
+    let mistakes = [
+        ("Item -> Bit", 22, "Item", "Bit"),
+        ("Elem -> Bit, Elem -> zero", 23, "Elem", "zero"),
+        ("Elem -> Bits", 24, "Elem", "Bits"),
+        ("Elem -> zero", 25, "Elem", "zero"),
+        ("Elem -> Bit, none -> not", 26, "none", "not"),
+        ("Elem -> Bit", 27, "none", ""),
+    ];
+    for (pairs, number, name, actual) in mistakes {
+        let refusal = refused(b"M", &bound(pairs));
+        assert_eq!((refusal.number(), refusal.modules()), (number, 3));
+        assert_eq!(refusal.module(), b"M");
+        assert_eq!(refusal.name(), name.as_bytes());
+        assert_eq!(refusal.actual(), actual.as_bytes());
+    }
+    let one_name = refused(b"M4", &bound("Elem -> Bit"));
+    assert_eq!((one_name.number(), one_name.actual()), (6, &b""[..]));
+}
+
+/// Both names may have 42 bytes.
+#[test]
+fn long_names_in_a_binding() {
+    let [formal, actual] = ["+", "-"].map(|symbol| format!("_{}_", symbol.repeat(TOKEN_BYTES)));
+    let text = format!(
+        "module N begin exports begin sorts A end end N
+module O begin parameters P begin sorts C functions {}: C#C -> C end P end O
+module M begin imports O {{ P bound by [C -> A, {} ->{}] to N }} end M",
+        formal, formal, actual
+    );
+    let refusal = refused(b"M", &text);
+    assert_eq!(refusal.number(), 24);
+    assert_eq!(refusal.name(), formal.as_bytes());
+    assert_eq!(refusal.actual(), actual.as_bytes());
+}
+
 #[test]
 fn a_library_before_the_text() {
     let listing = normalise(b"M2", divided()).expect("a listing");
@@ -185,6 +235,13 @@ fn their_texts() {
         in_library,
         "2: this may not stand here, at byte 8 of the library"
     );
+    let lacking = refused(b"M", &bound("List -> Bit")).to_string();
+    assert_eq!(
+        lacking,
+        "22: the parameter has no such name, module M, name List, actual Bit"
+    );
+    let unpaired = refused(b"M", &bound("Elem -> Bit")).to_string();
+    assert_eq!(unpaired, "27: this name has no pair, module M, name none");
     let bad = lines(b"module").next().expect("a line or none");
     assert_eq!(
         bad.expect_err("no line").to_string(),
@@ -245,11 +302,15 @@ fn printed(memory: &mut Memory, input: &[u8]) -> Option<Vec<u8>> {
             out
         }
         Err(refusal) => format!(
-            "answer={}\nmodules={}\nmodule={}\nname={}\nat={}{}\n",
+            "answer={}\nmodules={}\nmodule={}\nname={}\n{}at={}{}\n",
             refusal.number(),
             refusal.modules(),
             String::from_utf8_lossy(refusal.module()),
             String::from_utf8_lossy(refusal.name()),
+            match refusal.number() {
+                22..=27 => format!("actual={}\n", String::from_utf8_lossy(refusal.actual())),
+                _ => String::new(),
+            },
             if refusal.in_library() { "library:" } else { "" },
             refusal.at()
         )
@@ -270,7 +331,9 @@ fn the_vectors() {
     let vectors = Path::new(env!("CARGO_MANIFEST_DIR")).join("../reference/vectors");
     let mut memory = Memory::new();
     let mut count = 0;
-    for folder in ["appendix", "readings", "one", "nine", "twelve", "two", "seven", "eleven"] {
+    for folder in [
+        "appendix", "readings", "one", "nine", "twelve", "two", "seven", "eleven", "five",
+    ] {
         for input in inputs(&vectors.join(folder)) {
             let expected = fs::read(input.with_extension("out")).expect("an output");
             let text = fs::read(&input).expect("an input");
@@ -280,7 +343,7 @@ fn the_vectors() {
             }
         }
     }
-    assert!(count > 388, "{} vectors", count);
+    assert!(count > 440, "{} vectors", count);
 }
 
 /// The help sheet's heading for each number: `### 7: there is no module of this name`.
@@ -306,11 +369,13 @@ fn the_help_sheet() {
         let input = format!("normalise={}\n", example);
         // a library that is told to be too long is the program's to refuse
         let asked = question(input.as_bytes());
-        if let Some(Err(refusal)) = asked.map(|(asked, specification)| normalise(asked, specification)) {
+        if let Some(Err(refusal)) =
+            asked.map(|(asked, specification)| normalise(asked, specification))
+        {
             let heading = heading(refusal.number());
             assert!(refusal.to_string().starts_with(&heading), "{}", refusal);
             told += 1;
         }
     }
-    assert!(told > 15, "{} examples are refused", told);
+    assert!(told > 30, "{} examples are refused", told);
 }

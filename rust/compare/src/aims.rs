@@ -1,15 +1,19 @@
-//! Changes to a drafted specification, each aimed at one number of document 01's table. A change is made in some
+//! Changes to a drafted specification, each aimed at one of the numbers of documents 01 and 02. A change is made in some
 //! module that the asked one may reach; it does not always hit, since another refusal may come first.
 
 use crate::draft::{self, alone};
 use crate::generic::Generic;
+use crate::mistakes;
 use crate::names;
-use crate::random::Random;
+use crate::random::{insert, Random};
 use crate::view::{view, View};
 use reference::syntax::*;
 
-/// The numbers that a change of the tree is aimed at; 1 to 4 and 6, 18, 19 are reached in other ways.
-pub const NUMBERS: [u32; 12] = [5, 7, 8, 9, 10, 11, 12, 13, 14, 15, 16, 17];
+/// The numbers that a change of the tree is aimed at, in the order of the checks; 1 to 4 and 6, 18, 19 are reached in other
+/// ways.
+pub const NUMBERS: [u32; 17] = [
+    5, 7, 8, 9, 10, 11, 12, 13, 14, 15, 22, 23, 24, 25, 26, 27, 17,
+];
 
 /// A number for a second change: mostly the same one or a neighbour, so that the order among culprits decides.
 pub fn near(number: u32, random: &mut Random) -> u32 {
@@ -46,12 +50,12 @@ pub fn aim(number: u32, specification: &mut Specification, random: &mut Random) 
         }
         14 => renaming(specification, index, random),
         15 => parameter(specification, index, random),
-        16 => binding(specification, index, random),
+        22..=27 => mistakes::aim(number, specification, index, random),
         _ => ill_typed(specification, index, random),
     }
 }
 
-fn name(text: &str) -> Name {
+pub fn name(text: &str) -> Name {
     text.as_bytes().to_vec()
 }
 
@@ -63,16 +67,11 @@ fn function(called: &str, inputs: &[&str], output: &str) -> FunctionDeclaration 
     }
 }
 
-fn import(module: &Name, clauses: Vec<Clause>) -> Expression {
+pub fn import(module: &Name, clauses: Vec<Clause>) -> Expression {
     Expression {
         module: module.clone(),
         clauses,
     }
-}
-
-fn insert<T>(list: &mut Vec<T>, element: T, random: &mut Random) {
-    let place = random.below(list.len() + 1);
-    list.insert(place, element);
 }
 
 /// One to four of the elements, none twice: the least of them is then told.
@@ -88,7 +87,7 @@ fn several<T: Clone + PartialEq>(elements: &[T], random: &mut Random) -> Vec<T> 
     chosen
 }
 
-fn pair(old: &Name, new: &Name) -> Pair {
+pub fn pair(old: &Name, new: &Name) -> Pair {
     Pair {
         old: old.clone(),
         new: new.clone(),
@@ -488,56 +487,6 @@ fn parted(specification: &Specification, random: &mut Random) -> Vec<Clause> {
     match pairs.is_empty() {
         true => Vec::new(),
         false => vec![Clause::Renaming(pairs)],
-    }
-}
-
-/// A binding with something wrong in its pairs, or nothing wrong; sometimes renamed before or after.
-fn binding(specification: &mut Specification, index: usize, random: &mut Random) {
-    let mut generic = Generic::new(random);
-    let index = generic.place(specification, index);
-    if random.chance(45) {
-        leave_unpaired(&mut generic.binding.pairs, random);
-    } else {
-        for _ in 0..random.below(3) {
-            spoil(&mut generic.binding.pairs, random);
-        }
-    }
-    let mut clauses = vec![Clause::Binding(generic.binding)];
-    if random.chance(20) {
-        let olds = ["X", "k", "D", "G", "m"];
-        let renamed = pair(&name(olds[random.below(olds.len())]), &names::sort(random));
-        insert(&mut clauses, Clause::Renaming(vec![renamed]), random);
-    }
-    let module = &mut specification.modules[index];
-    let generic = import(&name("Generic'"), clauses);
-    insert(&mut module.imports, generic, random);
-}
-
-/// Takes pairs away; often those of all functions, which would be wrong without a pair for each of their sorts.
-fn leave_unpaired(pairs: &mut Vec<Pair>, random: &mut Random) {
-    if random.chance(70) {
-        pairs.retain(|pair| [name("X"), name("Y")].contains(&pair.old));
-    }
-    pairs.truncate(random.between(1, pairs.len()));
-}
-
-fn spoil(pairs: &mut Vec<Pair>, random: &mut Random) {
-    let place = random.below(pairs.len());
-    let actuals = ["D", "E", "G", "m", "n", "d", "q'", "H"];
-    match random.below(7) {
-        0 if pairs.len() > 1 => drop(pairs.remove(place)),
-        1 => pairs[place].new = names::sort(random),
-        2 => pairs[place].new = name(actuals[random.below(actuals.len())]),
-        3 => {
-            let mut twin = pairs[place].clone();
-            if random.chance(50) {
-                twin.new = name(actuals[random.below(actuals.len())]);
-            }
-            insert(pairs, twin, random);
-        }
-        4 => insert(pairs, pair(&name("nobody"), &name("D")), random),
-        5 => pairs[place].new = names::operator_name(random.between(1, 2), random),
-        _ => pairs.swap(0, place),
     }
 }
 

@@ -1,15 +1,15 @@
 //! The proved library behind the driver in C (`c/driver.c`), which runs as a process of its own: the library is compiled for x86-64, and
 //! this program may run elsewhere, beside an emulator.
 
-use reference::Texts;
+use reference::{Texts, NAME_BYTES};
 use std::io::{self, BufReader, BufWriter, Read, Write};
 use std::process::{Child, ChildStdin, ChildStdout, Command, Stdio};
 
 /// The words of working memory that the library needs (docs/MEMORY.md).
 pub const MEMORY_WORDS: usize = 1_048_576;
 /// The values and the bytes of names that an answer has (`c/asf.h`).
-pub const VALUES: usize = 7;
-pub const NAMES: usize = 84;
+pub const VALUES: usize = 8;
+pub const NAMES: usize = 3 * NAME_BYTES;
 /// What the driver fills lent memory with.
 pub const FILL: u8 = 0xa5;
 

@@ -111,7 +111,17 @@ fn actual(on_ground: bool, random: &mut Random) -> String {
         _ if on_ground => ("", "imports Ground'", "q': D -> G q: D -> G"),
         _ => ("", "", ""),
     };
-    let more = one(&["", "", "m: E -> E", "m: D#D -> E", "o: D -> E"], random);
+    let more = one(
+        &[
+            "",
+            "m: E -> E",
+            "m: D#D -> E",
+            "o: D -> E",
+            "E: -> D",
+            "E: D -> E",
+        ],
+        random,
+    );
     let hidden = one(
         &["", "sorts K functions g: K -> D", "functions h: E -> D"],
         random,

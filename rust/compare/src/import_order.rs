@@ -21,6 +21,7 @@ pub struct Told {
     pub modules: u64,
     pub module: Name,
     pub name: Name,
+    pub actual: Name,
     pub listing: Vec<u8>,
     pub kept: bool,
 }
@@ -76,8 +77,7 @@ pub fn compare(
             0 => agreed.accepted += 1,
             _ => agreed.refused += 1,
         }
-        let otherwise = (one.number, &one.name) != (another.number, &another.name);
-        agreed.told_otherwise += u64::from(otherwise);
+        agreed.told_otherwise += u64::from(culprit(one) != culprit(another));
     }
     Ok(agreed)
 }
@@ -100,6 +100,10 @@ fn agree(one: &Told, other: &Told) -> bool {
     accepted && told(one) == told(other) && one.kept && other.kept
 }
 
+fn culprit(told: &Told) -> (u32, &Name, &Name) {
+    (told.number, &told.name, &told.actual)
+}
+
 fn difference(asked: &Name, other: &Case, told: &[io::Result<Told>; 2]) -> Difference {
     let asked = String::from_utf8_lossy(asked);
     let tell = |told: &io::Result<Told>| match told {
@@ -119,11 +123,12 @@ fn difference(asked: &Name, other: &Case, told: &[io::Result<Told>; 2]) -> Diffe
 
 fn sentence(told: &Told) -> String {
     format!(
-        "number {}, {} modules, module {}, name {}{}\n{}",
+        "number {}, {} modules, module {}, name {}, actual {}{}\n{}",
         told.number,
         told.modules,
         String::from_utf8_lossy(&told.module),
         String::from_utf8_lossy(&told.name),
+        String::from_utf8_lossy(&told.actual),
         if told.kept {
             ""
         } else {
@@ -140,6 +145,7 @@ pub fn ask_reference(case: &Case, asked: &Name) -> io::Result<Told> {
         modules: u64::from(answer.modules),
         module: answer.module,
         name: answer.name,
+        actual: answer.actual,
         listing: answer.listing,
         kept: true,
     })
@@ -150,7 +156,7 @@ pub fn ask_proved(proved: &Proved, case: &Case, asked: &Name) -> io::Result<Told
     Ok(of_reply(&reply))
 }
 
-/// The values in their order (`c/asf.h`): number, count, place, lengths of the two names and of the listing.
+/// The values in their order (`c/asf.h`): number, count, place, lengths of two names and of the listing, the mark, length of the third name.
 fn of_reply(reply: &Reply) -> Told {
     let front = |bytes: &[u8], value: usize| {
         let length = bytes.len().min(reply.values[value] as usize);
@@ -161,6 +167,7 @@ fn of_reply(reply: &Reply) -> Told {
         modules: reply.values[1],
         module: front(&reply.names, 3),
         name: front(&reply.names[NAME_BYTES..], 4),
+        actual: front(&reply.names[2 * NAME_BYTES..], 7),
         listing: front(&reply.listing, 5),
         kept: reply.broken == 0,
     }

@@ -14,6 +14,7 @@ pub mod generic;
 pub mod import_order;
 pub mod loads;
 pub mod meetings;
+pub mod mistakes;
 pub mod names;
 pub mod numbering;
 pub mod operators;

@@ -89,7 +89,7 @@ fn texts(folder: &Path) -> Result<ExitCode, Box<dyn Error>> {
 
 /// How often each number came, for all texts and for each kind.
 fn tally(count: u64, first: u64) -> Result<ExitCode, Box<dyn Error>> {
-    let mut counts: BTreeMap<&str, [u64; 22]> = BTreeMap::new();
+    let mut counts: BTreeMap<&str, [u64; 28]> = BTreeMap::new();
     for seed in first..first + count {
         let case = case(seed);
         let answer = engines::reference(&case);

@@ -133,7 +133,7 @@ fn short_memory(case: &Case) -> usize {
 /// Mostly room for all values and names, now and then less or more.
 fn rooms(case: &Case) -> (usize, usize) {
     if case.text.len() % 8 == 0 {
-        (case.text.len() / 8 % 10, case.text.len() / 8 % 97)
+        (case.text.len() / 8 % 11, case.text.len() / 8 % 139)
     } else {
         (VALUES, NAMES)
     }
@@ -164,11 +164,10 @@ fn expected_reply(answer: &Answer, room: Room) -> Reply {
         answer.name.len() as u64,
         answer.listing.len() as u64,
         u64::from(answer.in_library),
+        answer.actual.len() as u64,
     ];
-    let mut names = answer.module.clone();
-    names.resize(NAME_BYTES, 0);
-    names.extend(&answer.name);
-    names.resize(NAMES, 0);
+    let names = [&answer.module, &answer.name, &answer.actual];
+    let names = names.map(|name| laid(name, 0, NAME_BYTES)).concat();
     Reply {
         number: answer.number,
         broken: 0,

@@ -50,3 +50,9 @@ pub fn shuffle<T>(elements: &mut [T], random: &mut Random) {
         elements.swap(index, random.below(index + 1));
     }
 }
+
+/// Puts an element anywhere into a list.
+pub fn insert<T>(list: &mut Vec<T>, element: T, random: &mut Random) {
+    let place = random.below(list.len() + 1);
+    list.insert(place, element);
+}

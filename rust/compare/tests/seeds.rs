@@ -13,18 +13,19 @@ use reference::{
     TEXT_BYTES,
 };
 
-/// Every number that a call can give; 21 is the listing reader's.
+/// Every number that a call can give; 16 and 20 are given no more, and 21 is the listing reader's.
 #[test]
 fn every_number_is_reached() {
-    let mut counts = [0; 22];
-    let mut in_library = [0; 22];
+    let mut counts = [0; 28];
+    let mut in_library = [0; 28];
     for seed in 0..1_500 {
         let answer = reference(&case(seed));
         counts[answer.number as usize] += 1;
         in_library[answer.number as usize] += usize::from(answer.in_library);
     }
     for (number, count) in counts.iter().enumerate() {
-        assert_eq!(*count > 0, number < 20, "{number}: {count}");
+        let given = ![16, 20, 21].contains(&number);
+        assert_eq!(*count > 0, given, "{number}: {count}");
     }
     for (number, count) in in_library.iter().enumerate() {
         assert_eq!(*count > 0, (1..=5).contains(&number), "{number}: {count}");
@@ -167,7 +168,7 @@ fn what_only_two_texts_have() {
 }
 
 /// What operators bring.
-const OPERATORS: [(&str, Happening); 17] = [
+const OPERATORS: [(&str, Happening); 21] = [
     ("a prefix operator is listed", |_, answer| {
         functions(answer).any(|name| operands(&name) == Some(1))
     }),
@@ -220,7 +221,17 @@ const OPERATORS: [(&str, Happening); 17] = [
     ("11 of an operator", |_, answer| about_operator(answer, 11)),
     ("13 of an operator", |_, answer| about_operator(answer, 13)),
     ("14 of an operator", |_, answer| about_operator(answer, 14)),
-    ("16 of an operator", |_, answer| about_operator(answer, 16)),
+    ("22 of an operator", |_, answer| about_operator(answer, 22)),
+    ("24 of an actual operator", |_, answer| {
+        answer.number == 24 && operands(&answer.actual).is_some()
+    }),
+    ("25 of an actual operator", |_, answer| {
+        answer.number == 25 && operands(&answer.actual).is_some()
+    }),
+    ("26 of an operator", |_, answer| about_operator(answer, 26)),
+    ("26 of an actual operator", |_, answer| {
+        answer.number == 26 && operands(&answer.actual).is_some()
+    }),
     ("14 of a name that is there", |case, answer| {
         let pair = [&answer.name[..], b" -> _"].concat();
         answer.number == 14 && operands(&answer.name).is_none() && contains(&case.text, &pair)

@@ -8,17 +8,23 @@ const PARAMETERS: usize = 8;
 const ITEMS: usize = 512;
 const EQUATIONS: usize = 256;
 
-/// A refusal by evaluation: its number and the culprit's name.
+/// A refusal by evaluation: its number, the culprit's name and, of a binding's pair, the actual name.
 #[derive(Clone, Debug, PartialEq, Eq)]
 pub struct Refusal {
     pub number: u32,
     pub name: Name,
+    pub actual: Name,
 }
 
 pub fn refuse<T>(number: u32, name: &[u8]) -> Result<T, Refusal> {
+    refuse_both(number, name, b"")
+}
+
+pub fn refuse_both<T>(number: u32, name: &[u8], actual: &[u8]) -> Result<T, Refusal> {
     Err(Refusal {
         number,
         name: name.to_vec(),
+        actual: actual.to_vec(),
     })
 }
 

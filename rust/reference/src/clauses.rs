@@ -1,6 +1,6 @@
-//! Renaming and binding ("Evaluating", step 3; document 02, Two and Seven).
+//! Renaming and binding ("Evaluating", step 3; document 02, Two, Seven and Five).
 
-use crate::checks::{refuse, Refusal};
+use crate::checks::{refuse, refuse_both, Refusal};
 use crate::form::{Form, Function, Replacement, Section, Sort};
 use crate::order;
 use crate::syntax::{operands, Binding, Name, Pair};
@@ -97,30 +97,38 @@ impl Bound<'_> {
             .find(|function| function.name.as_ref() == Some(name))
     }
 
-    /// 16: the first wrong pair; then the least formal that no pair names.
+    /// The pairs in text order: the first that has a mistake is told. Then 27, the least formal that no pair names.
     fn check(&self) -> Result<(), Refusal> {
         for (index, pair) in self.pairs.iter().enumerate() {
-            let repeated = self.pairs[..index]
-                .iter()
-                .any(|earlier| earlier.old == pair.old);
-            if repeated || !self.right(pair) {
-                return refuse(16, &pair.old);
+            if let Some(number) = self.mistake(pair, &self.pairs[..index]) {
+                return refuse_both(number, &pair.old, &pair.new);
             }
         }
         match self.least_unpaired() {
-            Some(name) => refuse(16, name),
+            Some(name) => refuse(27, name),
             None => Ok(()),
         }
     }
 
-    /// A name of both kinds needs both; a name of neither is wrong.
-    fn right(&self, pair: &Pair) -> bool {
+    /// The first of 22 to 26 that fits a pair behind these. A name of both kinds needs both.
+    fn mistake(&self, pair: &Pair, earlier: &[Pair]) -> Option<u32> {
         let sort = self.formal_sorts().any(|name| *name == pair.old);
         let function = self.formal_function(&pair.old);
-        let sort_found = !sort || self.actual.visible_sort(&pair.new).is_some();
-        let function_found =
-            function.is_none_or(|function| self.actual_function(function, pair).is_some());
-        (sort || function.is_some()) && sort_found && function_found
+        let sort_shown = self.actual.visible_sort(&pair.new).is_some();
+        let function_shown = self.actual.visible_functions(&pair.new).next().is_some();
+        let mistakes = [
+            (22, !sort && function.is_none()),
+            (23, first_pair(earlier, &pair.old).is_some()),
+            (24, !sort_shown && !function_shown),
+            (25, sort && !sort_shown),
+            (25, function.is_some() && !function_shown),
+            (
+                26,
+                function.is_some_and(|formal| self.actual_function(formal, pair).is_none()),
+            ),
+        ];
+        let fitting = mistakes.into_iter().find(|(_, fits)| *fits);
+        fitting.map(|(number, _)| number)
     }
 
     fn least_unpaired(&self) -> Option<&Name> {

@@ -73,13 +73,15 @@ impl Lent {
 }
 
 /// What comes back ("The numbers that come back"); the listing is empty unless the number is 0. A place is one of the
-/// customer's text, or of the library where the answer says so.
+/// customer's text, or of the library where the answer says so. The actual name is told of a binding's pair alone
+/// (document 02, Five).
 #[derive(Clone, Debug, Default, PartialEq, Eq)]
 pub struct Answer {
     pub number: u32,
     pub modules: u32,
     pub module: Name,
     pub name: Name,
+    pub actual: Name,
     pub at: usize,
     pub in_library: bool,
     pub listing: Vec<u8>,
@@ -143,6 +145,7 @@ fn finish(
             number: refusal.number,
             module: evaluated.last,
             name: refusal.name,
+            actual: refusal.actual,
             ..Answer::default()
         },
     };

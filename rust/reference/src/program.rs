@@ -1,12 +1,15 @@
-//! The program `asfnorm` as a function from its standard input to its output ("The listing"; document 02, One).
+//! The program `asfnorm` as a function from its standard input to its output ("The listing"; document 02, One and Five).
 
 use crate::{at_place, normalise, Answer, Lent, Offence, Texts};
 use crate::{OUTPUT_BYTES, TEXT_BYTES, TOKEN_BYTES};
+use std::ops::RangeInclusive;
 
 const FIRST: &[u8] = b"normalise=";
 const SECOND: &[u8] = b"library=";
 /// The most digits of the library's length.
 const DIGITS: usize = 9;
+/// The numbers whose refusals tell the actual name, also where it is blank.
+const BINDING_MISTAKES: RangeInclusive<u32> = 22..=27;
 
 /// What the program prints for an input.
 pub fn asfnorm(input: &[u8]) -> Vec<u8> {
@@ -60,7 +63,11 @@ fn printed(answer: &Answer) -> Vec<u8> {
         out.extend_from_slice(&answer.listing);
         return out;
     }
-    for (key, value) in [("module", &answer.module), ("name", &answer.name)] {
+    let mut names = vec![("module", &answer.module), ("name", &answer.name)];
+    if BINDING_MISTAKES.contains(&answer.number) {
+        names.push(("actual", &answer.actual));
+    }
+    for (key, value) in names {
         out.extend_from_slice(key.as_bytes());
         out.push(b'=');
         out.extend_from_slice(value);

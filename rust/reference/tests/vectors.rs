@@ -5,7 +5,8 @@ use std::env;
 use std::fs;
 use std::path::{Path, PathBuf};
 
-/// The folder with `appendix/`, `readings/`, `one/`, `nine/`, `twelve/`, `two/`, `seven/` and `eleven/`: from the environment, or beside this crate.
+/// The folder with `appendix/`, `readings/`, `one/`, `nine/`, `twelve/`, `two/`, `seven/`, `eleven/` and `five/`: from the
+/// environment, or beside this crate.
 fn folder() -> PathBuf {
     match env::var_os("ASF_VECTORS") {
         Some(path) => PathBuf::from(path),
@@ -81,4 +82,9 @@ fn seven() {
 #[test]
 fn eleven() {
     run("eleven", 11);
+}
+
+#[test]
+fn five() {
+    run("five", 52);
 }
