@@ -11,7 +11,6 @@ use Rattle.meaning.specs.Syntax.{Module}
 use Rattle.meaning.specs.Origins.{Shape, sort-shape, function-shape, variable-shape, Item}
 use Rattle.meaning.specs.Written.{shape-rank}
 use Rattle.meaning.specs.OrderLaws.{Every as All}
-use Rattle.meaning.specs.Checks.{Culprit}
 use Rattle.meaning.specs.Texts.{Texts, Reading, all-read, refused-in, read-texts}
 use Rattle.meaning.specs.Checks.{Culprit}
 use Rattle.meaning.specs.Reached.{Ended, normalised, refused-at, normalise}
