@@ -1,5 +1,5 @@
 -- Two outcomes that agree, but for room: the first may be 18 where the second goes on.
-use mathlib.Core.Path.{_≡_, refl, sym, ap, subst, _∙_}
+use mathlib.Core.Path.{_≡_, refl, sym, ap, subst}
 use mathlib.Core.Logic.{_⊎_, inl, inr}
 use mathlib.Core.Bool.{Bool, true, false}
 use mathlib.Core.Option.{Option, none, some}
@@ -89,31 +89,5 @@ unfolding needs pick
 needs-fine k w true e = refl
 needs-fine k w false e = never k w tt e
 
--- ---- two outcomes with one mirror
-
--- unless either is 18: both fine and alike, or both refused alike
-abbrev pub Together : {A B : Type 0} → (A → B) → Outcome A → Outcome A → Type 0
-Together f (fine a) (fine a′) = f a ≡ f a′
-Together f (fine a) (stop k w) = k ≡ no-room
-Together f (stop k w) (fine a) = k ≡ no-room
-Together f (stop k w) (stop k′ w′) = (k ≡ no-room) ⊎ ((k′ ≡ no-room) ⊎ ((k ≡ k′) × (w ≡ w′)))
-
 pub fine-same : {A : Type 0} (a b : A) → fine a ≡ fine b → a ≡ b
 fine-same a b e = cc
-
-stop-number : {A : Type 0} (k k′ : ℕ) (w w′ : Culprit) → _≡_ {A = Outcome A} (stop k w) (stop k′ w′) → k ≡ k′
-stop-number k k′ w w′ e = cc
-
-stop-culprit : {A : Type 0} (k k′ : ℕ) (w w′ : Culprit) → _≡_ {A = Outcome A} (stop k w) (stop k′ w′) → w ≡ w′
-stop-culprit k k′ w w′ e = cc
-
-pub one-mirror : {A B : Type 0} (f : A → B) (a a′ : Outcome A) (b : Outcome B) → Mirrors f a b → Mirrors f a′ b → Together f a a′
-one-mirror f (fine x) (fine x′) b h h′ = fine-same (f x) (f x′) (sym h ∙ h′)
-one-mirror f (fine x) (stop k w) b h (inl e) = e
-one-mirror f (fine x) (stop k w) b h (inr e) = never k w (f x) (sym e ∙ h)
-one-mirror f (stop k w) (fine x) b (inl e) h′ = e
-one-mirror f (stop k w) (fine x) b (inr e) h′ = never k w (f x) (sym e ∙ h′)
-one-mirror f (stop k w) (stop k′ w′) b (inl e) h′ = inl e
-one-mirror f (stop k w) (stop k′ w′) b (inr e) (inl e′) = inr (inl e′)
-one-mirror f (stop k w) (stop k′ w′) b (inr e) (inr e′) =
-    inr (inr (stop-number k k′ w w′ (sym e ∙ e′), stop-culprit k k′ w w′ (sym e ∙ e′)))

@@ -1,58 +1,54 @@
--- A module evaluated in two calls of one specification: if it is accepted in the one, then in the other too, or that one is refused by 18.
-use mathlib.Core.Path.{_≡_, refl, sym, ap, subst, _∙_}
-use mathlib.Core.Logic.{_⊎_, inl, inr}
-use Prim.Native.Nat.{ℕ}
+-- A module evaluated in two calls of one specification: if it is accepted in the one, then in the other too, room apart.
+use mathlib.Core.Path.{_≡_, refl, sym, ap, _∙_}
 use mathlib.Core.Bool.{Bool, true, false, not, _&&_}
 use mathlib.Core.List.{List, [], _∷_, map}
 use Rattle.meaning.specs.Lists.{pick, each}
 use Rattle.meaning.specs.Names.{Name, same, member}
-use Rattle.meaning.specs.Numbers.{named-absent, named-late, no-room}
+use Rattle.meaning.specs.Numbers.{named-absent, named-late}
 use Rattle.meaning.specs.Syntax.{Clause, Import, Module, renamed-by, bound-by}
-use Rattle.meaning.specs.Normal.{Normal}
-use Rattle.meaning.specs.Checks.{_>>=_, _>>_, lone, Outcome, Check, Size, needs, fits, room, total-room, fine, stop}
-use Rattle.meaning.specs.Evaluate.{Evaluated, clause-names, import-names, named-by, missing, too-late, names-right, normal-of, clause, clauses, expressions, imported, joined-own, evaluate}
-use Rattle.meaning.specs.Mirror.{never, then-fine, bind-fine}
+use Rattle.meaning.specs.Normal.{Visible}
+use Rattle.meaning.specs.Checks.{_>>=_, _>>_, lone, Outcome, Check, fine, stop}
+use Rattle.meaning.specs.Evaluate.{clause-names, import-names, named-by, missing, too-late, names-right}
+use Rattle.meaning.specs.Mirror.{never, then-fine}
+use Rattle.meaning.specs.Visibly.{Seen, visible-of, clause-visibly, clauses-visibly, expressions-visibly, imported-visibly, joined-visibly, evaluate-visibly}
 use Rattle.promises.specs.Members.{clear, same-eq, member-here, member-right, member-left}
 
--- ---- two environments that agree on the names of the first
+abbrev pub names-seen : List Seen → List Name
+names-seen env = map (λ (e : Seen). e .name) env
 
-abbrev pub names-in : List Evaluated → List Name
-names-in env = map (λ (e : Evaluated). e .name) env
+abbrev pub Agree : List Seen → List Seen → Type 0
+Agree env env′ = (w : Name) → member w (names-seen env) ≡ true → visible-of env w ≡ visible-of env′ w
 
-abbrev pub Agree : List Evaluated → List Evaluated → Type 0
-Agree env env′ = (w : Name) → member w (names-in env) ≡ true → normal-of env w ≡ normal-of env′ w
+abbrev Covers : List Seen → List Name → Type 0
+Covers env ws = (w : Name) → member w ws ≡ true → member w (names-seen env) ≡ true
 
-module _ (env env′ : List Evaluated) (agree : Agree env env′) where
-  clause-same : (c : Clause) (n : Normal) → ((w : Name) → member w (clause-names c) ≡ true → member w (names-in env) ≡ true)
-      → clause env c n ≡ clause env′ c n
-  unfolding clause clause-names
-  clause-same (renamed-by rs) n h = refl
-  clause-same (bound-by p rs m) n h = rw (agree m (h m (member-here m [])))
+module _ (env env′ : List Seen) (agree : Agree env env′) where
+  clause-same : (c : Clause) (v : Visible) → Covers env (clause-names c) → clause-visibly env c v ≡ clause-visibly env′ c v
+  unfolding clause-visibly clause-names
+  clause-same (renamed-by rs) v h = refl
+  clause-same (bound-by p rs m) v h = rw (agree m (h m (member-here m [])))
 
-  clauses-same : (cs : List Clause) (n : Normal) → ((w : Name) → member w (each clause-names cs) ≡ true → member w (names-in env) ≡ true)
-      → clauses env cs n ≡ clauses env′ cs n
-  unfolding clauses each
-  clauses-same [] n h = refl
-  clauses-same (c ∷ cs) n h =
-      λ i. clause-same c n (λ w k. h w (member-left w (clause-names c) _ k)) i
+  clauses-same : (cs : List Clause) (v : Visible) → Covers env (each clause-names cs) → clauses-visibly env cs v ≡ clauses-visibly env′ cs v
+  unfolding clauses-visibly each
+  clauses-same [] v h = refl
+  clauses-same (c ∷ cs) v h =
+      λ i. clause-same c v (λ w k. h w (member-left w (clause-names c) _ k)) i
       >>= λ x. clauses-same cs x (λ w k. h w (member-right w (clause-names c) _ k)) i
 
-  expressions-same : (is : List Import) → ((w : Name) → member w (each import-names is) ≡ true → member w (names-in env) ≡ true)
-      → expressions env is ≡ expressions env′ is
-  unfolding expressions each import-names
+  expressions-same : (is : List Import) → Covers env (each import-names is) → expressions-visibly env is ≡ expressions-visibly env′ is
+  unfolding expressions-visibly each import-names
   expressions-same [] h = refl
   expressions-same (x ∷ is) h =
-      let first : normal-of env (x .name) ≡ normal-of env′ (x .name) = agree (x .name) (h (x .name) (member-here (x .name) _)) in
-      let here : clauses env (x .clauses) (normal-of env (x .name)) ≡ clauses env′ (x .clauses) (normal-of env′ (x .name)) =
-      clauses-same (x .clauses) (normal-of env (x .name))
+      let first : visible-of env (x .name) ≡ visible-of env′ (x .name) = agree (x .name) (h (x .name) (member-here (x .name) _)) in
+      let here : clauses-visibly env (x .clauses) (visible-of env (x .name)) ≡ clauses-visibly env′ (x .clauses) (visible-of env′ (x .name)) =
+      clauses-same (x .clauses) (visible-of env (x .name))
       (λ w k. h w (member-left w (x .name ∷ each clause-names (x .clauses)) _ (member-right w (x .name ∷ []) _ k)))
-      ∙ ap (clauses env′ (x .clauses)) first in
+      ∙ ap (clauses-visibly env′ (x .clauses)) first in
       let rest = expressions-same is (λ w k. h w (member-right w (x .name ∷ each clause-names (x .clauses)) _ k)) in
-      λ i. here i >>= λ n. (rest i >>= λ ns. fine (n ∷ ns))
+      λ i. here i >>= λ v. (rest i >>= λ vs. fine (v ∷ vs))
 
-  imported-same : (is : List Import) → ((w : Name) → member w (each import-names is) ≡ true → member w (names-in env) ≡ true)
-      → imported env is ≡ imported env′ is
-  unfolding imported
+  imported-same : (is : List Import) → Covers env (each import-names is) → imported-visibly env is ≡ imported-visibly env′ is
+  unfolding imported-visibly
   imported-same is h = rw (expressions-same is h)
 
 -- ---- step 1 passed: each name is earlier
@@ -73,40 +69,17 @@ earlier-names d e (v ∷ ws) h w k = go (member v d) (member v e) refl refl h (s
 
 -- ---- the same module in the two environments
 
--- fine n, or 18
-abbrev pub Either : Normal → Outcome Normal → Type 0
-Either n o = (o ≡ fine n) ⊎ (o ≡ stop no-room (lone []))
-
-then-either : (n : Normal) (c : Check) (a : Outcome Normal) → c ≡ fine tt → Either n a → Either n (c >> a)
+then-so : (c : Check) (o : Outcome Visible) (v : Visible) → c ≡ fine tt → o ≡ fine v → (c >> o) ≡ fine v
 unfolding _>>_
-then-either n c a e h = subst (λ (x : Check). Either n (x >> a)) (sym e) h
+then-so c o v p h = ap (λ (x : Check). x >> o) p ∙ h
 
-bind-either : {A : Type 0} (n : Normal) (o : Outcome A) (x : A) (f : A → Outcome Normal) → o ≡ fine x → Either n (f x) → Either n (o >>= f)
-unfolding _>>=_
-bind-either n o x f e h = subst (λ y. Either n (y >>= f)) (sym e) h
-
-room-either : (n : Normal) (enough : Bool) (a : Outcome Normal) → Either n a → Either n (fits enough >> a)
-unfolding fits needs _>>_ pick
-room-either n true a h = h
-room-either n false a h = inr refl
-
-joined-either : (home : ℕ) (t t′ : Size) (m : Module) (k n : Normal) → joined-own home t m k ≡ fine n → Either n (joined-own home t′ m k)
-unfolding joined-own room total-room
-joined-either home t t′ m k n e =
-    let a = then-fine _ _ n e in
-    let b = bind-fine _ _ n (a .1) in
-    let c = then-fine _ _ n (b .2) in
-    let d = then-fine _ _ n (c .1) in
-    then-either n _ _ (a .0) (bind-either n _ (b .0) _ (b .1) (room-either n _ _ (room-either n _ _ (inl (d .1)))))
-
-pub evaluate-either : (d e : List Name) (home : ℕ) (t t′ : Size) (env env′ : List Evaluated) (m : Module) (n : Normal) → Agree env env′
-    → ((w : Name) → member w (named-by m) ≡ true → member w e ≡ true → member w (names-in env) ≡ true)
-    → evaluate d e home t env m ≡ fine n → Either n (evaluate d e home t′ env′ m)
-unfolding evaluate named-by
-evaluate-either d e home t t′ env env′ m n agree closed q =
-    let a = then-fine _ _ n q in
-    let c = then-fine _ _ n (a .1) in
-    let h = bind-fine _ _ n (c .1) in
-    let i : imported env′ (m .imports) ≡ fine (h .0) =
-    sym (imported-same env env′ agree (m .imports) (λ w k. closed w k (earlier-names d e (named-by m) (a .0) w k))) ∙ h .1 in
-    then-either n _ _ (a .0) (then-either n _ _ (c .0) (bind-either n _ (h .0) _ i (joined-either home t t′ m (h .0) n (h .2))))
+pub evaluate-same : (d e : List Name) (env env′ : List Seen) (m : Module) (v : Visible) → Agree env env′
+    → ((w : Name) → member w (named-by m) ≡ true → member w e ≡ true → member w (names-seen env) ≡ true)
+    → evaluate-visibly (names-right d e (named-by m)) env m ≡ fine v → evaluate-visibly (names-right d e (named-by m)) env′ m ≡ fine v
+unfolding evaluate-visibly named-by
+evaluate-same d e env env′ m v agree closed q =
+    let a = then-fine _ _ v q in
+    let b = then-fine _ _ v (a .1) in
+    let i : imported-visibly env (m .imports) ≡ imported-visibly env′ (m .imports) =
+    imported-same env env′ agree (m .imports) (λ w k. closed w k (earlier-names d e (named-by m) (a .0) w k)) in
+    then-so _ _ v (a .0) (then-so _ _ v (b .0) (ap (λ o. o >>= joined-visibly m) (sym i) ∙ b .1))

@@ -11,6 +11,8 @@ pub mod Tied
 -- demand 3
 pub mod Public
 pub mod Lines
+-- a call, room apart
+pub mod Seeing
 pub mod Proof
 -- the other reading of "accepted"
 pub mod Wanting

@@ -11,7 +11,7 @@ use Rattle.meaning.specs.Names.{Name, same, member}
 pub clear : {X : Type 0} → _≡_ {A = Bool} true false → X
 clear e = let z : _≡_ {A = ℕ} 0 1 = cc in absurd (omega arith)
 
-pub passed : (b : Bool) → T b → b ≡ true
+passed : (b : Bool) → T b → b ≡ true
 passed true t = refl
 passed false t = absurd t
 

@@ -25,7 +25,7 @@ use Rattle.promises.specs.Members.{clear, found-again, found-later, memb
 use Rattle.promises.specs.Wanting.{only-itself, reached-later}
 use Rattle.promises.specs.Demand.{ForEach}
 use Rattle.promises.specs.Enough.{placed-among, all-placed}
-use Rattle.promises.specs.Again.{names-in, earlier-names}
+use Rattle.promises.specs.Again.{earlier-names}
 use Rattle.promises.specs.Library.{names-both, not-both}
 use Rattle.promises.specs.Given.{never-twenty}
 
@@ -211,6 +211,9 @@ unfolding all-opened cyclic acyclic reached-from
 in-a-cycle = refl
 
 -- ---- with it and without it
+
+abbrev names-in : List Evaluated → List Name
+names-in env = map (λ (e : Evaluated). e .name) env
 
 -- a name that is reached is the name of a module evaluated
 not-reached : (v : Name) (ws : List Name) (env : List Naming) → member v (names-in (without-names env)) ≡ false → member v (reached-from ws env) ≡ false

@@ -1,29 +1,31 @@
--- The proof of demand 3: module by module in text order, with the visible parts of what was evaluated the same in both calls.
+-- The proof of demand 3: module by module in text order over visible parts, which are the same in both calls.
 use mathlib.Core.Path.{_≡_, refl, sym, ap, subst, _∙_}
 use mathlib.Core.Logic.{_⊎_, inl, inr}
-use Prim.Native.Nat.{ℕ, suc, _+_}
+use Prim.Native.Nat.{ℕ, _+_}
 use native.Mathlib.Omega.{arith}
 use mathlib.Core.Bool.{Bool, true, false}
-use mathlib.Core.List.{List, [], _∷_, map}
+use mathlib.Core.List.{List, [], _∷_}
 use lib.ListN.{length}
 use Rattle.meaning.specs.Lists.{pick, each}
-use Rattle.meaning.specs.Names.{Name, member}
-use Rattle.meaning.specs.Numbers.{accepted, named-absent, named-late, no-room, lent-short}
+use Rattle.meaning.specs.Names.{Name, same, member}
+use Rattle.meaning.specs.Numbers.{accepted, named-absent, named-late, lent-short}
 use Rattle.meaning.specs.Syntax.{Module}
-use Rattle.meaning.specs.Normal.{Visible, Normal, empty}
+use Rattle.meaning.specs.Normal.{Visible, nothing-visible}
 use Rattle.meaning.specs.Written.{visible-in-order}
-use Rattle.meaning.specs.Checks.{Culprit, lone, Outcome, Size, fine, stop}
-use Rattle.meaning.specs.Evaluate.{Evaluated, import-names, named-by, missing, too-late, names-right, evaluate}
+use Rattle.meaning.specs.Checks.{Culprit, lone, Outcome, Check, fine, stop}
+use Rattle.meaning.specs.Evaluate.{import-names, named-by, missing, too-late, names-right}
 use Rattle.meaning.specs.Texts.{Texts}
-use Rattle.meaning.specs.Reached.{Placed, reached, Ended, end-or, total-of, in-turn, module-names, normalise, normalised, refused-at}
+use Rattle.meaning.specs.Reached.{Placed, reached, Ended, module-names, normalise, normalised, refused-at}
 use Rattle.meaning.specs.Listing.{line, lines-text, visible-lines, shown}
 use Rattle.meaning.specs.Answer.{Answer, listing, refusal, of-ended, of-read, within, answer}
-use Rattle.meaning.specs.Mirror.{Mirrors, fine-same, Together, one-mirror}
-use Rattle.meaning.specs.Visibly.{Seen, seen-of, imported-visibly, evaluate-visibly, visible-half, evaluate-mirrors}
-use Rattle.promises.specs.Public.{public-part, with-own, Shows, accepted-shows}
+use Rattle.meaning.specs.Mirror.{fine-same}
+use Rattle.meaning.specs.Visibly.{Seen, imported-visibly, evaluate-visibly}
+use Rattle.promises.specs.Members.{clear, same-eq, same-refl}
+use Rattle.promises.specs.Public.{public-part, with-own, accepted-shows}
 use Rattle.promises.specs.Lines.{listing-shown}
 use Rattle.promises.specs.VisiblePart.{visible-part}
 use Rattle.promises.specs.Tied.{ended-tied}
+use Rattle.promises.specs.Seeing.{EndedVisibly, refuses, end-visibly, seen-as, in-turn-visibly, normalise-visibly, Eighteen, as-seen, Reflects, normalise-reflects, stands-visibly, no-refusal}
 use Rattle.promises.specs.Demand.{ReadAs, SameButHidden, ForEach, Counterparts, InTurn, RefusedAtMost, InTheCall, Comparable, SameAnswer, ShortOfRoom, Agreeing, Demand3}
 
 -- ---- step 1: the names have the same outcome in both
@@ -38,157 +40,190 @@ names-same d e d′ e′ (w ∷ ws) m l =
 
 -- ---- one module
 
--- what is known of an evaluation: the names declared and earlier, the module's number, the sizes so far, the modules evaluated, the module
-module _ (d e d′ e′ : List Name) (h h′ : ℕ) (t t′ : Size) (env env′ : List Evaluated) (m m′ : Module) (seen : map seen-of env ≡ map seen-of env′) where
-  abbrev one : Outcome Normal
-  one = evaluate d e h t env m
-
-  abbrev other : Outcome Normal
-  other = evaluate d′ e′ h′ t′ env′ m′
-
-  abbrev one-visibly : Outcome Visible
-  one-visibly = evaluate-visibly (names-right d e (named-by m)) (map seen-of env) m
-
-  abbrev other-visibly : Outcome Visible
-  other-visibly = evaluate-visibly (names-right d′ e′ (named-by m′)) (map seen-of env′) m′
-
-  -- modules that differ in what they hide, both accepted, show the same
-  both-accepted : SameButHidden m m′ → (n n′ : Normal) → one ≡ fine n → other ≡ fine n′ → n .visible ≡ n′ .visible
-  both-accepted alike n n′ q q′ =
-      let b : Shows (map seen-of env) m (n .visible) =
-      accepted-shows (names-right d e (named-by m)) _ m _ (subst (λ o. Mirrors visible-half o one-visibly) q (evaluate-mirrors d e h t env m)) in
-      let b′ : Shows (map seen-of env′) m′ (n′ .visible) =
-      accepted-shows (names-right d′ e′ (named-by m′)) _ m′ _
-      (subst (λ o. Mirrors visible-half o other-visibly) q′ (evaluate-mirrors d′ e′ h′ t′ env′ m′)) in
-      let v : b .imported ≡ b′ .imported =
-      fine-same _ _ (sym (b .from-imports) ∙ (λ i. imported-visibly (seen i) (alike .imports i)) ∙ b′ .from-imports) in
-      b .whole ∙ (λ i. visible-in-order (with-own (v i) (public-part (alike .name i) (alike .exports i) (alike .parameters i)))) ∙ sym (b′ .whole)
-
-  -- the same module has the same outcome, unless either is 18
-  same-module : m ≡ m′ → names-right d e (named-by m) ≡ names-right d′ e′ (named-by m) → Together visible-half one other
-  same-module p names =
-      let visibly : one-visibly ≡ other-visibly =
-      (λ i. evaluate-visibly (names i) (seen i) m) ∙ (λ i. evaluate-visibly (names-right d′ e′ (named-by (p i))) (map seen-of env′) (p i)) in
-      one-mirror visible-half one other one-visibly (evaluate-mirrors d e h t env m)
-      (subst (λ b. Mirrors visible-half other b) (sym visibly) (evaluate-mirrors d′ e′ h′ t′ env′ m′))
-
--- ---- all modules in turn
-
--- unless either is 18: both end with the same visible part, or are refused alike, after as many modules
-abbrev pub Close : Ended → Ended → Type 0
-Close (normalised c n) (normalised c′ n′) = (c ≡ c′) × (n .visible ≡ n′ .visible)
-Close (normalised c n) (refused-at k′ c′ m′ w′) = k′ ≡ no-room
-Close (refused-at k c m w) (normalised c′ n′) = k ≡ no-room
-Close (refused-at k c m w) (refused-at k′ c′ m′ w′) =
-    (k ≡ no-room) ⊎ ((k′ ≡ no-room) ⊎ ((k ≡ k′) × (c ≡ c′) × (m ≡ m′) × (w ≡ w′)))
-
-close-left : (k c : ℕ) (m : Name) (w : Culprit) (r : Ended) → k ≡ no-room → Close (refused-at k c m w) r
-close-left k c m w (normalised c′ n′) q = q
-close-left k c m w (refused-at k′ c′ m′ w′) q = inl q
-
-close-right : (k c : ℕ) (m : Name) (w : Culprit) (r : Ended) → k ≡ no-room → Close r (refused-at k c m w)
-close-right k c m w (normalised c′ n′) q = q
-close-right k c m w (refused-at k′ c′ m′ w′) q = inr (inl q)
-
-refused-alike : (k k′ c c′ : ℕ) (m m′ : Name) (w w′ : Culprit) → c ≡ c′ → m ≡ m′ → Together visible-half (stop k w) (stop k′ w′)
-    → Close (refused-at k c m w) (refused-at k′ c′ m′ w′)
-refused-alike k k′ c c′ m m′ w w′ p q (inl e) = inl e
-refused-alike k k′ c c′ m m′ w w′ p q (inr (inl e)) = inr (inl e)
-refused-alike k k′ c c′ m m′ w w′ p q (inr (inr e)) = inr (inr (e .0, p, q, e .1))
-
-one-turn : (asked : Name) (o o′ : Outcome Normal) (c c′ : ℕ) (m m′ : Name) (more more′ : Normal → Ended) → c ≡ c′ → m ≡ m′
-    → ((n n′ : Normal) → o ≡ fine n → o′ ≡ fine n′ → n .visible ≡ n′ .visible)
-    → (m ≡ asked → Together visible-half o o′)
-    → ((n n′ : Normal) → n .visible ≡ n′ .visible → RefusedAtMost asked (more n) → RefusedAtMost asked (more′ n′) → Close (more n) (more′ n′))
-    → RefusedAtMost asked (end-or c m more o) → RefusedAtMost asked (end-or c′ m′ more′ o′)
-    → Close (end-or c m more o) (end-or c′ m′ more′ o′)
-unfolding end-or
-one-turn asked (fine n) (fine n′) c c′ m m′ more more′ q p both together later a a′ = later n n′ (both n n′ refl refl) a a′
-one-turn asked (fine n) (stop k w) c c′ m m′ more more′ q p both together later a a′ = close-right k c′ m′ w (more n) (together (p ∙ a′))
-one-turn asked (stop k w) (fine n′) c c′ m m′ more more′ q p both together later a a′ = close-left k c m w (more′ n′) (together a)
-one-turn asked (stop k w) (stop k′ w′) c c′ m m′ more more′ q p both together later a a′ = refused-alike k k′ c c′ m m′ w w′ q p (together a)
+-- modules that differ in what they hide, both accepted, show the same
+one-shown : (names names′ : Check) (env : List Seen) (m m′ : Module) → SameButHidden m m′ → (v v′ : Visible)
+    → evaluate-visibly names env m ≡ fine v → evaluate-visibly names′ env m′ ≡ fine v′ → v ≡ v′
+one-shown names names′ env m m′ alike v v′ q q′ =
+    let b = accepted-shows names env m v q in
+    let b′ = accepted-shows names′ env m′ v′ q′ in
+    let p : b .imported ≡ b′ .imported =
+    fine-same _ _ (sym (b .from-imports) ∙ (λ i. imported-visibly env (alike .imports i)) ∙ b′ .from-imports) in
+    b .whole ∙ (λ i. visible-in-order (with-own (p i) (public-part (alike .name i) (alike .exports i) (alike .parameters i)))) ∙ sym (b′ .whole)
 
 pub same-named : (m m′ : Module) → m .imports ≡ m′ .imports → named-by m ≡ named-by m′
 unfolding named-by
 same-named m m′ p = ap (λ is. each import-names is) p
 
-seen-length : (env : List Evaluated) → length (map seen-of env) ≡ length env
-seen-length [] = refl
-seen-length (e ∷ env) = ap suc (seen-length env)
+-- ---- all modules in turn: t is how the old call ends, r how the new one, room apart
 
-same-count : (env env′ : List Evaluated) → map seen-of env ≡ map seen-of env′ → length env ≡ length env′
-same-count env env′ p = sym (seen-length env) ∙ ap (λ (xs : List Seen). length xs) p ∙ seen-length env′
+-- the call is not refused at y
+abbrev pub NotAt : EndedVisibly → Name → Type 0
+NotAt t y = (n c : ℕ) (w : Culprit) → t ≡ refuses n c y w → ⊥
 
-all-turns : (asked : Name) (ms ms′ : List Module) (xs xs′ : List Placed) (env env′ : List Evaluated) (last last′ : Normal)
-    → InTurn (Counterparts asked ms ms′) xs xs′ → map seen-of env ≡ map seen-of env′ → last .visible ≡ last′ .visible
-    → RefusedAtMost asked (in-turn (module-names ms) env last xs) → RefusedAtMost asked (in-turn (module-names ms′) env′ last′ xs′)
-    → Close (in-turn (module-names ms) env last xs) (in-turn (module-names ms′) env′ last′ xs′)
-unfolding in-turn
-all-turns asked ms ms′ [] [] env env′ last last′ c seen q a a′ = (same-count env env′ seen, q)
-all-turns asked ms ms′ [] (x′ ∷ xs′) env env′ last last′ c seen q a a′ = absurd c
-all-turns asked ms ms′ (x ∷ xs) [] env env′ last last′ c seen q a a′ = absurd c
-all-turns asked ms ms′ (x ∷ xs) (x′ ∷ xs′) env env′ last last′ c seen q a a′ =
-    let k : Counterparts asked ms ms′ x x′ = c .0 in
-    let alike : SameButHidden (x .self) (x′ .self) = k .alike in
-    one-turn asked
-    (evaluate (module-names ms) (x .earlier) (x .number) (total-of env) env (x .self))
-    (evaluate (module-names ms′) (x′ .earlier) (x′ .number) (total-of env′) env′ (x′ .self))
-    _ _ _ _ _ _ (ap (λ k. k + 1) (same-count env env′ seen)) (alike .name)
-    (both-accepted _ _ _ _ _ _ _ _ env env′ (x .self) (x′ .self) seen alike)
-    (λ p. same-module _ _ _ _ _ _ _ _ env env′ (x .self) (x′ .self) seen (k .asked-same p)
-    (names-same _ _ _ _ (named-by (x .self)) (k .both-missing) (k .both-late)))
-    (λ n n′ v b b′. all-turns asked ms ms′ xs xs′ _ _ n n′ (c .1)
-    (λ i. record { name = alike .name i; visible = v i } ∷ seen i) v b b′)
-    a a′
+-- a reached module is unchanged, or the one call is not refused at it, nor the other
+abbrev pub Passed : EndedVisibly → EndedVisibly → Placed → Placed → Type 0
+Passed t r x x′ = (x .self ≡ x′ .self) ⊎ (NotAt t (x .self .name) × NotAt r (x′ .self .name))
 
-pub normalise-stands : (asked : Name) (ms : List Module) → member asked (module-names ms) ≡ true
-    → normalise asked ms ≡ in-turn (module-names ms) [] empty (reached asked ms)
-unfolding normalise pick
-normalise-stands asked ms e = rw e
+not-stopped : (t : EndedVisibly) (c : ℕ) (u : Name) (more : Visible → EndedVisibly) (o : Outcome Visible) → end-visibly c u more o ≡ t → NotAt t u
+    → (v : Visible) × (o ≡ fine v)
+unfolding end-visibly
+not-stopped t c u more (fine v) q h = (v, refl)
+not-stopped t c u more (stop n w) q h = absurd (h n c w (sym q))
+
+-- the same outcome in both, and where it is fine the rest ends alike: the calls end alike
+one-turn : (t r : EndedVisibly) (o o′ : Outcome Visible) (c : ℕ) (u u′ : Name) (more more′ : Visible → EndedVisibly) → u ≡ u′ → o ≡ o′
+    → ((v : Visible) → more v ≡ t → more′ v ≡ r → t ≡ r)
+    → end-visibly c u more o ≡ t → end-visibly c u′ more′ o′ ≡ r → t ≡ r
+unfolding end-visibly
+one-turn t r (fine v) o′ c u u′ more more′ p e later q q′ = later v q (ap (end-visibly c u′ more′) e ∙ q′)
+one-turn t r (stop k w) o′ c u u′ more more′ p e later q q′ =
+    sym q ∙ ap (λ (x : Name). refuses k c x w) p ∙ ap (end-visibly c u′ more′) e ∙ q′
+
+all-turns : (asked : Name) (ms ms′ : List Module) (t r : EndedVisibly) (xs xs′ : List Placed) (env : List Seen) (last : Visible)
+    → InTurn (Counterparts asked ms ms′) xs xs′ → InTurn (Passed t r) xs xs′
+    → in-turn-visibly (module-names ms) env last xs ≡ t → in-turn-visibly (module-names ms′) env last xs′ ≡ r → t ≡ r
+unfolding in-turn-visibly
+all-turns asked ms ms′ t r [] [] env last c s q q′ = sym q ∙ q′
+all-turns asked ms ms′ t r [] (x′ ∷ xs′) env last c s q q′ = absurd c
+all-turns asked ms ms′ t r (x ∷ xs) [] env last c s q q′ = absurd c
+all-turns asked ms ms′ t r (x ∷ xs) (x′ ∷ xs′) env last c s q q′ =
+    one-turn t r one other (length env + 1) _ _ _ _ (alike .name) (same-outcome (s .0))
+    (λ v g g′. all-turns asked ms ms′ t r xs xs′ (seen-as (x .self) v ∷ env) v (c .1) (s .1) g
+    ((λ i. in-turn-visibly (module-names ms′) (record { name = alike .name i; visible = v } ∷ env) v xs′) ∙ g′))
+    q q′
+  where
+    one : Outcome Visible
+    one = evaluate-visibly (names-right (module-names ms) (x .earlier) (named-by (x .self))) env (x .self)
+
+    other : Outcome Visible
+    other = evaluate-visibly (names-right (module-names ms′) (x′ .earlier) (named-by (x′ .self))) env (x′ .self)
+
+    alike : SameButHidden (x .self) (x′ .self)
+    alike = c .0 .alike
+
+    names : names-right (module-names ms) (x .earlier) (named-by (x .self)) ≡ names-right (module-names ms′) (x′ .earlier) (named-by (x .self))
+    names = names-same _ _ _ _ (named-by (x .self)) (c .0 .both-missing) (c .0 .both-late)
+
+    same-outcome : Passed t r x x′ → one ≡ other
+    same-outcome (inl p) =
+        (λ i. evaluate-visibly (names i) env (x .self))
+        ∙ (λ i. evaluate-visibly (names-right (module-names ms′) (x′ .earlier) (named-by (p i))) env (p i))
+    same-outcome (inr n) =
+        let y = not-stopped t _ _ _ _ q (n .0) in
+        let z = not-stopped r _ _ _ _ q′ (n .1) in
+        y .1 ∙ ap fine (one-shown _ _ env (x .self) (x′ .self) alike (y .0) (z .0) (y .1) (z .1)) ∙ sym (z .1)
+
+-- the two calls end alike, room apart
+pub both-alike : (asked : Name) (ms ms′ : List Module) → member asked (module-names ms) ≡ true → member asked (module-names ms′) ≡ true
+    → InTurn (Counterparts asked ms ms′) (reached asked ms) (reached asked ms′)
+    → InTurn (Passed (normalise-visibly asked ms) (normalise-visibly asked ms′)) (reached asked ms) (reached asked ms′)
+    → normalise-visibly asked ms ≡ normalise-visibly asked ms′
+both-alike asked ms ms′ e e′ c s =
+    all-turns asked ms ms′ _ _ (reached asked ms) (reached asked ms′) [] nothing-visible c s
+    (sym (stands-visibly asked ms e)) (sym (stands-visibly asked ms′ e′))
+
+-- ---- where the other modules are accepted
+
+-- in turn, from each
+pub in-turn-so : (R S : Placed → Placed → Type 0) → ((x x′ : Placed) → R x x′ → S x x′) → (xs xs′ : List Placed) → InTurn R xs xs′ → InTurn S xs xs′
+in-turn-so R S h [] [] k = tt
+in-turn-so R S h [] (x′ ∷ xs′) k = absurd k
+in-turn-so R S h (x ∷ xs) [] k = absurd k
+in-turn-so R S h (x ∷ xs) (x′ ∷ xs′) k = (h x x′ (k .0), in-turn-so R S h xs xs′ (k .1))
+
+-- unless either is 18: both show the same, or are refused alike, after as many modules
+abbrev pub Close : Ended → Ended → Type 0
+Close e e′ = Eighteen e ⊎ (Eighteen e′ ⊎ (as-seen e ≡ as-seen e′))
+
+pub close-so : (e e′ : Ended) (t t′ : EndedVisibly) → Reflects e t → Reflects e′ t′ → (t ≡ as-seen e → t′ ≡ as-seen e′ → t ≡ t′) → Close e e′
+close-so e e′ t t′ (inl h) h′ k = inl h
+close-so e e′ t t′ (inr h) (inl h′) k = inr (inl h′)
+close-so e e′ t t′ (inr h) (inr h′) k = inr (inr (sym h ∙ k h h′ ∙ h′))
+
+-- the call is refused, if at all, at another module than y
+abbrev pub NotRefusedAt : Name → Ended → Type 0
+NotRefusedAt y (normalised count n) = Unit {0}
+NotRefusedAt y (refused-at number count evaluating culprit) = evaluating ≡ y → ⊥
+
+pub not-at : (y : Name) (e : Ended) (t : EndedVisibly) → NotRefusedAt y e → t ≡ as-seen e → NotAt t y
+unfolding as-seen
+not-at y (normalised c n) t a h k j w q = no-refusal c k j (n .visible) y w (sym h ∙ q)
+not-at y (refused-at i l m v) t a h k j w q = a (told-at (sym h ∙ q))
+  where
+    told-at : refuses i l m v ≡ refuses k j y w → m ≡ y
+    told-at e = cc
+
+at-most : (asked y : Name) (e : Ended) → RefusedAtMost asked e → same y asked ≡ false → NotRefusedAt y e
+at-most asked y (normalised c n) a f = tt
+at-most asked y (refused-at i l m v) a f = λ p. clear (sym (sym f ∙ ap (λ (x : Name). same x asked) (sym p ∙ a) ∙ same-refl asked))
 
 pub normalise-close : (asked : Name) (texts texts′ : Texts) (ms ms′ : List Module) → Comparable InTheCall asked texts texts′ ms ms′
     → Close (normalise asked ms) (normalise asked ms′)
 normalise-close asked texts texts′ ms ms′ c =
-    let p = normalise-stands asked ms (c .stands) in
-    let p′ = normalise-stands asked ms′ (c .stands′) in
-    subst (λ r. Close r (normalise asked ms′)) (sym p)
-    (subst (λ r. Close (in-turn (module-names ms) [] empty (reached asked ms)) r) (sym p′)
-    (all-turns asked ms ms′ (reached asked ms) (reached asked ms′) [] [] empty empty (c .same-order) refl refl
-    (subst (λ r. RefusedAtMost asked r) p (c .accepted)) (subst (λ r. RefusedAtMost asked r) p′ (c .accepted′))))
+    close-so (normalise asked ms) (normalise asked ms′) _ _ (normalise-reflects asked ms) (normalise-reflects asked ms′)
+    (λ h h′. both-alike asked ms ms′ (c .stands) (c .stands′) (c .same-order)
+    (in-turn-so _ _ (passed h h′) (reached asked ms) (reached asked ms′) (c .same-order)))
+  where
+    passed : normalise-visibly asked ms ≡ as-seen (normalise asked ms) → normalise-visibly asked ms′ ≡ as-seen (normalise asked ms′)
+        → (x x′ : Placed) → Counterparts asked ms ms′ x x′ → Passed (normalise-visibly asked ms) (normalise-visibly asked ms′) x x′
+    passed h h′ x x′ k = go (same (x .self .name) asked) refl
+      where
+        go : (b : Bool) → same (x .self .name) asked ≡ b → Passed (normalise-visibly asked ms) (normalise-visibly asked ms′) x x′
+        go true q = inl (k .asked-same (same-eq (x .self .name) asked q))
+        go false q = inr (
+          not-at (x .self .name) (normalise asked ms) _ (at-most asked (x .self .name) (normalise asked ms) (c .accepted) q) h,
+          not-at (x′ .self .name) (normalise asked ms′) _ (at-most asked (x′ .self .name) (normalise asked ms′) (c .accepted′)
+              (ap (λ (w : Name). same w asked) (sym (k .alike .name)) ∙ q)) h′,
+        )
 
 -- ---- the answers
 
 -- the visible part of the bytes is the text of the visible lines
-abbrev Tied : Answer → Type 0
+abbrev pub Tied : Answer → Type 0
 Tied r = visible-part (listing r) ≡ lines-text (shown false (r .lines))
 
-ended-same : (asked : Name) (e e′ : Ended) → Tied (of-ended asked e) → Tied (of-ended asked e′) → Close e e′
-    → Agreeing (of-ended asked e) (of-ended asked e′)
+pub short-of-room : (asked : Name) (e : Ended) → Eighteen e → ShortOfRoom (of-ended asked e)
 unfolding of-ended refusal
-ended-same asked (normalised c n) (normalised c′ n′) t t′ q = inr (inr record {
+short-of-room asked (normalised c n) h = absurd h
+short-of-room asked (refused-at k c m w) h = inl h
+
+seen-same : (asked : Name) (e e′ : Ended) → Tied (of-ended asked e) → Tied (of-ended asked e′) → as-seen e ≡ as-seen e′
+    → SameAnswer (of-ended asked e) (of-ended asked e′)
+unfolding of-ended refusal as-seen
+seen-same asked (normalised c n) (normalised c′ n′) t t′ q = record {
   number = refl;
-  modules = q .0;
+  modules = counts;
   evaluating = refl;
   culprit = refl;
   at = refl;
   in-library = refl;
   visible-lines =
       t ∙ ap lines-text
-      (listing-shown asked n ∙ (λ i. shown false (line "module" asked ∷ visible-lines (q .1 i))) ∙ sym (listing-shown asked n′)) ∙ sym t′;
-})
-ended-same asked (normalised c n) (refused-at k c′ m w) t t′ q = inr (inl (inl q))
-ended-same asked (refused-at k c m w) (normalised c′ n′) t t′ q = inl (inl q)
-ended-same asked (refused-at k c m w) (refused-at k′ c′ m′ w′) t t′ (inl q) = inl (inl q)
-ended-same asked (refused-at k c m w) (refused-at k′ c′ m′ w′) t t′ (inr (inl q)) = inr (inl (inl q))
-ended-same asked (refused-at k c m w) (refused-at k′ c′ m′ w′) t t′ (inr (inr q)) = inr (inr record {
-  number = q .0;
-  modules = q .1;
-  evaluating = q .2;
-  culprit = q .3;
+      (listing-shown asked n ∙ (λ i. shown false (line "module" asked ∷ visible-lines (parts i))) ∙ sym (listing-shown asked n′)) ∙ sym t′;
+}
+  where
+    counts : c ≡ c′
+    counts = cc
+
+    parts : n .visible ≡ n′ .visible
+    parts = cc
+seen-same asked (normalised c n) (refused-at k c′ m w) t t′ q = no-refusal c k c′ (n .visible) m w q
+seen-same asked (refused-at k c m w) (normalised c′ n′) t t′ q = no-refusal c′ k c (n′ .visible) m w (sym q)
+seen-same asked (refused-at k c m w) (refused-at k′ c′ m′ w′) t t′ q = record {
+  number = cc;
+  modules = cc;
+  evaluating = cc;
+  culprit = cc;
   at = refl;
   in-library = refl;
   visible-lines = refl;
-})
+}
+
+pub ended-same : (asked : Name) (e e′ : Ended) → Tied (of-ended asked e) → Tied (of-ended asked e′) → Close e e′
+    → Agreeing (of-ended asked e) (of-ended asked e′)
+ended-same asked e e′ t t′ (inl q) = inl (short-of-room asked e q)
+ended-same asked e e′ t t′ (inr (inl q)) = inr (inl (short-of-room asked e′ q))
+ended-same asked e e′ t t′ (inr (inr q)) = inr (inr (seen-same asked e e′ t t′ q))
 
 -- the answer is 19, or it is how the call ended
 abbrev pub Short : Answer → Answer → Type 0
@@ -210,7 +245,12 @@ unfolding answer within refusal of-read
 answer-ended memory output asked texts ms e =
     short-first _ _ _ _ refl (short-second _ _ _ _ refl (inr (ap (of-read asked) (e .reads))))
 
-agreeing : (r r′ e e′ : Answer) → Short r e → Short r′ e′ → Agreeing e e′ → Agreeing r r′
+-- a call that is refused by 18 is so told, or by 19
+pub eighteen-told : (asked : Name) (e : Ended) (r : Answer) → Eighteen e → Short r (of-ended asked e) → ShortOfRoom r
+eighteen-told asked e r h (inl p) = inr p
+eighteen-told asked e r h (inr p) = subst ShortOfRoom (sym p) (short-of-room asked e h)
+
+pub agreeing : (r r′ e e′ : Answer) → Short r e → Short r′ e′ → Agreeing e e′ → Agreeing r r′
 agreeing r r′ e e′ (inl p) q h = inl (inr p)
 agreeing r r′ e e′ (inr p) (inl q) h = inr (inl (inr q))
 agreeing r r′ e e′ (inr p) (inr q) h = subst (λ x. Agreeing x r′) (sym p) (subst (λ x. Agreeing e x) (sym q) h)

@@ -61,7 +61,7 @@ unfolding pick
 pick-false true r e = let z : _≡_ {A = ℕ} 0 1 = cc in absurd (omega arith)
 pick-false false r e = (refl, e)
 
-or-none : {A : Type 0} (a b : Option A) → or-else a b ≡ none → (a ≡ none) × (b ≡ none)
+pub or-none : {A : Type 0} (a b : Option A) → or-else a b ≡ none → (a ≡ none) × (b ≡ none)
 unfolding or-else
 or-none none b e = (refl, e)
 or-none (some x) b e = let z : _≡_ {A = ℕ} 0 1 = cc in absurd (omega arith)
