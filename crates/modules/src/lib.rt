@@ -30,7 +30,7 @@ fn is_module(role: u32) -> bool
 }
 
 // Is the name at an entry with the role that of a module which an import or a binding uses?
-fn names_module(role: u32) -> bool
+pub fn names_module(role: u32) -> bool
     ensures { λ r. ⌜ r ≡ names-module role ⌝ }
 {
     if role == 11 {
