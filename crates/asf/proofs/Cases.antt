@@ -1,8 +1,8 @@
 -- One law for each way through the code.
-use mathlib.Core.Path.{_≡_, refl, sym, ap, _∙_}
+use mathlib.Core.Path.{_≡_, sym, _∙_}
 use Prim.Native.Nat.{ℕ, _-_, _<_, _≤_}
 use native.Mathlib.Omega.{arith}
-use mathlib.Core.List.{List, [], _∷_}
+use mathlib.Core.List.{List, []}
 use mir.Syntax.{w32}
 use mir.Val.{Fits}
 use borrow.Author.Needs.{needs}
@@ -17,25 +17,14 @@ use Rattle.meaning.specs.Contract.{call}
 use Rattle.answers.specs.declared.Answer.{Answer}
 use Rattle.answers.specs.Answers.{told, returned, told-call}
 use Rattle.answers.specs.Told.{refusal-leaves}
+use Rattle.memory.proofs.Cases.{same-zeros}
 use Rattle.asf.specs.Steps.{Answered, Spoken}
 use Rattle.asf.specs.Meant.{end-within, tape-room, unread-answered, read-spoken, tape-within, tape-small, asked-found, absent-answered, found-within, found-given, refused-answered, form-evaluated, listed-within, hidden-few, listed-answered, long-answered}
 
 -- ---- the whole call
 
-pub is-size : 1048576 ≡ memory-size
-unfolding memory-size
-is-size = refl
-
 pub tape-fits : (x : Reading) (text : List ℕ) (t : ℕ) (w : List ℕ) → Spoken x text t w → Fits w32 t
 tape-fits x text t w s = omega (arith, tape-small x text t w s)
-
--- zeros are zeros, whatever stood there
-same-zeros : (w v : List ℕ) → length w ≡ length v → memory-after w ≡ memory-after v
-unfolding memory-after
-same-zeros [] [] e = refl
-same-zeros [] (y ∷ v) e = absurd (omega (arith, e))
-same-zeros (x ∷ w) [] e = absurd (omega (arith, e))
-same-zeros (x ∷ w) (y ∷ v) e = ap (λ (r : List ℕ). 0 ∷ r) (same-zeros w v (omega (arith, e)))
 
 module _ (asked : List ℕ) (t : Texts) (w o : List ℕ) (size : ℕ) (e : size ≡ memory-size) (r : Answer) where
   pub memory-short : (w′ : List ℕ) → length w < size → w′ ≡ memory-after w → r ≡ told (refusal lent-short 0 asked (lone []) 0)
@@ -54,4 +43,4 @@ module _ (asked : List ℕ) (t : Texts) (w o : List ℕ) (size : ℕ) (e : size 
       rw there
       (λ i. record { answer = a .answer i; output = a .output i; memory = (z ∙ same-zeros w₁ w s) i })
 
-pub ruleset cases = (is-size, tape-fits, memory-short, call-answered, end-within, tape-room, unread-answered, read-spoken, tape-within, asked-found, absent-answered, found-within, found-given, refused-answered, form-evaluated, listed-within, hidden-few, listed-answered, long-answered, needs)
+pub ruleset cases = (tape-fits, memory-short, call-answered, end-within, tape-room, unread-answered, read-spoken, tape-within, asked-found, absent-answered, found-within, found-given, refused-answered, form-evaluated, listed-within, hidden-few, listed-answered, long-answered, needs)

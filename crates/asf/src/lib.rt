@@ -10,6 +10,7 @@ use layout::table_start;
 use layout::tape_end;
 use listing::Written;
 use listing::write_listing;
+pub use memory::memory_size;
 use modules::Heads;
 use modules::find_asked;
 use modules::find_heads;
@@ -27,13 +28,6 @@ ghost use Rattle.meaning.specs.Contract.{call};
 ghost use Rattle.names.specs.Joint.{joint};
 ghost use Rattle.answers.specs.Answers.{returned, told-call};
 ghost use Rattle.asf.specs.Steps.{Answered, Spoken, Found, Evaluated};
-
-// How many words the working memory has at the least.
-pub fn memory_size() -> usize
-    ensures { λ r. ⌜ r ≡ memory-size ⌝ }
-{
-    1048576
-}
 
 // The listing of the form kept for module number `last`, under the name, after `count` modules were evaluated; 19 where it is longer than the
 // lent output.

@@ -7,6 +7,7 @@ use native.Mathlib.Numerals.{add-one}
 use borrow.Author.Needs.{needs}
 use lib.ListN.{length, take, set, length-set}
 use lib.Seq.{take-all, take-suc-set, map-set-same}
+use Rattle.meaning.specs.Numbers.{memory-size}
 use Rattle.meaning.specs.Answer.{memory-after}
 
 -- one zero more
@@ -36,4 +37,18 @@ zero-on work₀ work after i h l e =
 pub zero-done : (work₀ work : List ℕ) (i : ℕ) → Zeroing work₀ work i → length work ≤ i → work ≡ memory-after work₀
 zero-done work₀ work i h l = (rw (take-all i work l) at (h .begun)) ∙ h .kept
 
-pub ruleset cases = (zero-none, zero-on, zero-done, needs)
+-- zeros are zeros, whatever stood there
+pub same-zeros : (w v : List ℕ) → length w ≡ length v → memory-after w ≡ memory-after v
+unfolding memory-after
+same-zeros [] [] e = refl
+same-zeros [] (y ∷ v) e = absurd (omega (arith, e))
+same-zeros (x ∷ w) [] e = absurd (omega (arith, e))
+same-zeros (x ∷ w) (y ∷ v) e = ap (λ (r : List ℕ). 0 ∷ r) (same-zeros w v (omega (arith, e)))
+
+-- ---- how much there is
+
+pub is-size : 1048576 ≡ memory-size
+unfolding memory-size
+is-size = refl
+
+pub ruleset cases = (zero-none, zero-on, zero-done, is-size, needs)
