@@ -213,6 +213,104 @@ static void read_back(void) {
     give_back(values);
 }
 
+/* What one call of asf_decide lends: a module's name, two specifications, memory, values and names. */
+struct decision {
+    struct lent name, texts[4], work, values, names;
+};
+
+/* The lengths of the name and of the texts, old library, old text, new library, new text, stand first; they are read. */
+static struct decision lend_decision(const uint32_t *lengths, size_t words, size_t values, size_t names) {
+    struct decision d;
+    d.name = taken(lengths[0]);
+    for (int i = 0; i < 4; i++) d.texts[i] = taken(lengths[i + 1]);
+    d.work = lend(words * 4);
+    d.values = lend(values * sizeof(size_t));
+    d.names = lend(names);
+    return d;
+}
+
+static void give_back_decision(struct decision *d) {
+    give_back(d->name);
+    for (int i = 0; i < 4; i++) give_back(d->texts[i]);
+    give_back(d->work);
+    give_back(d->values);
+    give_back(d->names);
+}
+
+static uint32_t decide_call(struct decision *d) {
+    const struct lent *t = d->texts;
+    return asf_decide(d->name.start, d->name.length, t[0].start, t[0].length, t[1].start, t[1].length, t[2].start, t[2].length, t[3].start,
+                      t[3].length, (uint32_t *)d->work.start, d->work.length / 4, (size_t *)d->values.start,
+                      d->values.length / sizeof(size_t), d->names.start, d->names.length);
+}
+
+static uint64_t sum_decision(const struct decision *d) {
+    uint64_t all = sum(d->name, 14695981039346656037u);
+    for (int i = 0; i < 4; i++) all = sum(d->texts[i], all);
+    return all;
+}
+
+static uint32_t broken_decision(const struct decision *d, uint64_t decision_sum) {
+    uint32_t flags = all_zero(d->work) ? 0 : MEMORY_NOT_ZERO;
+    int guards = guarded(d->name) && guarded(d->work) && guarded(d->values) && guarded(d->names);
+    for (int i = 0; i < 4; i++) guards = guards && guarded(d->texts[i]);
+    if (!guards) flags |= GUARD_CHANGED;
+    if (sum_decision(d) != decision_sum) flags |= INPUT_CHANGED;
+    return flags;
+}
+
+/* Lengths of name, old library, old text, new library, new text, memory in words, values and names; then name and texts. The reply: number,
+ * what was broken, values, names. */
+static void decide(void) {
+    uint32_t h[8];
+    get(h, sizeof h);
+    struct decision d = lend_decision(h, h[5], h[6], h[7]);
+    uint64_t decision_sum = sum_decision(&d);
+    put_word(decide_call(&d));
+    put_word(broken_decision(&d, decision_sum));
+    put(d.values.start, d.values.length);
+    put(d.names.start, d.names.length);
+    give_back_decision(&d);
+}
+
+/* Lengths of library and text, a module's number, lengths of memory in words and of names; then library and text. The reply: the name's
+ * length, what was broken, names. */
+static void name_module(void) {
+    uint32_t h[5];
+    get(h, sizeof h);
+    struct lent library = taken(h[0]), text = taken(h[1]), work = lend((size_t)h[3] * 4), names = lend(h[4]);
+    uint64_t texts_sum = sum(text, sum(library, 0));
+    put_word((uint32_t)asf_module_name(library.start, library.length, text.start, text.length, h[2], (uint32_t *)work.start, h[3],
+                                       names.start, names.length));
+    int guards = guarded(library) && guarded(text) && guarded(work) && guarded(names);
+    put_word((all_zero(work) ? 0 : MEMORY_NOT_ZERO) | (guards ? 0 : GUARD_CHANGED) |
+             (sum(text, sum(library, 0)) == texts_sum ? 0 : INPUT_CHANGED));
+    put(names.start, names.length);
+    give_back(library);
+    give_back(text);
+    give_back(work);
+    give_back(names);
+}
+
+/* Lengths as for a decision up to the texts', and how often; then name and texts. The reply: number, and the least processor time of a call in
+ * nanoseconds. */
+static void time_decisions(void) {
+    uint32_t h[6];
+    get(h, sizeof h);
+    struct decision d = lend_decision(h, asf_memory_words(), ASF_DECISION_VALUES, ASF_DECISION_NAMES);
+    uint32_t number = 0;
+    uint64_t least = UINT64_MAX;
+    for (uint32_t i = 0; i < h[5]; i++) {
+        uint64_t start = now();
+        number = decide_call(&d);
+        uint64_t taken = now() - start;
+        if (taken < least) least = taken;
+    }
+    put_word(number);
+    put_long(least);
+    give_back_decision(&d);
+}
+
 /* Lengths of name, library, text and output, and how often; then name, library and text. The reply: number, and the least processor time of a
  * call in nanoseconds. The library clears the working memory within the call. */
 static void time_calls(void) {
@@ -239,6 +337,9 @@ int main(void) {
         else if (kind == 1) read_back();
         else if (kind == 2) time_calls();
         else if (kind == 3) fetch();
+        else if (kind == 4) decide();
+        else if (kind == 5) name_module();
+        else if (kind == 6) time_decisions();
         else stop("no such request");
         fflush(stdout);
     }

@@ -35,13 +35,13 @@ static struct bytes name, library, text;
 /* What a call is lent, and what it has left. */
 static uint32_t work[ASF_MEMORY_WORDS];
 static uint8_t out[65536];
-static size_t values[ASF_VALUES], part[ASF_PART_VALUES], line[ASF_LINE_VALUES];
+static size_t values[ASF_VALUES], part[ASF_PART_VALUES], line[ASF_LINE_VALUES], decision[ASF_DECISION_VALUES];
 static uint8_t names[ASF_NAMES];
 static size_t place;
 
 /* What a call returns is kept behind it, so that none is made by a jump which leaves the caller's frame. */
 static volatile uint32_t number;
-static volatile size_t visible;
+static volatile size_t told_length;
 
 /* The frame that calls: all below it is the call's, since a function that notes its frame here keeps nothing there. */
 static const uint8_t *caller;
@@ -65,7 +65,19 @@ NOTING call_line(void) {
 
 NOTING call_visible(void) {
     caller = __builtin_frame_address(0);
-    visible = asf_visible(out, values[ASF_LISTING_LENGTH]);
+    told_length = asf_visible(out, values[ASF_LISTING_LENGTH]);
+}
+
+/* From a specification to itself, so that all of it is compared. */
+NOTING call_decide(void) {
+    caller = __builtin_frame_address(0);
+    number = asf_decide(name.start, name.length, library.start, library.length, text.start, text.length, library.start, library.length,
+                        text.start, text.length, work, ASF_MEMORY_WORDS, decision, ASF_DECISION_VALUES, names, ASF_DECISION_NAMES);
+}
+
+NOTING call_module_name(void) {
+    caller = __builtin_frame_address(0);
+    told_length = asf_module_name(library.start, library.length, text.start, text.length, 0, work, ASF_MEMORY_WORDS, names, ASF_NAME_BYTES);
 }
 
 static void call_lines(void) {
@@ -188,6 +200,8 @@ static void read_input(const char *path) {
 static void measure_input(const char *path) {
     read_input(path);
     tell("asf_fetch", call_fetch, path);
+    tell("asf_decide", call_decide, path);
+    tell("asf_module_name", call_module_name, path);
     tell("asf_normalise", call_normalise, path);
     if (number != 0) return;
     tell("asf_line", call_lines, path);

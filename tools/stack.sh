@@ -32,7 +32,7 @@ inputs=(rust/reference/vectors/*/*.in build/texts/*.in)
 
 echo "bytes of stack that a call in $library takes, the most of ${#inputs[@]} inputs first"
 grep asf_normalise $library/stack.txt | sed -n 1,5p
-for other in asf_fetch asf_line asf_visible; do grep -m 1 $other $library/stack.txt; done
+for other in asf_fetch asf_decide asf_module_name asf_line asf_visible; do grep -m 1 $other $library/stack.txt; done
 over=$(awk -v limit="$limit" 'limit != "" && $1 > limit + 0' $library/stack.txt)
 [ -z "$over" ] && exit 0
 echo "tools/stack.sh: $(wc -l <<<"$over") calls take more than $limit bytes of stack, the most of them $(head -n 1 <<<"$over")" >&2

@@ -1,7 +1,8 @@
 //! The calls of C, and what they are lent.
 
+use crate::decision::{Decision, Unread, Why};
 use crate::refusal::Refusal;
-use crate::{Listing, Specification, NAME_BYTES, OUTPUT_BYTES};
+use crate::{Listing, Specification, MODULES, NAME_BYTES, OUTPUT_BYTES};
 use std::ops::Range;
 
 // As in `c/asf.h`: a pointer is followed by the number of elements behind it.
@@ -33,6 +34,35 @@ extern "C" {
         values: *mut usize,
         values_length: usize,
     ) -> u32;
+    fn asf_decide(
+        asked: *const u8,
+        asked_length: usize,
+        old_library: *const u8,
+        old_library_length: usize,
+        old_text: *const u8,
+        old_text_length: usize,
+        new_library: *const u8,
+        new_library_length: usize,
+        new_text: *const u8,
+        new_text_length: usize,
+        work: *mut u32,
+        work_length: usize,
+        values: *mut usize,
+        values_length: usize,
+        names: *mut u8,
+        names_length: usize,
+    ) -> u32;
+    fn asf_module_name(
+        library: *const u8,
+        library_length: usize,
+        text: *const u8,
+        text_length: usize,
+        k: u32,
+        work: *mut u32,
+        work_length: usize,
+        names: *mut u8,
+        names_length: usize,
+    ) -> usize;
     fn asf_line(
         listing: *const u8,
         listing_length: usize,
@@ -100,6 +130,99 @@ impl Memory {
             at,
             in_library: in_library != 0,
         })
+    }
+
+    /// Decides what to do before a stored visible part of the asked module, which is that of the old specification, is shown for the new one.
+    /// See [`Decision`].
+    pub fn decide<'o, 'n>(
+        &mut self,
+        asked: &[u8],
+        old: impl Into<Specification<'o>>,
+        new: impl Into<Specification<'n>>,
+    ) -> Decision {
+        let new = new.into();
+        let mut values = [0; 9];
+        let mut names = [0; 2 * NAME_BYTES];
+        let number = self.call_decide(asked, old.into(), new, &mut values, &mut names);
+        let [reason, low, high, refusal, at, in_new, in_library, by, name] = values;
+        match number {
+            0 => Decision::KeepAfter(self.named(low | high << 32, new)),
+            1 => Decision::AskAgain(Why {
+                reason: reason as u32,
+                module: match reason {
+                    // the asked name is told only where it has at most 40 bytes
+                    1 | 2 => asked.to_vec(),
+                    _ => names[..by].to_vec(),
+                },
+                name: names[NAME_BYTES..][..name].to_vec(),
+            }),
+            2 => Decision::NotRead(Unread {
+                number: refusal as u32,
+                at,
+                in_new: in_new != 0,
+                in_library: in_library != 0,
+            }),
+            other => unreachable!("{}: the working memory has its size", other),
+        }
+    }
+
+    /// The names of the modules of a set, in the order of the specification.
+    fn named(&mut self, set: usize, specification: Specification<'_>) -> Vec<Vec<u8>> {
+        (0..MODULES)
+            .filter(|number| set >> number & 1 == 1)
+            .map(|number| self.module_name(number as u32, specification))
+            .collect()
+    }
+
+    fn module_name(&mut self, number: u32, specification: Specification<'_>) -> Vec<u8> {
+        let (library, text) = (specification.library(), specification.text());
+        let mut name = [0; NAME_BYTES];
+        // SAFETY: as below.
+        let length = unsafe {
+            asf_module_name(
+                library.as_ptr(),
+                library.len(),
+                text.as_ptr(),
+                text.len(),
+                number,
+                self.work.as_mut_ptr(),
+                self.work.len(),
+                name.as_mut_ptr(),
+                name.len(),
+            )
+        };
+        name[..length].to_vec()
+    }
+
+    fn call_decide(
+        &mut self,
+        asked: &[u8],
+        old: Specification<'_>,
+        new: Specification<'_>,
+        values: &mut [usize],
+        names: &mut [u8],
+    ) -> u32 {
+        // SAFETY: as below.
+        unsafe {
+            asf_decide(
+                asked.as_ptr(),
+                asked.len(),
+                old.library().as_ptr(),
+                old.library().len(),
+                old.text().as_ptr(),
+                old.text().len(),
+                new.library().as_ptr(),
+                new.library().len(),
+                new.text().as_ptr(),
+                new.text().len(),
+                self.work.as_mut_ptr(),
+                self.work.len(),
+                values.as_mut_ptr(),
+                values.len(),
+                names.as_mut_ptr(),
+                names.len(),
+            )
+        }
     }
 
     fn call(

@@ -54,7 +54,7 @@ impl Refusal {
 }
 
 /// What each number says, in the words of the help sheet (docs/ANSWERS.md), which has an example and a remedy for each.
-fn text(number: u32) -> &'static str {
+pub(crate) fn text(number: u32) -> &'static str {
     match number {
         1 => "these bytes are no part of the language",
         2 => "this may not stand here",

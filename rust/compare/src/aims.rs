@@ -27,7 +27,7 @@ pub fn near(number: u32, random: &mut Random) -> u32 {
     }
 }
 
-/// Changes a specification so that it is likely to be refused with the number.
+/// Changes a specification so that it is likely to be refused with the number, mostly in its last module.
 pub fn aim(number: u32, specification: &mut Specification, random: &mut Random) {
     let last = specification.modules.len() - 1;
     let index = if random.chance(70) {
@@ -35,6 +35,11 @@ pub fn aim(number: u32, specification: &mut Specification, random: &mut Random) 
     } else {
         random.below(last + 1)
     };
+    aim_at(number, specification, index, random);
+}
+
+/// The same in a module of one's choice.
+pub fn aim_at(number: u32, specification: &mut Specification, index: usize, random: &mut Random) {
     match number {
         5 => module_twice(specification, random),
         7 => module_absent(specification, index, random),
@@ -514,6 +519,7 @@ fn ill_typed(specification: &mut Specification, index: usize, random: &mut Rando
             tag: name("bad"),
             conditions: Vec::new(),
             conclusion: sides,
+            when: false,
         });
         return;
     };

@@ -328,6 +328,7 @@ impl Ground<'_> {
             tag: names::tag(random),
             conditions,
             conclusion,
+            when: false,
         })
     }
 

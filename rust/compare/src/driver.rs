@@ -10,6 +10,9 @@ pub const MEMORY_WORDS: usize = 1_048_576;
 /// The values and the bytes of names that an answer has (`c/asf.h`).
 pub const VALUES: usize = 8;
 pub const NAMES: usize = 3 * NAME_BYTES;
+/// The values and names that a decision tells.
+pub const DECISION_VALUES: usize = 9;
+pub const DECISION_NAMES: usize = 2 * NAME_BYTES;
 /// What the driver fills lent memory with.
 pub const FILL: u8 = 0xa5;
 
@@ -88,6 +91,59 @@ impl Driver {
         })
     }
 
+    /// Whether a part may be kept, with room for so many values and bytes of names, and so many words of memory.
+    pub fn decide(
+        &mut self,
+        asked: &[u8],
+        old: Texts,
+        new: Texts,
+        (values, names): (usize, usize),
+        memory: usize,
+    ) -> io::Result<Reply> {
+        self.ask_both(4, asked, old, new, &[memory, values, names])?;
+        Ok(Reply {
+            number: self.word()?,
+            broken: self.word()?,
+            values: self.longs(values)?,
+            names: self.bytes(names)?,
+            ..Reply::default()
+        })
+    }
+
+    /// The name of a module by its number, with so many words of memory and room for so many bytes; its length is the reply's number.
+    pub fn module_name(
+        &mut self,
+        texts: Texts,
+        number: usize,
+        memory: usize,
+        names: usize,
+    ) -> io::Result<Reply> {
+        let lengths = [texts.library.len(), texts.customer.len()];
+        self.send(&[&[5], &lengths[..], &[number, memory, names]].concat())?;
+        self.send_bytes(&[texts.library, texts.customer])?;
+        Ok(Reply {
+            number: self.word()?,
+            broken: self.word()?,
+            names: self.bytes(names)?,
+            ..Reply::default()
+        })
+    }
+
+    /// The least time of a decision in nanoseconds, and what it is.
+    pub fn time_decision(
+        &mut self,
+        asked: &[u8],
+        old: Texts,
+        new: Texts,
+        times: usize,
+    ) -> io::Result<Times> {
+        self.ask_both(6, asked, old, new, &[times])?;
+        Ok(Times {
+            number: self.word()?,
+            least: self.long()?,
+        })
+    }
+
     /// Where the part stands that declares a module, with room for so many values.
     pub fn fetch(&mut self, name: &[u8], texts: Texts, values: usize) -> io::Result<Reply> {
         self.ask(3, name, texts, &[values])?;
@@ -140,6 +196,20 @@ impl Driver {
         let lengths = [name.len(), texts.library.len(), texts.customer.len()];
         self.send(&[&[kind], &lengths[..], more].concat())?;
         self.send_bytes(&[name, texts.library, texts.customer])
+    }
+
+    /// A request about a module of two specifications.
+    fn ask_both(
+        &mut self,
+        kind: usize,
+        name: &[u8],
+        old: Texts,
+        new: Texts,
+        more: &[usize],
+    ) -> io::Result<()> {
+        let all = [name, old.library, old.customer, new.library, new.customer];
+        self.send(&[&[kind], &all.map(<[u8]>::len)[..], more].concat())?;
+        self.send_bytes(&all)
     }
 
     fn send(&mut self, words: &[usize]) -> io::Result<()> {

@@ -3,12 +3,15 @@
 pub mod aims;
 pub mod cases;
 pub mod damage;
+pub mod decided;
 pub mod deep;
 pub mod diamonds;
 pub mod divided;
 pub mod division;
 pub mod draft;
 pub mod driver;
+pub mod editions;
+pub mod edits;
 pub mod engines;
 pub mod generic;
 pub mod import_order;

@@ -1,8 +1,10 @@
 //! `compare`: tallies the answers over seeds, or looks for the first seed on which two implementations differ.
 
 use compare::cases::{case, undivided, Case};
+use compare::decided::{self, Tally};
 use compare::deep::deep_loads;
 use compare::divided;
+use compare::editions::{chain, write_word};
 use compare::engines::{self, Difference};
 use compare::import_order::{self, Agreed, Told};
 use compare::loads::loads;
@@ -15,7 +17,7 @@ use std::collections::BTreeMap;
 use std::env;
 use std::error::Error;
 use std::fs;
-use std::io::{self, Write};
+use std::io::{self, BufWriter, Write};
 use std::path::Path;
 use std::process::ExitCode;
 
@@ -24,8 +26,11 @@ const USAGE: &str = "usage:
   compare program PATH COUNT [FIRST]     a program like asfnorm against the reference
   compare proved COUNT FIRST DRIVER..    the proved library, behind its driver in C, against the reference
   compare divided COUNT FIRST DRIVER..   the proved library on texts divided at each module against the same undivided
+  compare decide COUNT FIRST DRIVER..    the proved library's decisions against the reference's, over chains of editions
+  compare chains COUNT FIRST             the chains themselves, for the program `chains` of rust/asf
   compare imports PAIRS FIRST [DRIVER..] the proved library, or else the reference, on texts with their imports in another order
   compare time TIMES DRIVER..            times of the library and of the reference, as a table
+  compare time-decisions TIMES DRIVER..  times of a decision whether a part may be kept beside those of a call, as a table
   compare texts FOLDER                   the texts that are timed, and deep ones, each as a standard input of asfnorm
   compare input SEED                     the standard input of asfnorm for a seed";
 
@@ -49,6 +54,11 @@ fn main() -> Result<ExitCode, Box<dyn Error>> {
                 divided::compare(&proved, case)
             })
         }
+        ["decide", count, first, _, ..] => {
+            let proved = Proved::new(&arguments[3..]);
+            decisions(count.parse()?, first.parse()?, &proved)
+        }
+        ["chains", count, first] => chains(count.parse()?, first.parse()?),
         ["imports", pairs, first] => {
             rearranged(pairs.parse()?, first.parse()?, import_order::ask_reference)
         }
@@ -62,6 +72,10 @@ fn main() -> Result<ExitCode, Box<dyn Error>> {
             timing::table(times.parse()?, &arguments[2..])?;
             Ok(ExitCode::SUCCESS)
         }
+        ["time-decisions", times, _, ..] => {
+            timing::decisions(times.parse()?, &arguments[2..])?;
+            Ok(ExitCode::SUCCESS)
+        }
         ["texts", folder] => texts(Path::new(folder)),
         ["input", seed] => input(seed.parse()?),
         _ => {
@@ -69,6 +83,33 @@ fn main() -> Result<ExitCode, Box<dyn Error>> {
             Ok(ExitCode::FAILURE)
         }
     }
+}
+
+/// Looks for the first chain of editions between two of which the library decides otherwise than the reference.
+fn decisions(count: u64, first: u64, proved: &Proved) -> Result<ExitCode, Box<dyn Error>> {
+    let mut all = Tally::default();
+    for seed in first..first + count {
+        match decided::compare(proved, &chain(seed)) {
+            Ok(tally) => all += tally,
+            Err(difference) => {
+                println!("chain {seed}\n--- expected\n{}", difference.expected);
+                println!("--- found\n{}", difference.found);
+                return Ok(ExitCode::FAILURE);
+            }
+        }
+    }
+    println!("{count} chains of editions from {first}: no difference in decisions; {all}");
+    Ok(ExitCode::SUCCESS)
+}
+
+fn chains(count: u64, first: u64) -> Result<ExitCode, Box<dyn Error>> {
+    let out = &mut BufWriter::new(io::stdout().lock());
+    for seed in first..first + count {
+        chain(seed).write(seed, out)?;
+    }
+    write_word(0, out)?;
+    out.flush()?;
+    Ok(ExitCode::SUCCESS)
 }
 
 fn input(seed: u64) -> Result<ExitCode, Box<dyn Error>> {

@@ -191,12 +191,12 @@ fn expected_part(case: &Case, name: &[u8], room: usize) -> Reply {
     }
 }
 
-fn laid_values(values: &[u64], room: usize) -> Vec<u64> {
+pub fn laid_values(values: &[u64], room: usize) -> Vec<u64> {
     laid(values, u64::from_le_bytes([FILL; 8]), room)
 }
 
 /// As many elements as there is room for; behind them what was there.
-fn laid<E: Copy>(elements: &[E], fill: E, room: usize) -> Vec<E> {
+pub fn laid<E: Copy>(elements: &[E], fill: E, room: usize) -> Vec<E> {
     let mut all = elements.to_vec();
     all.resize(room, fill);
     all

@@ -1,4 +1,5 @@
-//! Times of the proved library and of the reference on the same texts, as a table. Nothing is held to a time.
+//! Times of the proved library and of the reference on the same texts, as a table; and times of a decision whether a part may be kept beside
+//! those of a call. Nothing is held to a time.
 
 use crate::driver::Driver;
 use crate::loads::{loads, Load};
@@ -12,6 +13,30 @@ pub fn table(times: usize, command: &[String]) -> io::Result<()> {
     for load in loads() {
         let mut driver = Driver::start(command)?;
         println!("{}", row(&load, times, &mut driver)?);
+    }
+    Ok(())
+}
+
+/// The least time of so many decisions, beside that of as many calls, for every load that is accepted. The specification is the same before and
+/// now, so that all of it is compared.
+pub fn decisions(times: usize, command: &[String]) -> io::Result<()> {
+    println!("| Text | Bytes | A call, ms | A decision, ms | Ratio |");
+    println!("|---|---|---|---|---|");
+    for load in loads() {
+        let (asked, texts) = (load.asked.as_bytes(), load.texts());
+        let mut driver = Driver::start(command)?;
+        let call = driver.time(asked, texts, OUTPUT_BYTES, times)?;
+        if call.number != 0 {
+            continue;
+        }
+        let decision = driver.time_decision(asked, texts, texts, times)?;
+        let (call, decision) = (call.least as f64 / 1e6, decision.least as f64 / 1e6);
+        println!(
+            "| {} | {} | {call:.3} | {decision:.3} | {:.2} |",
+            load.title,
+            texts.library.len() + texts.customer.len(),
+            decision / call
+        );
     }
     Ok(())
 }

@@ -2,7 +2,9 @@
 //! listing is read back to its end, and the order of imports is of no account.
 
 use compare::cases::{case, undivided, Case};
+use compare::decided::{questions, Tally};
 use compare::division::divisions;
+use compare::editions::chain;
 use compare::engines::{input, reference};
 use compare::import_order::{self, Agreed};
 use compare::operators::{declared, replace};
@@ -417,4 +419,40 @@ fn imports_in_another_order() {
     }
     println!("{all}");
     assert!(all.accepted > 1_000 && all.refused > 400 && all.told_otherwise > 5);
+}
+
+/// Between the editions of a chain every decision comes, and each reason; and calls that are answered 18 and 19 are among them.
+#[test]
+fn every_decision_is_reached() {
+    let mut tally = Tally::default();
+    let mut counts = [0; 28];
+    for seed in 0..300 {
+        let chain = chain(seed);
+        for question in questions(&chain) {
+            tally.count(&question.decision());
+        }
+        for edition in &chain.editions {
+            let lent = Lent::output(chain.output);
+            let answer = normalise(&chain.names[0], edition.texts(), lent);
+            counts[answer.number as usize] += 1;
+        }
+    }
+    println!("{tally}");
+    let reasons = (1..=8).map(|reason| format!("asked for {reason}"));
+    let others = ["kept", "kept after asking", "old not read", "new not read"];
+    for what in reasons.chain(others.map(String::from)) {
+        assert!(tally.of(&what) > 0, "{what}");
+    }
+    for number in [0, 18, 19] {
+        assert!(counts[number] > 10, "{number}: {}", counts[number]);
+    }
+}
+
+#[test]
+fn a_seed_is_one_chain() {
+    for seed in 0..20 {
+        let (one, again) = (chain(seed), chain(seed));
+        assert_eq!((one.names, one.output), (again.names, again.output));
+        assert_eq!(one.editions, again.editions);
+    }
 }

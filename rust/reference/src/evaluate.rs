@@ -46,7 +46,7 @@ pub fn evaluate(specification: &Specification, asked: usize) -> Evaluated {
 }
 
 /// All modules that are reached from the asked one: it, and every module that a reached one names and that stands earlier.
-fn reached(specification: &Specification, asked: usize) -> Vec<bool> {
+pub fn reached(specification: &Specification, asked: usize) -> Vec<bool> {
     let mut reached = vec![false; specification.modules.len()];
     let mut waiting = vec![asked];
     while let Some(index) = waiting.pop() {

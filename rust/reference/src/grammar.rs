@@ -182,15 +182,16 @@ impl Parser<'_> {
             return Err(Offence { number: 5, at });
         }
         self.expect_keyword("begin")?;
-        let module = Module {
+        let mut module = Module {
             parameters: self.parameters()?,
             exports: self.exports()?,
             imports: self.imports()?,
             hidden: self.signature()?,
-            variables: self.variables()?,
-            equations: self.equations()?,
             name,
+            ..Module::default()
         };
+        self.variables(&mut module)?;
+        module.equations = self.equations()?;
         self.expect_keyword("end")?;
         self.closing_name(&module.name)?;
         Ok(module)
@@ -384,28 +385,25 @@ impl Parser<'_> {
         Ok(Pair { old, new })
     }
 
-    fn variables(&mut self) -> Result<Vec<VariableDeclaration>, Offence> {
-        let mut variables = Vec::new();
+    fn variables(&mut self, module: &mut Module) -> Result<(), Offence> {
         if self.keyword("variables")? {
-            self.variables_of_one_sort(&mut variables)?;
+            self.variables_of_one_sort(module)?;
             while self.next_is(Token::Identifier)? {
-                self.variables_of_one_sort(&mut variables)?;
+                self.variables_of_one_sort(module)?;
             }
         }
-        Ok(variables)
+        Ok(())
     }
 
-    fn variables_of_one_sort(
-        &mut self,
-        variables: &mut Vec<VariableDeclaration>,
-    ) -> Result<(), Offence> {
+    fn variables_of_one_sort(&mut self, module: &mut Module) -> Result<(), Offence> {
         let names = self.names()?;
         self.expect(Token::Mark(b':'))?;
         self.expect(Token::Arrow)?;
         let sort = self.name()?;
+        module.together.push(names.len());
         for name in names {
             let sort = sort.clone();
-            variables.push(VariableDeclaration { name, sort });
+            module.variables.push(VariableDeclaration { name, sort });
         }
         Ok(())
     }
@@ -436,6 +434,7 @@ impl Parser<'_> {
                 tag,
                 conditions,
                 conclusion: first,
+                when: true,
             });
         }
         let list = self.more_sides(vec![first], &mut nodes)?;
@@ -460,6 +459,7 @@ impl Parser<'_> {
             tag,
             conditions: list,
             conclusion,
+            when: false,
         })
     }
 

@@ -1,6 +1,7 @@
 //! A second normaliser for ASF: document 01, with document 02's requests as they land, in plain values and linear lookup,
 //! no thought of speed. The proved library is compared with it, so the two share nothing but the documents.
 
+mod asking;
 mod checks;
 mod clauses;
 mod evaluate;
@@ -16,6 +17,7 @@ mod program;
 mod reader;
 pub mod syntax;
 
+pub use asking::{decide, module_name, Decision};
 pub use grammar::read;
 pub use lexis::Offence;
 pub use parts::{fetch, parts, Fetched, Part};
@@ -153,17 +155,21 @@ fn finish(
     answer
 }
 
-/// An answer that names the asked module; a name over 40 bytes is told as a blank.
+/// An answer that names the asked module.
 fn about_asked(number: u32, asked: &[u8]) -> Answer {
-    let module = if asked.len() <= TOKEN_BYTES {
-        asked.to_vec()
-    } else {
-        Vec::new()
-    };
     Answer {
         number,
-        module,
+        module: short_or_blank(asked),
         ..Answer::default()
+    }
+}
+
+/// An asked name over 40 bytes is told as a blank.
+fn short_or_blank(asked: &[u8]) -> Name {
+    if asked.len() <= TOKEN_BYTES {
+        asked.to_vec()
+    } else {
+        Name::new()
     }
 }
 

@@ -30,7 +30,9 @@ impl Specification {
     }
 }
 
-#[derive(Clone, Debug, Default)]
+/// Two modules are equal if the same was read of them. So it is kept which variables are declared together, though nothing else asks for it;
+/// what is no read text need not say it.
+#[derive(Clone, Debug, Default, PartialEq, Eq)]
 pub struct Module {
     pub name: Name,
     pub parameters: Vec<Parameter>,
@@ -38,16 +40,18 @@ pub struct Module {
     pub imports: Vec<Expression>,
     pub hidden: Signature,
     pub variables: Vec<VariableDeclaration>,
+    /// How many variables each declaration has.
+    pub together: Vec<usize>,
     pub equations: Vec<EquationText>,
 }
 
-#[derive(Clone, Debug)]
+#[derive(Clone, Debug, PartialEq, Eq)]
 pub struct Parameter {
     pub name: Name,
     pub signature: Signature,
 }
 
-#[derive(Clone, Debug, Default)]
+#[derive(Clone, Debug, Default, PartialEq, Eq)]
 pub struct Signature {
     pub sorts: Vec<Name>,
     pub functions: Vec<FunctionDeclaration>,
@@ -60,54 +64,56 @@ pub struct FunctionDeclaration {
     pub output: Name,
 }
 
-#[derive(Clone, Debug)]
+#[derive(Clone, Debug, PartialEq, Eq)]
 pub struct VariableDeclaration {
     pub name: Name,
     pub sort: Name,
 }
 
 /// An import expression: a module and its clauses in the order of the text.
-#[derive(Clone, Debug)]
+#[derive(Clone, Debug, PartialEq, Eq)]
 pub struct Expression {
     pub module: Name,
     pub clauses: Vec<Clause>,
 }
 
-#[derive(Clone, Debug)]
+#[derive(Clone, Debug, PartialEq, Eq)]
 pub enum Clause {
     Renaming(Vec<Pair>),
     Binding(Binding),
 }
 
-#[derive(Clone, Debug)]
+#[derive(Clone, Debug, PartialEq, Eq)]
 pub struct Binding {
     pub parameter: Name,
     pub pairs: Vec<Pair>,
     pub actual: Name,
 }
 
-#[derive(Clone, Debug)]
+#[derive(Clone, Debug, PartialEq, Eq)]
 pub struct Pair {
     pub old: Name,
     pub new: Name,
 }
 
 /// An equation of either source form: its conditions come first, then its conclusion.
-#[derive(Clone, Debug)]
+#[derive(Clone, Debug, PartialEq, Eq)]
 pub struct EquationText {
     pub tag: Name,
     pub conditions: Vec<Sides>,
     pub conclusion: Sides,
+    /// Whether the text has the conditions behind a `when`; as with `together`, only a text that was read says so.
+    pub when: bool,
 }
 
-#[derive(Clone, Debug)]
+#[derive(Clone, Debug, PartialEq, Eq)]
 pub struct Sides {
     pub left: TermText,
     pub right: TermText,
 }
 
 /// A term: a name alone, or a name with its arguments.
-#[derive(Clone, Debug)]
+#[derive(Clone, Debug, PartialEq, Eq)]
 pub struct TermText {
     pub name: Name,
     pub arguments: Vec<TermText>,
