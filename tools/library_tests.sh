@@ -1,8 +1,9 @@
 #!/usr/bin/env bash
-# Tests the archive in build/library from C and from Rust, and compares it with the reference on so many seeds (library_tests.sh [SEEDS [FIRST]]);
-# on a third as many it must answer the same however the modules are divided between library and customer's text, and on a tenth as many pairs of
-# texts the same in whatever order imports stand, some of them twice. Over a tenth as many chains of editions it must decide as the reference does
-# what is asked again, and no part that the store keeps may be stale. At the end it measures the stack: no call may take more than 20 KB.
+# Tests the archive in build/library from C and from Rust, with the command asf, and compares it with the reference on so many seeds
+# (library_tests.sh [SEEDS [FIRST]]); on a third as many it must answer the same however the modules are divided between library and customer's
+# text, and on a tenth as many pairs of texts the same in whatever order imports stand, some of them twice. Over a tenth as many chains of
+# editions it must decide as the reference does what is asked again, and no part that the store keeps may be stale. At the end it measures the
+# stack: no call may take more than 20 KB.
 set -euo pipefail
 cd "$(dirname "$0")/.."
 seeds=${1:-5000} first=${2:-0}
@@ -48,7 +49,8 @@ rust run --quiet --example normalise -- M2 build/library.asf <build/customer.asf
 editions=()
 for library in examples/library.asf build/hidden.asf build/clash.asf examples/library.asf; do editions+=("$library" examples/shop-north.asf); done
 rust run --quiet --example store -- NorthConsole,Roles "${editions[@]}" | diff rust/asf/examples/store.out -
-echo "the tests and the examples in Rust ran"
+tools/asf check --quiet examples/library.asf
+echo "the tests and the examples in Rust ran, those of the command asf among them"
 
 cargo build --offline --release --quiet --manifest-path rust/Cargo.toml
 rust/target/release/compare proved "$seeds" "$first" "${RUN[@]}" build/driver

@@ -25,10 +25,10 @@ pub fn decisions(times: usize, command: &[String]) -> io::Result<()> {
     for load in loads() {
         let (asked, texts) = (load.asked.as_bytes(), load.texts());
         let mut driver = Driver::start(command)?;
-        let call = driver.time(asked, texts, OUTPUT_BYTES, times)?;
-        if call.number != 0 {
+        if driver.time(asked, texts, OUTPUT_BYTES, 1)?.number != 0 {
             continue;
         }
+        let call = driver.time(asked, texts, OUTPUT_BYTES, times)?;
         let decision = driver.time_decision(asked, texts, texts, times)?;
         let (call, decision) = (call.least as f64 / 1e6, decision.least as f64 / 1e6);
         println!(
