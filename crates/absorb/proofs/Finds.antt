@@ -1,7 +1,7 @@
 -- Laws of finding and placing an item, in the code's terms: the rows before i are none of them x.
-use mathlib.Core.Path.{_≡_, refl, sym, ap₂, _∙_}
+use mathlib.Core.Path.{_≡_, refl, sym, _∙_}
 use mathlib.Core.Logic.{inl}
-use Prim.Native.Nat.{ℕ, suc, _+_, _-_, _*_, _≤_, _<_}
+use Prim.Native.Nat.{ℕ, _+_, _-_, _*_, _≤_, _<_}
 use mathlib.Core.Bool.{Bool, true, false, _&&_}
 use mathlib.Core.List.{List, [], _∷_, _++_}
 use native.Mathlib.Omega.{arith}
@@ -11,17 +11,18 @@ use lib.Seq.{sets}
 use borrow.Author.Needs.{needs}
 use Rattle.meaning.specs.Lists.{pick, any, before}
 use Rattle.meaning.specs.Names.{same}
-use Rattle.meaning.specs.Origins.{same-section, same-origin, same-shape, Item, one-item, in-parameter}
+use Rattle.meaning.specs.Origins.{same-section, same-origin, same-shape, Item, one-item}
 use Rattle.names.specs.Word.{name-of}
 use Rattle.tables.specs.declared.Row.{Row}
-use Rattle.tables.specs.Rows.{section-of, item-of, row-at, row-words}
+use Rattle.tables.specs.Rows.{item-of, row-at, row-words}
 use Rattle.tables.specs.RowLaws.{row-back}
 use Rattle.forms.specs.Memory.{Kept}
 use Rattle.forms.specs.Forms.{items-at}
 use Rattle.forms.specs.FormLaws.{kept-all, kept-wider, kept-sets, kept-same, items-same, items-grow, length-items}
-use Rattle.translation.specs.declared.Mode.{Mode}
-use Rattle.absorb.specs.ListLaws.{before-within, found, none-found, union-found, union-new}
-use Rattle.absorb.specs.Absorb.{Placed, taken}
+use Rattle.walks.specs.Lists.{before-within, found, none-found}
+use Rattle.walks.specs.Rows.{find-start, find-end, find-again, find-here}
+use Rattle.absorb.specs.ListLaws.{union-found, union-new}
+use Rattle.absorb.specs.Absorb.{Placed}
 use Rattle.absorb.specs.Turns.{Space}
 
 -- ---- `is_item`: v is the word of row i's name, and a says whether it is the name of x
@@ -40,44 +41,6 @@ module _ (text tape w : List ℕ) (b i : ℕ) (x : Row) where
 
   pub item-there : (y : Row) (r : Bool) → y ≡ row-at w (b + i * 16) → r ≡ one-item (item-of text tape x) (item-of text tape y) → r ≡ one-there
   item-there y r e f = rw (← e) f
-
--- ---- `find_item`
-
-pub record Finding (test : Item → Bool) (text tape w : List ℕ) (b n i : ℕ) : Type 0 where
-  pub inside : i ≤ n
-  pub comes : before test (items-at text tape w b n) ≡ i + before test (items-at text tape w (b + i * 16) (n - i))
-
-module _ (test : Item → Bool) (text tape w : List ℕ) (b n : ℕ) where
-  pub find-start : Finding test text tape w b n 0
-  find-start =
-      let e : b ≡ b + 0 * 16 = omega arith in
-      let f : n ≡ n - 0 = omega arith in
-      let q : before test (items-at text tape w b n) ≡ before test (items-at text tape w (b + 0 * 16) (n - 0)) =
-      ap₂ (λ (i c : ℕ). before test (items-at text tape w i c)) e f in
-      record { inside = omega arith; comes = omega arith }
-
-  pub find-end : (i : ℕ) → n ≤ i → Finding test text tape w b n i → n ≡ before test (items-at text tape w b n)
-  unfolding before items-at
-  find-end i h inv =
-      let z : n - i ≡ 0 = omega arith in
-      let none : before test (items-at text tape w (b + i * 16) (n - i)) ≡ 0 = rw z in
-      omega (arith, inv .comes, inv .inside)
-
-  module _ (i : ℕ) (r : Bool) (h : i < n) (inv : Finding test text tape w b n i) (f : r ≡ test (item-of text tape (row-at w (b + i * 16)))) where
-    here : before test (items-at text tape w (b + i * 16) (n - i)) ≡ pick r 0 (suc (before test (items-at text tape w (b + (i + 1) * 16) (n - (i + 1)))))
-    unfolding before items-at
-    here =
-        let s : n - i ≡ suc (n - (i + 1)) = omega arith in
-        let p : b + i * 16 + 16 ≡ b + (i + 1) * 16 = omega arith in
-        rw (s, p, ← f)
-
-    pub find-again : r ≡ false → Finding test text tape w b n (i + 1)
-    unfolding pick
-    find-again q = let more = rw q at here in record { inside = omega arith; comes = omega (arith, inv .comes, more) }
-
-    pub find-here : r ≡ true → i ≡ before test (items-at text tape w b n)
-    unfolding pick
-    find-here q = let none = rw q at here in omega (arith, inv .comes, none)
 
 -- ---- `place_item`
 
@@ -122,27 +85,6 @@ module _ (text tape w : List ℕ) (t b n at : ℕ) (x : Row) (e : at ≡ before 
         let none : any (one-item item) xs ≡ false = none-found (one-item item) xs (omega arith) in
         record { row = omega (arith, e); items = rw none (grown ∙ sym (union-new one-item xs item none)); kept = written }
 
--- ---- `is_taken`
-
-module _ (text tape : List ℕ) (drop : Bool) (m : Mode) (x : Row) where
-  abbrev wanted : Bool
-  wanted = taken text drop (m .parameter) (item-of text tape x)
-
-  pub taken-all : drop ≡ false → true ≡ wanted
-  unfolding taken pick
-  taken-all h = rw h
-
-  module _ (h : drop ≡ true) (b : Bool) (e : b ≡ in-parameter (name-of text (m .parameter)) (section-of text (x .standing))) where
-    pub taken-not : b ≡ true → false ≡ wanted
-    unfolding taken pick item-of
-    taken-not q = rw (h, ← e, q)
-
-    pub taken-other : b ≡ false → true ≡ wanted
-    unfolding taken pick item-of
-    taken-other q = rw (h, ← e, q)
-
 pub ruleset finds = (find-start, find-end, find-again, find-here, needs)
 
 pub ruleset places = (place-found, place-new, needs)
-
-pub ruleset takes = (taken-all, taken-not, taken-other, needs)

@@ -21,7 +21,8 @@ use Rattle.forms.specs.FullLists.{take-union}
 use Rattle.translation.specs.declared.Mode.{Mode}
 use Rattle.translation.specs.Translation.{moved-in}
 use Rattle.translation.specs.MovedLaws.{moved-apart}
-use Rattle.absorb.specs.ListLaws.{keep-append, union-then, union-stays, map-keep-more, keep-taken, keep-left}
+use Rattle.walks.specs.Lists.{keep-append}
+use Rattle.absorb.specs.ListLaws.{union-then, union-stays, map-keep-more, keep-taken, keep-left}
 use Rattle.absorb.specs.Absorb.{Absorbed, AbsorbedWithin, taken}
 use Rattle.absorb.specs.Turns.{Taken, TurnRoom, Turned, RoomWithin}
 

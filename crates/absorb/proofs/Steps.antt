@@ -22,7 +22,8 @@ use Rattle.forms.specs.FormLaws.{kept-set, kept-same, kept-is-two, kept-two-swa
 use Rattle.translation.specs.declared.Mode.{Mode}
 use Rattle.translation.specs.Translation.{moved-in}
 use Rattle.translation.specs.Moved.{MovedRow}
-use Rattle.absorb.specs.ListLaws.{before-within, found, none-found, found-passes, union-found, union-new}
+use Rattle.walks.specs.Lists.{before-within, found, none-found, found-passes}
+use Rattle.absorb.specs.ListLaws.{union-found, union-new}
 use Rattle.absorb.specs.Absorb.{Placed, taken}
 use Rattle.absorb.specs.Turns.{Space, Place, Taken, TurnRoom, Turned}
 

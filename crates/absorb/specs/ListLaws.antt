@@ -1,63 +1,12 @@
 -- Laws of lists that grow by what is not there yet: where a thing is found, what union adds, and what stays where it was.
 use mathlib.Core.Path.{_≡_, refl, ap, _∙_}
-use Prim.Native.Nat.{ℕ, suc, _≤_, _<_}
+use Prim.Native.Nat.{ℕ, _<_}
 use mathlib.Core.Bool.{Bool, true, false}
 use mathlib.Core.List.{List, [], _∷_, _++_, map, map-append}
 use native.Mathlib.Omega.{arith}
 use lib.ListN.{length, getD, length-append, List·getD-append}
-use Rattle.meaning.specs.Lists.{pick, keep, any, before, union}
-
-module _ {A : Type 0} (p : A → Bool) where
-  -- ---- where the first that passes stands
-
-  pub before-within : (xs : List A) → before p xs ≤ length xs
-  unfolding before pick
-  before-within [] = omega arith
-  before-within (x ∷ xs) = go (p x) (before-within xs)
-    where
-      go : (b : Bool) → before p xs ≤ length xs → pick b 0 (suc (before p xs)) ≤ suc (length xs)
-      go true h = omega arith
-      go false h = omega arith
-
-  pub found : (xs : List A) → before p xs < length xs → any p xs ≡ true
-  unfolding before any pick
-  found [] h = absurd (omega arith)
-  found (x ∷ xs) h = go (p x) h (found xs)
-    where
-      go : (b : Bool) → pick b 0 (suc (before p xs)) < suc (length xs) → (before p xs < length xs → any p xs ≡ true) → pick b true (any p xs) ≡ true
-      go true l ih = refl
-      go false l ih = ih (omega arith)
-
-  pub none-found : (xs : List A) → length xs ≤ before p xs → any p xs ≡ false
-  unfolding before any pick
-  none-found [] h = refl
-  none-found (x ∷ xs) h = go (p x) h (none-found xs)
-    where
-      go : (b : Bool) → suc (length xs) ≤ pick b 0 (suc (before p xs)) → (length xs ≤ before p xs → any p xs ≡ false) → pick b true (any p xs) ≡ false
-      go true l ih = absurd (omega arith)
-      go false l ih = ih (omega arith)
-
-  pub found-passes : (z : A) (xs : List A) → before p xs < length xs → p (getD xs (before p xs) z) ≡ true
-  unfolding before pick
-  found-passes z [] h = absurd (omega arith)
-  found-passes z (x ∷ xs) h = go (p x) refl h (found-passes z xs)
-    where
-      go : (b : Bool) → p x ≡ b → pick b 0 (suc (before p xs)) < suc (length xs)
-          → (before p xs < length xs → p (getD xs (before p xs) z) ≡ true) → p (getD (x ∷ xs) (pick b 0 (suc (before p xs))) z) ≡ true
-      go true e l ih = e
-      go false e l ih = ih (omega arith)
-
-  -- ---- what passes
-
-  pub keep-append : (xs ys : List A) → keep p (xs ++ ys) ≡ keep p xs ++ keep p ys
-  unfolding keep pick
-  keep-append [] ys = refl
-  keep-append (x ∷ xs) ys = go (p x) (keep-append xs ys)
-    where
-      go : (b : Bool) → keep p (xs ++ ys) ≡ keep p xs ++ keep p ys
-          → pick b (x ∷ keep p (xs ++ ys)) (keep p (xs ++ ys)) ≡ pick b (x ∷ keep p xs) (keep p xs) ++ keep p ys
-      go true ih = ap (λ (r : List A). x ∷ r) ih
-      go false ih = ih
+use Rattle.meaning.specs.Lists.{pick, keep, any, union}
+use Rattle.walks.specs.Lists.{keep-append}
 
 -- ---- union
 

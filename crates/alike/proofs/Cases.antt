@@ -5,16 +5,15 @@ use mathlib.Core.List.{List}
 use Prim.Native.Nat.{ℕ, zero, suc, _+_, _-_, _/_, _%_, _<_, _≤_}
 use native.Mathlib.Omega.{arith}
 use native.Mathlib.Numerals.{add-one}
-use lib.Dec.{leb}
 use lib.ListN.{getD}
 use borrow.Author.Needs.{needs}
-use borrow.Author.Tests.{eq-eqb, ne-eqb, le-leb, lt-leb}
+use borrow.Author.Tests.{eq-eqb, ne-eqb}
 use Rattle.meaning.specs.Lists.{pick, agree}
 use Rattle.meaning.specs.Names.{same}
 use Rattle.names.specs.Word.{name-of}
 use Rattle.tape.specs.Tape.{spelled}
 use Rattle.tables.specs.Entries.{role-at}
-use Rattle.alike.specs.Alike.{same-entry, entry-at, entries-from, between, declaring, section-role, run-size}
+use Rattle.alike.specs.Alike.{same-entry, entry-at, entries-from, section-role, run-size}
 
 -- ---- entries of two tapes
 
@@ -79,40 +78,6 @@ module _ (text tape other more : List ℕ) where
   pub sizes-told : (i n a j m b : ℕ) (r : Bool) → n ≡ a → m ≡ b → r ≡ Alike i n j m → r ≡ Alike i a j b
   sizes-told i n a j m b r e f h = rw (← e, ← f) h
 
--- ---- sections
-
-module _ (a b r : ℕ) where
-  pub between-told : (p : Bool) → a ≤ r → p ≡ leb r b → p ≡ between a b r
-  unfolding between pick
-  between-told p h e = rw (le-leb a r h) e
-
-  pub between-not : r < a → false ≡ between a b r
-  unfolding between pick
-  between-not h = rw (lt-leb a r h)
-
-  module _ (p : Bool) (e : p ≡ between a b r) where
-    pub declaring-first : p ≡ true → true ≡ declaring a b r
-    unfolding declaring pick
-    declaring-first h = rw (← e, h)
-
-    pub declaring-second : (q : Bool) → p ≡ false → q ≡ between 9 10 r → q ≡ declaring a b r
-    unfolding declaring pick
-    declaring-second q h f = rw (← e, h) f
-
-module _ (s r : ℕ) (p : Bool) where
-  pub of-parameters : s ≡ 0 → p ≡ declaring 2 4 r → p ≡ section-role s r
-  unfolding section-role pick
-  of-parameters h e = rw (eq-eqb s 0 h) e
-
-  module _ (h : s ≡ 0 → ⊥) where
-    pub of-exports : s ≡ 1 → p ≡ declaring 5 6 r → p ≡ section-role s r
-    unfolding section-role pick
-    of-exports k e = rw (ne-eqb s 0 h, eq-eqb s 1 k) e
-
-    pub of-imports : (s ≡ 1 → ⊥) → p ≡ between 11 16 r → p ≡ section-role s r
-    unfolding section-role pick
-    of-imports k e = rw (ne-eqb s 0 h, ne-eqb s 1 k) e
-
 -- ---- the entries of a section from i on: those up to j are counted
 
 pub record Counted (s : ℕ) (tape : List ℕ) (i end j : ℕ) : Type 0 where
@@ -151,4 +116,4 @@ module _ (s : ℕ) (tape : List ℕ) (i end j : ℕ) (h : Counted s tape i end j
 
 pub ruleset cases = (entry-told, entry-apart, compare-none, compare-end, compare-on, compare-off, runs-apart, runs-told, sizes-told, needs)
 
-pub ruleset sections = (between-told, between-not, declaring-first, declaring-second, of-parameters, of-exports, of-imports, count-none, count-end, count-on, count-stop, needs)
+pub ruleset sections = (count-none, count-end, count-on, count-stop, needs)

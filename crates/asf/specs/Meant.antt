@@ -1,6 +1,6 @@
 -- From one step of a call to the next: what is read, found, evaluated and listed, and how the call ends.
-use mathlib.Core.Path.{_≡_, refl, sym, ap, subst, _∙_}
-use Prim.Native.Nat.{ℕ, zero, suc, _+_, _-_, _*_, _<_, _≤_, min}
+use mathlib.Core.Path.{_≡_, sym, ap, subst, _∙_}
+use Prim.Native.Nat.{ℕ, _+_, _-_, _*_, _<_, _≤_}
 use native.Mathlib.Omega.{arith}
 use mathlib.Core.Bool.{Bool, true, false}
 use mathlib.Core.List.{List, [], _++_, map}
@@ -11,26 +11,23 @@ use Rattle.meaning.specs.Names.{Name, same, member}
 use Rattle.meaning.specs.Numbers.{memory-size, asked-absent, lent-short}
 use Rattle.meaning.specs.Syntax.{Module}
 use Rattle.meaning.specs.Distinct.{read-fresh}
-use Rattle.meaning.specs.Texts.{Reading, two-texts, all-read, refused-in, read-texts}
+use Rattle.meaning.specs.Texts.{Reading, two-texts, refused-in, read-texts}
 use Rattle.meaning.specs.Normal.{Normal, empty}
-use Rattle.meaning.specs.Checks as Checks
 use Rattle.meaning.specs.Checks.{lone}
-use Rattle.meaning.specs.Reached as Reached
 use Rattle.meaning.specs.Reached.{normalised, refused-at, in-turn, reached, module-names, short-or-blank, normalise}
 use Rattle.meaning.specs.Listing.{lines-text, listing-lines}
-use Rattle.meaning.specs.Answer as Meaning
 use Rattle.meaning.specs.Answer.{refusal, of-ended, unread, of-read, within, output-after}
 use Rattle.names.specs.Word.{name-of}
 use Rattle.names.specs.Joint.{joint}
 use Rattle.two_texts.specs.declared.Both.{Both}
 use Rattle.two_texts.specs.declared.Both.the-variants.{Done, Refused}
-use Rattle.two_texts.specs.Both as TwoTexts
 use Rattle.two_texts.specs.Both.{Said}
 use Rattle.tape.specs.Tape.{spelled, entries}
 use Rattle.limits.specs.Limits.{limits-read, modules-few}
 use Rattle.tables.specs.Entries.{word-at, name-at}
 use Rattle.hidden_items.specs.Sound.{HiddenSound}
-use Rattle.hidden_items.specs.Evaluated.{SoundEnd, normalise-sound}
+use Rattle.laws.specs.Outcomes.{Ends}
+use Rattle.hidden_items.specs.Evaluated.{normalise-sound}
 use Rattle.forms.specs.declared.Culprit.{Culprit}
 use Rattle.forms.specs.declared.Form.{Form}
 use Rattle.forms.specs.Memory.{part}
@@ -38,7 +35,7 @@ use Rattle.forms.specs.Verdicts.{culprit-of}
 use Rattle.layout.specs.Layout.{tape-end, table-start}
 use Rattle.keeping.specs.Keeping.{form-at}
 use Rattle.modules.specs.declared.Heads.{Heads}
-use Rattle.modules.specs.Modules.{HeadsOf, names-of, declared}
+use Rattle.modules.specs.Modules.{HeadsOf, declared}
 use Rattle.modules.specs.ModuleLaws.{heads-number, declared-names}
 use Rattle.modules.specs.Members.{member-found, member-absent}
 use Rattle.modules.specs.ReachedLaws.{found-name, names-number}
@@ -46,19 +43,24 @@ use Rattle.modules.specs.Meant.{asked-number}
 use Rattle.environment.specs.Environment.{kept-form}
 use Rattle.evaluating.specs.Sofar.{Told}
 use Rattle.turns.specs.declared.Ended.{Ended}
-use Rattle.turns.specs.declared.Ended.the-variants as Ended
 use Rattle.turns.specs.Turns.{LastStands, EndsAs, Given, AllTurned}
 use Rattle.listing.specs.declared.Written.{Written}
 use Rattle.listing.specs.declared.Written.the-variants.{Fits, TooLong}
 use Rattle.listing.specs.Lines.{listing-text}
 use Rattle.listing.specs.Meant.{listing-meant}
-use Rattle.listing.specs.Fit as Fit
 use Rattle.listing.specs.Fit.{result, fitted}
 use Rattle.listing.specs.Lent.{Lent, answer-when, lent-meant}
 use Rattle.answers.specs.declared.Answer.{Answer}
 use Rattle.answers.specs.Answers.{held, told, told-listed}
 use Rattle.answers.specs.Told.{short-name, refusal-within, refusal-leaves, unread-within, unread-leaves}
 use Rattle.asf.specs.Steps.{Answered, Spoken, Found, Evaluated}
+use Rattle.turns.specs.ByNumber.{name-there}
+use Rattle.meaning.specs.Checks as Checks
+use Rattle.meaning.specs.Reached as Reached
+use Rattle.meaning.specs.Answer as Meaning
+use Rattle.two_texts.specs.Both as TwoTexts
+use Rattle.turns.specs.declared.Ended.the-variants as Ended
+use Rattle.listing.specs.Fit as Fit
 
 -- ---- a refusal leaves the output
 
@@ -186,20 +188,11 @@ record NormalEnd (text : List ℕ) (t : ℕ) (w : List ℕ) (count last : ℕ) (
   stands : LastStands text t w last normal
   sound : HiddenSound normal
 
-normal-end : (text : List ℕ) (t : ℕ) (w : List ℕ) (count last : ℕ) (e : Reached.Ended) → SoundEnd e → EndsAs text t w (Ended.Normalised count last) e
+normal-end : (text : List ℕ) (t : ℕ) (w : List ℕ) (count last : ℕ) (e : Reached.Ended) → Ends HiddenSound e → EndsAs text t w (Ended.Normalised count last) e
     → NormalEnd text t w count last e
 normal-end text t w count last (normalised counted n) s h =
     record { normal = n; ended = ap (λ (c : ℕ). normalised c n) (sym (h .count-so)); stands = h .last-so; sound = s }
 normal-end text t w count last (refused-at told counted evaluating meant) s h = absurd h
-
--- a module's name by its number
-name-by-number : (text tape places : List ℕ) (i c j : ℕ) → j < c → getD (names-of text tape places i c) j [] ≡ name-at text tape (getD places (i + j) 0)
-unfolding names-of
-name-by-number text tape places i zero j l = absurd (omega arith)
-name-by-number text tape places i (suc c) zero l = let z : i ≡ i + 0 = omega arith in ap (λ (n : ℕ). name-at text tape (getD places n 0)) z
-name-by-number text tape places i (suc c) (suc j) l =
-    let z : suc i + j ≡ i + suc j = omega arith in
-    name-by-number text tape places (suc i) c j (omega arith) ∙ ap (λ (n : ℕ). name-at text tape (getD places n 0)) z
 
 module _ (asked : List ℕ) (x : Reading) (text : List ℕ) (t : ℕ) (w : List ℕ) (h : Heads) (k : ℕ) (found : Found asked x text t w h k) where
   abbrev ms : List Module
@@ -218,7 +211,7 @@ module _ (asked : List ℕ) (x : Reading) (text : List ℕ) (t : ℕ) (w : List 
       let z : k ≡ 0 + k = omega arith in
       let few : k < h .count = omega (arith, found .there, names-number ms, heads-number text (part w 0 t) t ms h spells) in
       ap (λ (n : ℕ). name-at text (part w 0 t) (getD (h .places) n 0)) z
-      ∙ sym (name-by-number text (part w 0 t) (h .places) 0 (h .count) k few)
+      ∙ sym (name-there text (part w 0 t) (h .places) (h .count) 0 k few)
       ∙ ap (λ (ds : List Name). getD ds k []) (declared-names text (part w 0 t) t ms h spells)
       ∙ ap (λ (n : ℕ). getD (module-names ms) n []) (found .number)
       ∙ found-name (module-names ms) asked (omega (arith, found .number, found .there))

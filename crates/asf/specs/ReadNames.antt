@@ -1,6 +1,6 @@
 -- The names of modules that are read have at most 40 bytes. So has the module that an answer names, unless it is the asked one; and where the
 -- asked name has more, no module is called so, and the answer's number tells the module.
-use mathlib.Core.Path.{_≡_, refl, ap}
+use mathlib.Core.Path.{_≡_, refl, sym, ap, subst}
 use mathlib.Core.Logic.{_⊎_, inl, inr}
 use Prim.Native.Nat.{ℕ, _<_, _≤_}
 use native.Mathlib.Omega.{arith}
@@ -11,18 +11,19 @@ use lib.Dec.{leb}
 use lib.ListN.{length}
 use Rattle.meaning.specs.Laws.{by-cases}
 use Rattle.meaning.specs.Lists.{pick}
-use Rattle.meaning.specs.OrderLaws.{Every, same-equal}
+use Rattle.meaning.specs.OrderLaws.{Every, every-middle, same-equal}
 use Rattle.meaning.specs.Names.{Name, member}
 use Rattle.meaning.specs.Numbers.{name-size, asked-absent, lent-short}
 use Rattle.meaning.specs.Syntax.{Module}
 use Rattle.meaning.specs.Texts.{Texts, Reading, all-read, refused-in, read-texts}
-use Rattle.meaning.specs.Normal.{Normal, empty}
-use Rattle.meaning.specs.Checks.{Culprit, lone, Outcome, fine, stop}
-use Rattle.meaning.specs.Evaluate.{Evaluated, evaluate}
-use Rattle.meaning.specs.Reached.{Placed, reached-among, reached, Ended, normalised, refused-at, end-or, total-of, in-turn, module-names, short-or-blank, normalise}
+use Rattle.meaning.specs.Normal.{empty}
+use Rattle.meaning.specs.Checks.{Culprit, lone}
+use Rattle.meaning.specs.Reached.{Placed, reached, Ended, normalised, refused-at, module-names, short-or-blank, normalise}
 use Rattle.meaning.specs.Answer.{Answer, refusal, of-ended, unread, of-read, within, answer}
+use Rattle.laws.specs.EveryLaws.{every-so}
+use Rattle.laws.specs.Walk.{reached-every}
 use Rattle.limits.specs.Limits.{Limited, limits-read}
-use Rattle.promises.specs.ListingLaws.{every-so}
+use Rattle.promises.specs.Counts.{CountedIn, in-turn-counted}
 use Rattle.promises.specs.ReadNumbers.{refused-low}
 
 abbrev Short : Name → Type 0
@@ -40,27 +41,14 @@ abbrev EndNamed : Name → Ended → Type 0
 EndNamed asked (normalised count n) = Unit {0}
 EndNamed asked (refused-at number count m c) = Named asked m
 
-reached-short : (asked : Name) (k : ℕ) (earlier : List Name) (ms : List Module) → Every (λ (m : Module). Short (m .name)) ms
-    → Every (λ (x : Placed). Short (x .self .name)) (reached-among asked k earlier ms)
-unfolding reached-among
-reached-short asked k earlier [] h = tt
-reached-short asked k earlier (m ∷ ms) h =
-    let later = reached-short asked _ (m .name ∷ earlier) ms (h .1) in
-    by-cases (Every (λ (x : Placed). Short (x .self .name))) _ _ _ (λ e. (h .0, later)) (λ e. later)
-
-ended-named : (asked : Name) (count : ℕ) (m : Name) (more : Normal → Ended) (o : Outcome Normal) → Short m → ((n : Normal) → EndNamed asked (more n))
-    → EndNamed asked (end-or count m more o)
-unfolding end-or
-ended-named asked count m more (fine n) h f = f n
-ended-named asked count m more (stop k w) h f = inl h
-
-turns-named : (asked : Name) (declared : List Name) (env : List Evaluated) (last : Normal) (xs : List Placed) → Every (λ (x : Placed). Short (x .self .name)) xs
-    → EndNamed asked (in-turn declared env last xs)
-unfolding in-turn
-turns-named asked declared env last [] h = tt
-turns-named asked declared env last (x ∷ xs) h =
-    ended-named asked _ (x .self .name) _ (evaluate declared (x .earlier) (x .number) (total-of env) env (x .self)) (h .0)
-    (λ n. turns-named asked declared _ n xs (h .1))
+-- a refused module is one of those reached
+end-short : (asked : Name) (declared : List Name) (xs : List Placed) → Every (λ (x : Placed). Short (x .self .name)) xs → (e : Ended)
+    → CountedIn declared 0 xs e → EndNamed asked e
+end-short asked declared xs h (normalised count n) c = tt
+end-short asked declared xs h (refused-at number count m w) c =
+    let r = c .1 in
+    let short : Placed → Type 0 = λ x. Short (x .self .name) in
+    inl (subst Short (sym (r .named)) (every-middle short (r .accepted-before) (r .not-evaluated) (r .refused) (subst (Every short) (r .split) h)))
 
 abbrev AnswerNamed : Name → Answer → Type 0
 AnswerNamed asked a = Named asked (a .evaluating)
@@ -75,7 +63,8 @@ unfolding of-read unread normalise reached
 read-named asked texts (all-read ms) e =
     end-named asked _
     (by-cases (EndNamed asked) _ _ _
-    (λ q. turns-named asked (module-names ms) [] empty (reached asked ms) (reached-short asked 0 [] ms (read-names texts ms e))) (λ q. inr refl))
+    (λ q. end-short asked (module-names ms) (reached asked ms) (reached-every (λ m. Short (m .name)) asked 0 [] ms (read-names texts ms e)) _
+    (in-turn-counted (module-names ms) [] empty (reached asked ms))) (λ q. inr refl))
 read-named asked texts (refused-in l number at) e = inl (omega arith)
 
 pub answer-named : (memory-lent output-lent : ℕ) (asked : Name) (texts : Texts) → AnswerNamed asked (answer memory-lent output-lent asked texts)

@@ -12,13 +12,14 @@ use Rattle.meaning.specs.Lists.{pick}
 use Rattle.meaning.specs.Names.{Name}
 use Rattle.meaning.specs.Syntax.{Module}
 use Rattle.meaning.specs.Reached.{Placed, reached-among, reached}
+use Rattle.meaning.specs.OrderLaws.{Every}
 use Rattle.promises.specs.Members.{clear}
-use Rattle.promises.specs.Demand.{ForEach, InTurn, Counterparts}
+use Rattle.promises.specs.Demand.{InTurn, Counterparts}
 use Rattle.asking_again.specs.Same.{same-module, modules-decided}
 use Rattle.asking_again.specs.Decide.{changed, numbers}
 
 -- a reached module is unchanged, or what holds of each changed one holds of it
-pub changed-each : (P : Placed → Type 0) (R : Placed → Placed → Type 0) (xs xs′ : List Placed) → InTurn R xs xs′ → ForEach P (changed xs xs′)
+pub changed-each : (P : Placed → Type 0) (R : Placed → Placed → Type 0) (xs xs′ : List Placed) → InTurn R xs xs′ → Every P (changed xs xs′)
     → InTurn (λ x x′. (x .self ≡ x′ .self) ⊎ P x′) xs xs′
 unfolding changed pick
 changed-each P R [] [] c h = tt
@@ -26,29 +27,29 @@ changed-each P R [] (x′ ∷ xs′) c h = absurd c
 changed-each P R (x ∷ xs) [] c h = absurd c
 changed-each P R (x ∷ xs) (x′ ∷ xs′) c h = go (same-module (x .self) (x′ .self)) refl h (changed-each P R xs xs′ (c .1))
   where
-    go : (b : Bool) → same-module (x .self) (x′ .self) ≡ b → ForEach P (pick b (changed xs xs′) (x′ ∷ changed xs xs′))
-        → (ForEach P (changed xs xs′) → InTurn (λ x x′. (x .self ≡ x′ .self) ⊎ P x′) xs xs′)
+    go : (b : Bool) → same-module (x .self) (x′ .self) ≡ b → Every P (pick b (changed xs xs′) (x′ ∷ changed xs xs′))
+        → (Every P (changed xs xs′) → InTurn (λ x x′. (x .self ≡ x′ .self) ⊎ P x′) xs xs′)
         → InTurn (λ x x′. (x .self ≡ x′ .self) ⊎ P x′) (x ∷ xs) (x′ ∷ xs′)
     go true q h later = (inl (modules-decided .equal (x .self) (x′ .self) q), later h)
     go false q h later = (inr (h .0), later (h .1))
 
-pub changed-within : (P : Placed → Type 0) (xs xs′ : List Placed) → ForEach P xs′ → ForEach P (changed xs xs′)
+pub changed-within : (P : Placed → Type 0) (xs xs′ : List Placed) → Every P xs′ → Every P (changed xs xs′)
 unfolding changed
 changed-within P [] xs′ h = tt
 changed-within P (x ∷ xs) [] h = tt
 changed-within P (x ∷ xs) (x′ ∷ xs′) h =
-    by-cases (ForEach P) (same-module (x .self) (x′ .self)) _ _ (λ b. changed-within P xs xs′ (h .1)) (λ b. (h .0, changed-within P xs xs′ (h .1)))
+    by-cases (Every P) (same-module (x .self) (x′ .self)) _ _ (λ b. changed-within P xs xs′ (h .1)) (λ b. (h .0, changed-within P xs xs′ (h .1)))
 
 -- the asked module is not among those to ask
 pub not-itself : (asked : Name) (ms ms′ : List Module) (xs xs′ : List Placed) → InTurn (Counterparts asked ms ms′) xs xs′
-    → ForEach (λ x. x .self .name ≡ asked → ⊥) (changed xs xs′)
+    → Every (λ x. x .self .name ≡ asked → ⊥) (changed xs xs′)
 unfolding changed pick
 not-itself asked ms ms′ [] xs′ c = tt
 not-itself asked ms ms′ (x ∷ xs) [] c = tt
 not-itself asked ms ms′ (x ∷ xs) (x′ ∷ xs′) c = go (same-module (x .self) (x′ .self)) refl (not-itself asked ms ms′ xs xs′ (c .1))
   where
-    go : (b : Bool) → same-module (x .self) (x′ .self) ≡ b → ForEach (λ x. x .self .name ≡ asked → ⊥) (changed xs xs′)
-        → ForEach (λ x. x .self .name ≡ asked → ⊥) (pick b (changed xs xs′) (x′ ∷ changed xs xs′))
+    go : (b : Bool) → same-module (x .self) (x′ .self) ≡ b → Every (λ x. x .self .name ≡ asked → ⊥) (changed xs xs′)
+        → Every (λ x. x .self .name ≡ asked → ⊥) (pick b (changed xs xs′) (x′ ∷ changed xs xs′))
     go true q later = later
     go false q later = (
       (λ p. let e = c .0 .asked-same (c .0 .alike .name ∙ p) in

@@ -13,52 +13,44 @@ use Rattle.meaning.specs.Numbers.{memory-size}
 use Rattle.meaning.specs.Syntax.{Module}
 use Rattle.meaning.specs.Evaluate.{named-by, missing, too-late}
 use Rattle.meaning.specs.Reached.{Placed, reached, module-names}
+use Rattle.meaning.specs.Laws.{by-cases}
 use Rattle.meaning.specs.Texts.{Texts, Reading, all-read, refused-in, read-texts}
-use Rattle.promises.specs.Members.{clear, both-true, same-eq, same-refl}
-use Rattle.promises.specs.Public.{or-none}
-use Rattle.promises.specs.Demand.{ReadAs, ForEach, InTurn, Counterparts}
-use Rattle.promises.specs.Proof.{in-turn-so}
-use Rattle.asking_again.specs.Same.{Decides, same-module, names-decided, signatures-decided, parameters-decided, imports-decided, modules-decided}
-use Rattle.asking_again.specs.Again.{Keeping, both-in-turn}
+use Rattle.meaning.specs.OrderLaws.{Every, same-self, same-equal}
+use Rattle.promises.specs.Members.{clear, both-true}
+use Rattle.promises.specs.Demand.{ReadAs, InTurn, Counterparts}
+use Rattle.promises.specs.TwoCalls.{in-turn-so, both-in-turn}
+use Rattle.promises.specs.Deciding.{Decides, names-decided}
+use Rattle.asking_again.specs.Same.{same-module, signatures-decided, parameters-decided, imports-decided, modules-decided}
+use Rattle.asking_again.specs.Again.{Keeping}
 use Rattle.asking_again.specs.Decide.{Why, objection, otherwise, itself-changed, shown-changed, alike, name-changed, names-changed, in-pairs, against, Decision, memory-short, ask-again, keep-after, changed, numbers, unless-against, to-ask, of-readings, decide, deciding}
 
--- ---- an objection is none where its test passes, and only there
+-- ---- nothing is objected where the test passes, and only there
 
-passing : (b : Bool) (w : Why) → objection b w ≡ none → b ≡ true
+-- each from the other
+abbrev Iff : Type 0 → Type 0 → Type 0
+Iff A B = (A → B) × (B → A)
+
+nothing-said : {A X : Type 0} (a : A) → some a ≡ none → X
+nothing-said a e = let z : _≡_ {A = ℕ} 0 1 = cc in absurd (omega arith)
+
+passes : (b : Bool) (w : Why) → Iff (objection b w ≡ none) (b ≡ true)
 unfolding objection pick
-passing true w e = refl
-passing false w e = let z : _≡_ {A = ℕ} 0 1 = cc in absurd (omega arith)
+passes true w = (λ e. refl, λ e. refl)
+passes false w = (λ e. nothing-said w e, λ e. clear (sym e))
 
-no-objection : (b : Bool) (w : Why) → b ≡ true → objection b w ≡ none
-unfolding objection pick
-no-objection b w e = rw e
-
--- and of two where both are none
-none-too : {A : Type 0} (a b : Option A) → a ≡ none → b ≡ none → or-else a b ≡ none
+both-none : {A : Type 0} (a b : Option A) → Iff (or-else a b ≡ none) ((a ≡ none) × (b ≡ none))
 unfolding or-else
-none-too a b p q = ap (λ o. or-else o b) p ∙ q
+both-none none b = (λ e. (refl, e), λ h. h .1)
+both-none (some a) b = (λ e. nothing-said a e, λ h. nothing-said a (h .0))
 
--- of a test that decides
-decided-none : {A : Type 0} (e : A → A → Bool) → Decides e → (a b : A) (w : Why) → objection (e a b) w ≡ none → a ≡ b
-decided-none e d a b w h = d .equal a b (passing (e a b) w h)
+decided-none : {A : Type 0} {e : A → A → Bool} → Decides e → (a b : A) (w : Why) → Iff (objection (e a b) w ≡ none) (a ≡ b)
+decided-none {e = e} d a b w = (λ h. d .equal a b (passes (e a b) w .0 h), λ p. passes (e a b) w .1 (sym (ap (e a) p) ∙ d .self a))
 
-none-decided : {A : Type 0} (e : A → A → Bool) → Decides e → (a b : A) (w : Why) → a ≡ b → objection (e a b) w ≡ none
-none-decided e d a b w p = no-objection (e a b) w (sym (ap (e a) p) ∙ d .self a)
-
--- two tests that agree
-alike-same : (a b : Bool) → alike a b ≡ true → a ≡ b
+tests-agree : (a b : Bool) → Iff (alike a b ≡ true) (a ≡ b)
 unfolding alike
-alike-same true b e = sym e
-alike-same false true e = clear (sym e)
-alike-same false false e = refl
-
-same-alike : (a b : Bool) → a ≡ b → alike a b ≡ true
-unfolding alike
-same-alike a b e = sym (ap (alike a) e) ∙ go a
-  where
-    go : (x : Bool) → alike x x ≡ true
-    go true = refl
-    go false = refl
+tests-agree true b = (λ e. sym e, λ e. sym e)
+tests-agree false true = (λ e. clear (sym e), λ e. clear (sym e))
+tests-agree false false = (λ e. refl, λ e. refl)
 
 -- ---- one reached module and its counterpart
 
@@ -69,118 +61,99 @@ module _ (asked : Name) (ms ms′ : List Module) (x x′ : Placed) where
   abbrev d′ : List Name
   d′ = module-names ms′
 
-  itself-none : itself-changed asked x x′ ≡ none → x .self .name ≡ asked → x .self ≡ x′ .self
+  itself-none : Iff (itself-changed asked x x′ ≡ none) (x .self .name ≡ asked → x .self ≡ x′ .self)
   unfolding itself-changed pick
-  itself-none h p =
-      modules-decided .equal (x .self) (x′ .self)
-      (go (same (x .self .name) asked) (ap (λ (w : Name). same w asked) p ∙ same-refl asked) (passing _ _ h))
+  itself-none = (
+    λ h p. modules-decided .equal (x .self) (x′ .self)
+        (sym (ap (λ (b : Bool). pick b unchanged true) (ap (λ (w : Name). same w asked) p ∙ same-self asked)) ∙ passes _ _ .0 h),
+    λ h. passes _ _ .1 (by-cases (λ (b : Bool). b ≡ true) (same (x .self .name) asked) unchanged true
+        (λ q. sym (ap (same-module (x .self)) (h (same-equal (x .self .name) asked q))) ∙ modules-decided .self (x .self)) (λ q. refl)),
+  )
     where
-      go : (b : Bool) → b ≡ true → pick b (same-module (x .self) (x′ .self)) true ≡ true → same-module (x .self) (x′ .self) ≡ true
-      go true q h = h
-      go false q h = clear (sym q)
+      unchanged : Bool
+      unchanged = same-module (x .self) (x′ .self)
 
-  none-itself : (x .self .name ≡ asked → x .self ≡ x′ .self) → itself-changed asked x x′ ≡ none
-  unfolding itself-changed pick
-  none-itself h = no-objection _ _ (go (same (x .self .name) asked) refl)
-    where
-      go : (b : Bool) → same (x .self .name) asked ≡ b → pick b (same-module (x .self) (x′ .self)) true ≡ true
-      go true q =
-          let p = h (same-eq (x .self .name) asked q) in
-          sym (ap (λ (m : Module). same-module (x .self) m) p) ∙ modules-decided .self (x .self)
-      go false q = refl
-
-  names-none : (ws : List Name) → first-some (name-changed d d′ x x′) ws ≡ none
-      → ForEach (λ w. missing d w ≡ missing d′ w) ws × ForEach (λ w. too-late d (x .earlier) w ≡ too-late d′ (x′ .earlier) w) ws
-  unfolding first-some name-changed
-  names-none [] h = (tt, tt)
-  names-none (w ∷ ws) h =
-      let a = or-none (name-changed d d′ x x′ w) _ h in
-      let b = both-true _ _ (passing _ _ (a .0)) in
-      let later = names-none ws (a .1) in
-      ((alike-same _ _ (b .0), later .0), (alike-same _ _ (b .1), later .1))
-
-  none-names : (ws : List Name) → ForEach (λ w. missing d w ≡ missing d′ w) ws
-      → ForEach (λ w. too-late d (x .earlier) w ≡ too-late d′ (x′ .earlier) w) ws → first-some (name-changed d d′ x x′) ws ≡ none
+  names-none : (ws : List Name) → Iff (first-some (name-changed d d′ x x′) ws ≡ none)
+      (Every (λ w. missing d w ≡ missing d′ w) ws × Every (λ w. too-late d (x .earlier) w ≡ too-late d′ (x′ .earlier) w) ws)
   unfolding first-some name-changed pick
-  none-names [] h k = refl
-  none-names (w ∷ ws) h k =
-      none-too _ _ (no-objection _ _ (rw (same-alike _ _ (h .0), same-alike _ _ (k .0)))) (none-names ws (h .1) (k .1))
+  names-none [] = (λ h. (tt, tt), λ h. refl)
+  names-none (w ∷ ws) =
+      let later = names-none ws in (
+        λ h. let a = both-none (name-changed d d′ x x′ w) _ .0 h in
+            let b = both-true _ _ (passes _ _ .0 (a .0)) in
+            let l = later .0 (a .1) in
+            ((tests-agree _ _ .0 (b .0), l .0), (tests-agree _ _ .0 (b .1), l .1)),
+        λ h. both-none _ _ .1
+            (passes _ _ .1 (rw (tests-agree _ _ .1 (h .0 .0), tests-agree _ _ .1 (h .1 .0))), later .1 (h .0 .1, h .1 .1)),
+      )
 
-  -- no reason stands against keeping: they are counterparts
-  pub counterparts : otherwise x x′ ≡ none → itself-changed asked x x′ ≡ none → shown-changed x x′ ≡ none → names-changed d d′ x x′ ≡ none
-      → Counterparts asked ms ms′ x x′
+  -- no reason stands against keeping where they are counterparts
+  counterparts : Iff ((otherwise x x′ ≡ none) × ((itself-changed asked x x′ ≡ none) × ((shown-changed x x′ ≡ none) × (names-changed d d′ x x′ ≡ none))))
+      (Counterparts asked ms ms′ x x′)
   unfolding otherwise shown-changed names-changed
-  counterparts o i s n =
-      let a = or-none _ _ s in
-      let b = or-none _ _ (a .1) in
-      let c = names-none (named-by (x .self)) n in
-      record {
-        alike = record {
-          name = decided-none same names-decided _ _ _ o;
-          parameters = decided-none _ parameters-decided _ _ _ (a .0);
-          exports = decided-none _ signatures-decided _ _ _ (b .0);
-          imports = decided-none _ imports-decided _ _ _ (b .1);
-        };
-        asked-same = itself-none i;
-        both-missing = c .0;
-        both-late = c .1;
-      }
-
-  -- and none stands against counterparts
-  module _ (c : Counterparts asked ms ms′ x x′) where
-    none-otherwise : otherwise x x′ ≡ none
-    unfolding otherwise
-    none-otherwise = none-decided same names-decided _ _ _ (c .alike .name)
-
-    none-shown : shown-changed x x′ ≡ none
-    unfolding shown-changed
-    none-shown =
-        none-too _ _ (none-decided _ parameters-decided _ _ _ (c .alike .parameters))
-        (none-too _ _ (none-decided _ signatures-decided _ _ _ (c .alike .exports)) (none-decided _ imports-decided _ _ _ (c .alike .imports)))
-
-    none-used : names-changed d d′ x x′ ≡ none
-    unfolding names-changed
-    none-used = none-names (named-by (x .self)) (c .both-missing) (c .both-late)
+  counterparts = (
+    λ h. let a = both-none _ _ .0 (h .1 .1 .0) in
+        let b = both-none _ _ .0 (a .1) in
+        let c = names-none (named-by (x .self)) .0 (h .1 .1 .1) in
+        record {
+          alike = record {
+            name = decided-none names-decided _ _ _ .0 (h .0);
+            parameters = decided-none parameters-decided _ _ _ .0 (a .0);
+            exports = decided-none signatures-decided _ _ _ .0 (b .0);
+            imports = decided-none imports-decided _ _ _ .0 (b .1);
+          };
+          asked-same = itself-none .0 (h .1 .0);
+          both-missing = c .0;
+          both-late = c .1;
+        },
+    λ c. (
+      decided-none names-decided _ _ _ .1 (c .alike .name),
+      (
+        itself-none .1 (c .asked-same),
+        (
+          both-none _ _ .1 (
+            decided-none parameters-decided _ _ _ .1 (c .alike .parameters),
+            both-none _ _ .1 (decided-none signatures-decided _ _ _ .1 (c .alike .exports), decided-none imports-decided _ _ _ .1 (c .alike .imports)),
+          ),
+          names-none (named-by (x .self)) .1 (c .both-missing, c .both-late),
+        ),
+      ),
+    ),
+  )
 
 -- ---- all pairs
 
-abbrev NoneIn : (Placed → Placed → Option Why) → Placed → Placed → Type 0
-NoneIn f x x′ = f x x′ ≡ none
-
-pairs-none : (f : Placed → Placed → Option Why) (xs xs′ : List Placed) → in-pairs f xs xs′ ≡ none → InTurn (NoneIn f) xs xs′
+pairs-none : (f : Placed → Placed → Option Why) (xs xs′ : List Placed) → Iff (in-pairs f xs xs′ ≡ none) (InTurn (λ x x′. f x x′ ≡ none) xs xs′)
 unfolding in-pairs
-pairs-none f [] [] h = tt
-pairs-none f [] (x′ ∷ xs′) h = let z : _≡_ {A = ℕ} 0 1 = cc in absurd (omega arith)
-pairs-none f (x ∷ xs) [] h = let z : _≡_ {A = ℕ} 0 1 = cc in absurd (omega arith)
-pairs-none f (x ∷ xs) (x′ ∷ xs′) h = let k = or-none (f x x′) _ h in (k .0, pairs-none f xs xs′ (k .1))
+pairs-none f [] [] = (λ h. tt, λ h. refl)
+pairs-none f [] (x′ ∷ xs′) = (λ h. nothing-said _ h, λ h. absurd h)
+pairs-none f (x ∷ xs) [] = (λ h. nothing-said _ h, λ h. absurd h)
+pairs-none f (x ∷ xs) (x′ ∷ xs′) =
+    let later = pairs-none f xs xs′ in
+    (λ h. let k = both-none (f x x′) _ .0 h in (k .0, later .0 (k .1)), λ h. both-none _ _ .1 (h .0, later .1 (h .1)))
 
-none-pairs : (f : Placed → Placed → Option Why) (xs xs′ : List Placed) → InTurn (NoneIn f) xs xs′ → in-pairs f xs xs′ ≡ none
-unfolding in-pairs
-none-pairs f [] [] h = refl
-none-pairs f [] (x′ ∷ xs′) h = absurd h
-none-pairs f (x ∷ xs) [] h = absurd h
-none-pairs f (x ∷ xs) (x′ ∷ xs′) h = none-too _ _ (h .0) (none-pairs f xs xs′ (h .1))
-
-module _ (asked : Name) (ms ms′ : List Module) (xs xs′ : List Placed) where
-  none-against : against asked (module-names ms) (module-names ms′) xs xs′ ≡ none → InTurn (Counterparts asked ms ms′) xs xs′
-  unfolding against
-  none-against h =
-      let a = or-none _ _ h in
-      let b = or-none _ _ (a .1) in
-      let c = or-none _ _ (b .1) in
-      in-turn-so _ _ (λ x x′ k. counterparts asked ms ms′ x x′ (k .0) (k .1 .0) (k .1 .1 .0) (k .1 .1 .1)) xs xs′
-      (both-in-turn _ _ xs xs′ (pairs-none _ xs xs′ (a .0)) (both-in-turn _ _ xs xs′ (pairs-none _ xs xs′ (b .0))
-      (both-in-turn _ _ xs xs′ (pairs-none _ xs xs′ (c .0)) (pairs-none _ xs xs′ (c .1)))))
-
-  all-alike : InTurn (Counterparts asked ms ms′) xs xs′ → against asked (module-names ms) (module-names ms′) xs xs′ ≡ none
-  unfolding against
-  all-alike c =
-      none-too _ _ (none-in otherwise (none-otherwise asked ms ms′))
-      (none-too _ _ (none-in (itself-changed asked) (λ x x′ k. none-itself asked ms ms′ x x′ (k .asked-same)))
-      (none-too _ _ (none-in shown-changed (none-shown asked ms ms′)) (none-in (names-changed _ _) (none-used asked ms ms′))))
-    where
-      none-in : (f : Placed → Placed → Option Why) → ((x x′ : Placed) → Counterparts asked ms ms′ x x′ → f x x′ ≡ none) → in-pairs f xs xs′ ≡ none
-      none-in f h = none-pairs f xs xs′ (in-turn-so _ (NoneIn f) h xs xs′ c)
+none-against : (asked : Name) (ms ms′ : List Module) (xs xs′ : List Placed)
+    → Iff (against asked (module-names ms) (module-names ms′) xs xs′ ≡ none) (InTurn (Counterparts asked ms ms′) xs xs′)
+unfolding against
+none-against asked ms ms′ xs xs′ = (
+  λ h. let a = both-none _ _ .0 h in
+      let b = both-none _ _ .0 (a .1) in
+      let c = both-none _ _ .0 (b .1) in
+      in-turn-so _ _ (λ x x′. counterparts asked ms ms′ x x′ .0) xs xs′
+      (both-in-turn _ _ xs xs′ (pairs-none _ xs xs′ .0 (a .0)) (both-in-turn _ _ xs xs′ (pairs-none _ xs xs′ .0 (b .0))
+      (both-in-turn _ _ xs xs′ (pairs-none _ xs xs′ .0 (c .0)) (pairs-none _ xs xs′ .0 (c .1))))),
+  λ h. let none-in = in-turn-so (Counterparts asked ms ms′) in
+      both-none _ _ .1 (
+        pairs-none _ xs xs′ .1 (none-in _ (λ x x′ c. counterparts asked ms ms′ x x′ .1 c .0) xs xs′ h),
+        both-none _ _ .1 (
+          pairs-none _ xs xs′ .1 (none-in _ (λ x x′ c. counterparts asked ms ms′ x x′ .1 c .1 .0) xs xs′ h),
+          both-none _ _ .1 (
+            pairs-none _ xs xs′ .1 (none-in _ (λ x x′ c. counterparts asked ms ms′ x x′ .1 c .1 .1 .0) xs xs′ h),
+            pairs-none _ xs xs′ .1 (none-in _ (λ x x′ c. counterparts asked ms ms′ x x′ .1 c .1 .1 .1) xs xs′ h),
+          ),
+        ),
+      ),
+)
 
 -- ---- the decision
 
@@ -199,7 +172,7 @@ keeps asked ms ms′ zs e = go (member asked (module-names ms)) (member asked (m
     go : (b b′ : Bool) (o : Option Why) (u u′ : Why) → member asked (module-names ms) ≡ b → member asked (module-names ms′) ≡ b′ → objections ≡ o
         → pick b (pick b′ (unless-against o ns) (ask-again u′)) (ask-again u) ≡ keep-after zs → Keeping asked ms ms′ × (ns ≡ zs)
     go true true none u u′ p p′ q e = (
-      record { stands = p; stands′ = p′; same-order = none-against asked ms ms′ (reached asked ms) (reached asked ms′) q },
+      record { stands = p; stands′ = p′; same-order = none-against asked ms ms′ (reached asked ms) (reached asked ms′) .0 q },
       cc,
     )
     go true true (some w) u u′ p p′ q e = let z : _≡_ {A = ℕ} 0 1 = cc in absurd (omega arith)
@@ -210,7 +183,7 @@ keeps asked ms ms′ zs e = go (member asked (module-names ms)) (member asked (m
 pub kept-always : (asked : Name) (ms ms′ : List Module) → Keeping asked ms ms′
     → to-ask asked ms ms′ ≡ keep-after (numbers (changed (reached asked ms) (reached asked ms′)))
 unfolding to-ask pick unless-against
-kept-always asked ms ms′ k = rw (k .stands, k .stands′, all-alike asked ms ms′ (reached asked ms) (reached asked ms′) (k .same-order))
+kept-always asked ms ms′ k = rw (k .stands, k .stands′, none-against asked ms ms′ (reached asked ms) (reached asked ms′) .1 (k .same-order))
 
 -- ---- of two specifications
 

@@ -2,27 +2,29 @@
 -- to date.
 use mathlib.Core.Path.{_≡_, refl, sym, ap, subst, _∙_}
 use mathlib.Core.Logic.{_⊎_, inl, inr}
-use Prim.Native.Nat.{ℕ, suc, _+_}
+use Prim.Native.Nat.{ℕ, _+_}
 use native.Mathlib.Omega.{arith}
 use mathlib.Core.List.{List, [], _∷_}
 use lib.ListN.{getD}
-use Rattle.meaning.specs.Laws.{by-cases}
 use Rattle.meaning.specs.Names.{Name}
 use Rattle.meaning.specs.Syntax.{Module}
 use Rattle.meaning.specs.Normal.{Visible}
 use Rattle.meaning.specs.Texts.{Texts, all-read}
-use Rattle.meaning.specs.Reached.{Placed, reached-among, reached, module-names}
+use Rattle.meaning.specs.Reached.{Placed, reached, module-names}
 use Rattle.meaning.specs.Distinct.{read-fresh}
 use Rattle.meaning.specs.Answer.{listing, answer}
+use Rattle.meaning.specs.OrderLaws.{Every}
 use Rattle.promises.specs.VisiblePart.{visible-part}
-use Rattle.promises.specs.Demand.{ReadAs, ForEach, ShortOfRoom}
-use Rattle.promises.specs.Seeing.{Showing}
+use Rattle.promises.specs.Demand.{ReadAs, ShortOfRoom}
+use Rattle.promises.specs.Proof.{Showing}
 use Rattle.promises.specs.Stored.{UpToDate}
-use Rattle.asking_again.specs.Showing.{shown-text, stored-shows, given}
-use Rattle.asking_again.specs.Again.{AnsweredZero, AllSettled, still-shows}
+use Rattle.asking_again.specs.Again.{AnsweredZero, AllSettled, still-shows, shown-text, stored-shows, given}
 use Rattle.asking_again.specs.Decide.{keep-after, numbers, decide, names-read, module-called}
 use Rattle.asking_again.specs.Changed.{changed-each, changed-within}
 use Rattle.asking_again.specs.Exact.{Kept, decided}
+use Rattle.promises.specs.TwoCalls.{reached-such}
+use Rattle.promises.specs.ListingLaws.{every-so}
+use Rattle.promises.specs.Sound.{every-any}
 
 -- ---- the statement
 
@@ -42,28 +44,18 @@ pub data Held : Name → Texts → List ℕ → Type 0 where
 
 -- ---- the changed modules, by their numbers
 
--- a reached module is called as its number says
-reached-called : (called : ℕ → Name) (asked : Name) (k : ℕ) (e : List Name) (ms : List Module)
-    → ((i : ℕ) → called (k + i) ≡ getD (module-names ms) i []) → ForEach (λ x. called (x .number) ≡ x .self .name) (reached-among asked k e ms)
-unfolding reached-among module-names
-reached-called called asked k e [] h = tt
-reached-called called asked k e (m ∷ ms) h =
-    let here : called k ≡ m .name = (let z : k ≡ k + 0 = omega arith in ap called z) ∙ h 0 in
-    let later = reached-called called asked (k + 1) (m .name ∷ e) ms (λ i. (let z : k + 1 + i ≡ k + suc i = omega arith in ap called z) ∙ h (suc i)) in
-    by-cases (ForEach (λ x. called (x .number) ≡ x .self .name)) _ _ _ (λ b. (here, later)) (λ b. later)
-
-by-number : (S : Name → Type 0) (called : ℕ → Name) (xs : List Placed) → ForEach (λ x. called (x .number) ≡ x .self .name) xs
-    → ForEach (λ k. S (called k)) (numbers xs) → ForEach (λ x. S (x .self .name)) xs
+by-number : (S : Name → Type 0) (called : ℕ → Name) (xs : List Placed) → Every (λ x. called (x .number) ≡ x .self .name) xs
+    → Every (λ k. S (called k)) (numbers xs) → Every (λ x. S (x .self .name)) xs
 unfolding numbers
 by-number S called [] c h = tt
 by-number S called (x ∷ xs) c h = (subst S (c .0) (h .0), by-number S called xs (c .1) (h .1))
 
-among-each : (P : ℕ → Type 0) (zs : List ℕ) → ForEach P zs → (k : ℕ) → Among k zs → P k
+among-each : (P : ℕ → Type 0) (zs : List ℕ) → Every P zs → (k : ℕ) → Among k zs → P k
 among-each P [] h k a = absurd a
 among-each P (z ∷ zs) h k (inl p) = subst P (sym p) (h .0)
 among-each P (z ∷ zs) h k (inr a) = among-each P zs (h .1) k a
 
-each-among : (P : ℕ → Type 0) (zs : List ℕ) → ((k : ℕ) → Among k zs → P k) → ForEach P zs
+each-among : (P : ℕ → Type 0) (zs : List ℕ) → ((k : ℕ) → Among k zs → P k) → Every P zs
 each-among P [] h = tt
 each-among P (z ∷ zs) h = (h z (inl refl), each-among P zs (λ k a. h k (inr a)))
 
@@ -73,17 +65,18 @@ called-so texts ms r k = rw (r .reads)
 
 -- where each module that the decision names shows something, the changed ones are settled
 settled-so : (asked : Name) (old new : Texts) (zs : List ℕ) (d : Kept asked old new zs)
-    → ForEach (λ k. (v : Visible) × Showing (module-called new k) (d .modules′) v) zs
+    → Every (λ k. (v : Visible) × Showing (module-called new k) (d .modules′) v) zs
     → AllSettled asked (d .modules) (d .modules′)
-unfolding reached
+unfolding reached module-names
 settled-so asked old new zs d h =
     let P : Name → Type 0 = λ w. (v : Visible) × Showing w (d .modules′) v in
     let called : (i : ℕ) → module-called new (0 + i) ≡ getD (module-names (d .modules′)) i [] =
     λ i. let z : 0 + i ≡ i = omega arith in ap (module-called new) z ∙ called-so new (d .modules′) (d .read-as′) i in
     changed-each (λ x. P (x .self .name)) _ (reached asked (d .modules)) (reached asked (d .modules′)) (d .keeping .same-order)
     (by-number P (module-called new) _
-    (changed-within _ (reached asked (d .modules)) _ (reached-called (module-called new) asked 0 [] (d .modules′) called))
-    (subst (ForEach (λ k. P (module-called new k))) (sym (d .named)) h))
+    (changed-within _ (reached asked (d .modules)) _ (every-so _ _ (reached asked (d .modules′)) (λ x h. h .1)
+    (reached-such (λ m. Unit {0}) (λ (m : Module). m .name) [] (module-called new) asked 0 [] (d .modules′) (every-any (d .modules′)) called)))
+    (subst (Every (λ k. P (module-called new k))) (sym (d .named)) h))
 
 -- ---- what is held is what the module shows
 
@@ -122,7 +115,7 @@ part-told asked texts a = visible-part (listing (answer (a .memory) (a .output) 
 
 -- what is held for the old specification is held for the new, where the decision is to keep and each module that it names is answered 0
 pub held-on : (asked : Name) (old new : Texts) (stored : List ℕ) (zs : List ℕ) → decide asked old new ≡ keep-after zs
-    → ForEach (λ k. AnsweredZero (module-called new k) new) zs → Held asked old stored → Held asked new stored
+    → Every (λ k. AnsweredZero (module-called new k) new) zs → Held asked old stored → Held asked new stored
 unfolding part-told
 held-on asked old new stored zs e h held =
     by-keeping asked old new stored zs (λ k a. part-told (module-called new k) new (found k a)) e held
@@ -133,7 +126,7 @@ held-on asked old new stored zs e h held =
     found = among-each (λ k. AnsweredZero (module-called new k) new) zs h
 
 pub kept-by-decision : (asked : Name) (old new : Texts) (zs : List ℕ) → decide asked old new ≡ keep-after zs
-    → ForEach (λ k. AnsweredZero (module-called new k) new) zs
+    → Every (λ k. AnsweredZero (module-called new k) new) zs
     → (memory memory′ output output′ : ℕ) (stored : List ℕ) → UpToDate stored (answer memory output asked old)
     → ShortOfRoom (answer memory′ output′ asked new) ⊎ UpToDate stored (answer memory′ output′ asked new)
 kept-by-decision asked old new zs e h memory memory′ output output′ stored u =

@@ -1,5 +1,4 @@
 -- demand 3 with the changed modules asked again
-pub mod Showing
 pub mod Again
 -- the decision: whether two modules are the same, the reasons, which modules to ask again, and that it is exact
 pub mod Same

@@ -1,12 +1,14 @@
 -- Whether two modules are the same: a test for each thing that is read, which says yes of a thing and itself, and only of equals.
-use mathlib.Core.Path.{_≡_, refl, ap}
+use mathlib.Core.Path.{_≡_, refl, ap, ap₂}
 use mathlib.Core.Bool.{Bool, true, false, _&&_, false≢true}
+use mathlib.Core.List.{List}
 use Rattle.meaning.specs.Lists.{agree}
-use Rattle.meaning.specs.Names.{same}
+use Rattle.meaning.specs.Names.{Name, same}
 use Rattle.meaning.specs.OrderLaws.{same-self, same-equal}
 use Rattle.meaning.specs.Syntax.{Signature, Parameter, Pair, Clause, renamed-by, bound-by, Import, VariableGroup, Term, Terms, node, no-terms, _then_, Sides, Equation, Module}
 use Rattle.meaning.specs.Evaluate.{same-function}
-use Rattle.promises.specs.ListingLaws.{both-true, agree-equal, agree-self}
+use Rattle.promises.specs.ListingLaws.{both-true}
+use Rattle.promises.specs.Deciding.{Decides, names-decided, lists-decided, both-decided, by-parts}
 
 -- ---- the tests
 
@@ -67,130 +69,64 @@ same-opened = tt
 
 -- ---- they decide
 
-pub record Decides {A : Type 0} (e : A → A → Bool) : Type 0 where
-  pub self : (a : A) → e a a ≡ true
-  pub equal : (a b : A) → e a b ≡ true → a ≡ b
-
-pub names-decided : Decides same
-names-decided = record { self = same-self; equal = same-equal }
-
-pub lists-decided : {A : Type 0} (e : A → A → Bool) → Decides e → Decides (agree e)
-lists-decided e d = record { self = agree-self e (d .self); equal = agree-equal e (d .equal) }
-
-name-lists-decided : Decides (agree same)
-name-lists-decided = lists-decided same names-decided
-
 function-decided : Decides same-function
 unfolding same-function
-function-decided = record {
-  self = λ a. rw (same-self (a .name), name-lists-decided .self (a .inputs), same-self (a .output));
-  equal =
-      λ a b h.
-      let p = both-true _ _ h in
-      let q = both-true _ _ (p .0) in
-      let n = same-equal _ _ (q .0) in
-      let s = name-lists-decided .equal _ _ (q .1) in
-      let o = same-equal _ _ (p .1) in
-      λ i. record { name = n i; inputs = s i; output = o i };
-}
-
-functions-decided : Decides (agree same-function)
-functions-decided = lists-decided same-function function-decided
+function-decided =
+    by-parts (both-decided (both-decided names-decided (lists-decided names-decided)) names-decided)
+    (λ f. ((f .name, f .inputs), f .output)) (λ p. record { name = p .0 .0; inputs = p .0 .1; output = p .1 }) (λ f. refl)
 
 pub signatures-decided : Decides same-signature
 unfolding same-signature
-signatures-decided = record {
-  self = λ a. rw (name-lists-decided .self (a .sorts), functions-decided .self (a .functions));
-  equal =
-      λ a b h.
-      let p = both-true _ _ h in
-      let s = name-lists-decided .equal _ _ (p .0) in
-      let f = functions-decided .equal _ _ (p .1) in
-      λ i. record { sorts = s i; functions = f i };
-}
+signatures-decided =
+    by-parts (both-decided (lists-decided names-decided) (lists-decided function-decided))
+    (λ s. (s .sorts, s .functions)) (λ p. record { sorts = p .0; functions = p .1 }) (λ s. refl)
 
 parameter-decided : Decides same-parameter
 unfolding same-parameter
-parameter-decided = record {
-  self = λ a. rw (same-self (a .name), signatures-decided .self (a .signature));
-  equal =
-      λ a b h.
-      let p = both-true _ _ h in
-      let n = same-equal _ _ (p .0) in
-      let s = signatures-decided .equal _ _ (p .1) in
-      λ i. record { name = n i; signature = s i };
-}
+parameter-decided =
+    by-parts (both-decided names-decided signatures-decided)
+    (λ m. (m .name, m .signature)) (λ p. record { name = p .0; signature = p .1 }) (λ m. refl)
 
 pub parameters-decided : Decides (agree same-parameter)
-parameters-decided = lists-decided same-parameter parameter-decided
-
-pair-decided : Decides same-pair
-unfolding same-pair
-pair-decided = record {
-  self = λ a. rw (same-self (a .old), same-self (a .new));
-  equal =
-      λ a b h.
-      let p = both-true _ _ h in
-      let n = same-equal _ _ (p .0) in
-      let s = same-equal _ _ (p .1) in
-      λ i. record { old = n i; new = s i };
-}
+parameters-decided = lists-decided parameter-decided
 
 pairs-decided : Decides (agree same-pair)
-pairs-decided = lists-decided same-pair pair-decided
+unfolding same-pair
+pairs-decided =
+    lists-decided (by-parts (both-decided names-decided names-decided) (λ r. (r .old, r .new)) (λ p. record { old = p .0; new = p .1 }) (λ r. refl))
 
 clause-decided : Decides same-clause
 unfolding same-clause
 clause-decided = record { self = self; equal = equal }
   where
+    bound : Decides (λ (u v : Name × (List Pair × Name)). same (u .0) (v .0) && (agree same-pair (u .1 .0) (v .1 .0) && same (u .1 .1) (v .1 .1)))
+    bound = both-decided names-decided (both-decided pairs-decided names-decided)
+
     self : (c : Clause) → same-clause c c ≡ true
     self (renamed-by rs) = pairs-decided .self rs
-    self (bound-by p rs m) = rw (same-self p, pairs-decided .self rs, same-self m)
+    self (bound-by p rs m) = bound .self (p, (rs, m))
 
     equal : (c d : Clause) → same-clause c d ≡ true → c ≡ d
     equal (renamed-by rs) (renamed-by qs) h = ap renamed-by (pairs-decided .equal rs qs h)
     equal (renamed-by rs) (bound-by p qs m) h = absurd (false≢true h)
     equal (bound-by p rs m) (renamed-by qs) h = absurd (false≢true h)
     equal (bound-by p rs m) (bound-by q qs n) h =
-        let a = both-true (same p q) _ h in
-        let b = both-true (agree same-pair rs qs) _ (a .1) in
-        let s = same-equal p q (a .0) in
-        let t = pairs-decided .equal rs qs (b .0) in
-        let u = same-equal m n (b .1) in
-        λ i. bound-by (s i) (t i) (u i)
-
-clauses-decided : Decides (agree same-clause)
-clauses-decided = lists-decided same-clause clause-decided
+        ap (λ (u : Name × (List Pair × Name)). bound-by (u .0) (u .1 .0) (u .1 .1)) (bound .equal (p, (rs, m)) (q, (qs, n)) h)
 
 import-decided : Decides same-import
 unfolding same-import
-import-decided = record {
-  self = λ a. rw (same-self (a .name), clauses-decided .self (a .clauses));
-  equal =
-      λ a b h.
-      let p = both-true _ _ h in
-      let n = same-equal _ _ (p .0) in
-      let s = clauses-decided .equal _ _ (p .1) in
-      λ i. record { name = n i; clauses = s i };
-}
+import-decided =
+    by-parts (both-decided names-decided (lists-decided clause-decided))
+    (λ m. (m .name, m .clauses)) (λ p. record { name = p .0; clauses = p .1 }) (λ m. refl)
 
 pub imports-decided : Decides (agree same-import)
-imports-decided = lists-decided same-import import-decided
+imports-decided = lists-decided import-decided
 
 group-decided : Decides same-group
 unfolding same-group
-group-decided = record {
-  self = λ a. rw (name-lists-decided .self (a .names), same-self (a .sort));
-  equal =
-      λ a b h.
-      let p = both-true _ _ h in
-      let n = name-lists-decided .equal _ _ (p .0) in
-      let s = same-equal _ _ (p .1) in
-      λ i. record { names = n i; sort = s i };
-}
-
-groups-decided : Decides (agree same-group)
-groups-decided = lists-decided same-group group-decided
+group-decided =
+    by-parts (both-decided (lists-decided names-decided) names-decided)
+    (λ g. (g .names, g .sort)) (λ p. record { names = p .0; sort = p .1 }) (λ g. refl)
 
 mutual
   unfolding same-term
@@ -206,91 +142,43 @@ mutual
   unfolding same-term
 
   term-equal : (t u : Term) → same-term t u ≡ true → t ≡ u
-  term-equal (node f xs) (node g ys) h =
-      let p = both-true (same f g) _ h in
-      let n = same-equal f g (p .0) in
-      let s = terms-equal xs ys (p .1) in
-      λ i. node (n i) (s i)
+  term-equal (node f xs) (node g ys) h = let p = both-true (same f g) _ h in ap₂ node (same-equal f g (p .0)) (terms-equal xs ys (p .1))
 
   terms-equal : (ts us : Terms) → same-terms ts us ≡ true → ts ≡ us
   terms-equal no-terms no-terms h = refl
   terms-equal no-terms (y then ys) h = absurd (false≢true h)
   terms-equal (x then xs) no-terms h = absurd (false≢true h)
   terms-equal (x then xs) (y then ys) h =
-      let p = both-true (same-term x y) _ h in
-      let n = term-equal x y (p .0) in
-      let s = terms-equal xs ys (p .1) in
-      λ i. n i then s i
+      let p = both-true (same-term x y) _ h in ap₂ _then_ (term-equal x y (p .0)) (terms-equal xs ys (p .1))
 
-side-decided : Decides same-sides
+sides-decided : Decides same-sides
 unfolding same-sides
-side-decided = record {
-  self = λ a. rw (term-self (a .left), term-self (a .right));
-  equal =
-      λ a b h.
-      let p = both-true _ _ h in
-      let n = term-equal _ _ (p .0) in
-      let s = term-equal _ _ (p .1) in
-      λ i. record { left = n i; right = s i };
-}
-
-sides-decided : Decides (agree same-sides)
-sides-decided = lists-decided same-sides side-decided
+sides-decided =
+    by-parts (both-decided terms-decided terms-decided) (λ e. (e .left, e .right)) (λ p. record { left = p .0; right = p .1 }) (λ e. refl)
+  where
+    terms-decided : Decides same-term
+    terms-decided = record { self = term-self; equal = term-equal }
 
 equation-decided : Decides same-equation
 unfolding same-equation
-equation-decided = record {
-  self = λ a. rw (same-self (a .tag), sides-decided .self (a .before), side-decided .self (a .conclusion), sides-decided .self (a .after));
-  equal =
-      λ a b h.
-      let p = both-true _ _ h in
-      let q = both-true _ _ (p .1) in
-      let r = both-true _ _ (q .1) in
-      let t = same-equal _ _ (p .0) in
-      let s = sides-decided .equal _ _ (q .0) in
-      let c = side-decided .equal _ _ (r .0) in
-      let u = sides-decided .equal _ _ (r .1) in
-      λ i. record { tag = t i; before = s i; conclusion = c i; after = u i };
-}
-
-equations-decided : Decides (agree same-equation)
-equations-decided = lists-decided same-equation equation-decided
+equation-decided =
+    let conditions = lists-decided sides-decided in
+    by-parts (both-decided names-decided (both-decided conditions (both-decided sides-decided conditions)))
+    (λ e. (e .tag, (e .before, (e .conclusion, e .after))))
+    (λ p. record { tag = p .0; before = p .1 .0; conclusion = p .1 .1 .0; after = p .1 .1 .1 }) (λ e. refl)
 
 pub modules-decided : Decides same-module
 unfolding same-module same-hidden
-modules-decided = record {
-  self =
-      λ a. rw (
-        same-self (a .name),
-        parameters-decided .self (a .parameters),
-        signatures-decided .self (a .exports),
-        imports-decided .self (a .imports),
-        signatures-decided .self (a .hidden),
-        groups-decided .self (a .groups),
-        equations-decided .self (a .equations),
-      );
-  equal =
-      λ a b h.
-      let p = both-true _ _ h in
-      let q = both-true _ _ (p .1) in
-      let r = both-true _ _ (q .1) in
-      let s = both-true _ _ (r .1) in
-      let t = both-true _ _ (s .1) in
-      let u = both-true _ _ (t .1) in
-      let name = same-equal _ _ (p .0) in
-      let parameters = parameters-decided .equal _ _ (q .0) in
-      let exports = signatures-decided .equal _ _ (r .0) in
-      let imports = imports-decided .equal _ _ (s .0) in
-      let hidden = signatures-decided .equal _ _ (t .0) in
-      let groups = groups-decided .equal _ _ (u .0) in
-      let equations = equations-decided .equal _ _ (u .1) in
-      λ i. record {
-        name = name i;
-        parameters = parameters i;
-        exports = exports i;
-        imports = imports i;
-        hidden = hidden i;
-        groups = groups i;
-        equations = equations i;
-      };
-}
+modules-decided =
+    let hides = both-decided signatures-decided (both-decided (lists-decided group-decided) (lists-decided equation-decided)) in
+    by-parts (both-decided names-decided (both-decided parameters-decided (both-decided signatures-decided (both-decided imports-decided hides))))
+    (λ m. (m .name, (m .parameters, (m .exports, (m .imports, (m .hidden, (m .groups, m .equations)))))))
+    (λ p. record {
+      name = p .0;
+      parameters = p .1 .0;
+      exports = p .1 .1 .0;
+      imports = p .1 .1 .1 .0;
+      hidden = p .1 .1 .1 .1 .0;
+      groups = p .1 .1 .1 .1 .1 .0;
+      equations = p .1 .1 .1 .1 .1 .1;
+    }) (λ m. refl)

@@ -49,52 +49,33 @@ pub second-to-third : decide asked second-texts third-texts ≡ keep-after (1 �
 unfolding samples-opened second-texts third-texts
 second-to-third = refl
 
-pub first-to-third : decide asked first-texts third-texts ≡ keep-after (0 ∷ 1 ∷ [])
-unfolding samples-opened first-texts third-texts
-first-to-third = refl
-
-pub nothing-to-ask : decide asked second-texts second-texts ≡ keep-after []
-unfolding samples-opened second-texts
-nothing-to-ask = refl
+pub others-decided :
+    (decide asked first-texts third-texts ≡ keep-after (0 ∷ 1 ∷ []))
+    × (decide asked second-texts second-texts ≡ keep-after [])
+unfolding samples-opened first-texts third-texts second-texts
+others-decided = (refl, refl)
 
 -- ---- why to ask, from the first specification to one of these texts alone
 
 abbrev from-first : List ℕ → Decision
 from-first text = decide asked first-texts (two-texts [] text)
 
-pub absent-says : from-first (bytes "module M0 begin end M0") ≡ ask-again (why absent-now (bytes "M2") [])
-unfolding samples-opened first-texts
-absent-says = refl
-
-pub new-says : decide (bytes "M9") first-texts second-texts ≡ ask-again (why absent-before (bytes "M9") [])
+-- in the fourth the exports of M0 changed too, but M2's own change is told first
+pub reasons-say :
+    (from-first (bytes "module M0 begin end M0") ≡ ask-again (why absent-now (bytes "M2") []))
+    × (decide (bytes "M9") first-texts second-texts ≡ ask-again (why absent-before (bytes "M9") []))
+    × (from-first (bytes "module M1 begin imports M0 functions f : A -> A end M1 module M0 begin exports begin sorts A end sorts H end M0 module M2 begin imports M1 { renamed by [ A -> C ] } end M2")
+    ≡ ask-again (why reached-otherwise (bytes "M0") (bytes "M1")))
+    × (from-first (bytes "module M0 begin exports begin sorts A, B end sorts H end M0 module M1 begin imports M0 functions f : A -> A end M1 module M2 begin imports M1 { renamed by [ A -> C ] } sorts C end M2")
+    ≡ ask-again (why asked-changed (bytes "M2") []))
+    × (from-first (bytes "module M0 begin exports begin sorts A end sorts H end M0 module M1 begin parameters P begin sorts A end P imports M0 functions f : A -> A end M1 module M2 begin imports M1 { renamed by [ A -> C ] } end M2")
+    ≡ ask-again (why parameters-changed (bytes "M1") []))
+    × (from-first (bytes "module M0 begin exports begin sorts A, B end sorts H end M0 module M1 begin imports M0 functions f : A -> A end M1 module M2 begin imports M1 { renamed by [ A -> C ] } end M2")
+    ≡ ask-again (why exports-changed (bytes "M0") []))
+    × (from-first (bytes "module M0 begin exports begin sorts A end sorts H end M0 module M1 begin imports M0, M0 functions f : A -> A end M1 module M2 begin imports M1 { renamed by [ A -> C ] } end M2")
+    ≡ ask-again (why imports-changed (bytes "M1") []))
 unfolding samples-opened first-texts second-texts
-new-says = refl
-
-pub order-says : from-first (bytes "module M1 begin imports M0 functions f : A -> A end M1 module M0 begin exports begin sorts A end sorts H end M0 module M2 begin imports M1 { renamed by [ A -> C ] } end M2")
-    ≡ ask-again (why reached-otherwise (bytes "M0") (bytes "M1"))
-unfolding samples-opened first-texts
-order-says = refl
-
--- the exports of M0 changed too, but M2's own change is told first
-pub itself-says : from-first (bytes "module M0 begin exports begin sorts A, B end sorts H end M0 module M1 begin imports M0 functions f : A -> A end M1 module M2 begin imports M1 { renamed by [ A -> C ] } sorts C end M2")
-    ≡ ask-again (why asked-changed (bytes "M2") [])
-unfolding samples-opened first-texts
-itself-says = refl
-
-pub parameters-say : from-first (bytes "module M0 begin exports begin sorts A end sorts H end M0 module M1 begin parameters P begin sorts A end P imports M0 functions f : A -> A end M1 module M2 begin imports M1 { renamed by [ A -> C ] } end M2")
-    ≡ ask-again (why parameters-changed (bytes "M1") [])
-unfolding samples-opened first-texts
-parameters-say = refl
-
-pub exports-say : from-first (bytes "module M0 begin exports begin sorts A, B end sorts H end M0 module M1 begin imports M0 functions f : A -> A end M1 module M2 begin imports M1 { renamed by [ A -> C ] } end M2")
-    ≡ ask-again (why exports-changed (bytes "M0") [])
-unfolding samples-opened first-texts
-exports-say = refl
-
-pub imports-say : from-first (bytes "module M0 begin exports begin sorts A end sorts H end M0 module M1 begin imports M0, M0 functions f : A -> A end M1 module M2 begin imports M1 { renamed by [ A -> C ] } end M2")
-    ≡ ask-again (why imports-changed (bytes "M1") [])
-unfolding samples-opened first-texts
-imports-say = refl
+reasons-say = (refl, refl, refl, refl, refl, refl, refl)
 
 -- ---- a module name that M2 uses: missing, too late, earlier
 
@@ -104,40 +85,33 @@ missing-text = bytes "module M2 begin imports M1 end M2"
 unfoldable pub late-text : List ℕ
 late-text = bytes "module M2 begin imports M1 end M2 module M1 begin end M1"
 
-pub missing-says : decide asked (two-texts [] missing-text) (two-texts [] late-text) ≡ ask-again (why named-otherwise (bytes "M2") (bytes "M1"))
-unfolding samples-opened missing-text late-text
-missing-says = refl
-
 -- one that stands earlier in one of the two is reached there
-pub earlier-says : decide asked (two-texts [] late-text) (two-texts (bytes "module M1 begin end M1") missing-text)
-    ≡ ask-again (why reached-otherwise (bytes "M2") (bytes "M1"))
+pub names-say :
+    (decide asked (two-texts [] missing-text) (two-texts [] late-text) ≡ ask-again (why named-otherwise (bytes "M2") (bytes "M1")))
+    × (decide asked (two-texts [] late-text) (two-texts (bytes "module M1 begin end M1") missing-text)
+    ≡ ask-again (why reached-otherwise (bytes "M2") (bytes "M1")))
 unfolding samples-opened missing-text late-text
-earlier-says = refl
+names-say = (refl, refl)
 
 -- ---- not read: the old one is looked at first
 
-pub old-unread : decide asked (two-texts (bytes "modul") missing-text) (two-texts [] (bytes ".")) ≡ not-read false true not-allowed 0
+pub unread-say :
+    (decide asked (two-texts (bytes "modul") missing-text) (two-texts [] (bytes ".")) ≡ not-read false true not-allowed 0)
+    × (decide asked (two-texts [] missing-text) (two-texts [] (bytes " .")) ≡ not-read true false no-token-there 1)
 unfolding samples-opened missing-text
-old-unread = refl
-
-pub new-unread : decide asked (two-texts [] missing-text) (two-texts [] (bytes " .")) ≡ not-read true false no-token-there 1
-unfolding samples-opened missing-text
-new-unread = refl
+unread-say = (refl, refl)
 
 -- ---- the answers of the modules that it names matter: M1 hides a sort that clashes with its own, and both are refused by 10
 
 unfoldable pub clashing-texts : Texts
 clashing-texts = two-texts [] (bytes "module M0 begin exports begin sorts A end sorts H end M0 module M1 begin imports M0 sorts A end M1 module M2 begin imports M1 { renamed by [ A -> C ] } end M2")
 
-pub says-keep : decide asked first-texts clashing-texts ≡ keep-after (1 ∷ [])
+pub says-keep-but-refused :
+    (decide asked first-texts clashing-texts ≡ keep-after (1 ∷ []))
+    × ((answer memory-size program-output (bytes "M1") clashing-texts .number ≡ clashing)
+    × (answer memory-size program-output asked clashing-texts .number ≡ clashing))
 unfolding samples-opened first-texts clashing-texts
-says-keep = refl
-
-pub but-refused :
-    (answer memory-size program-output (bytes "M1") clashing-texts .number ≡ clashing)
-    × (answer memory-size program-output asked clashing-texts .number ≡ clashing)
-unfolding samples-opened clashing-texts
-but-refused = (refl, refl)
+says-keep-but-refused = (refl, (refl, refl))
 
 -- ---- M2 was asked of the first specification only; M0 of the second, M1 of the third
 

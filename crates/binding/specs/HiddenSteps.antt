@@ -14,9 +14,9 @@ use Rattle.forms.specs.declared.Form.{Form}
 use Rattle.forms.specs.declared.Block.{Block}
 use Rattle.forms.specs.Memory.{part, Kept}
 use Rattle.forms.specs.Forms.{Stands}
-use Rattle.forms.specs.FormLaws.{Apart, kept-then, kept-same, kept-two-same, tape-same}
+use Rattle.forms.specs.FormLaws.{Apart, kept-same, kept-two-same}
 use Rattle.forms.specs.FullLists.{length-union}
-use Rattle.forms.specs.Frames.{stands-kept}
+use Rattle.frames.specs.Changes.{onward, around, apart-in, outside-in, tape-kept, still-stands}
 use Rattle.translation.specs.declared.Mode.{Mode}
 use Rattle.joining.specs.Joined.{with-counts}
 use Rattle.joining.specs.Found.{Noted}
@@ -24,12 +24,11 @@ use Rattle.joining.specs.Pointed.{noted-stays}
 use Rattle.uniting.specs.Rooms.{HiddenRoom}
 use Rattle.uniting.specs.United.{empty-in, with-items, hidden-onto, moved-onto, sorts, functions, HiddenUnited}
 use Rattle.uniting.specs.InBlock.{hidden-room-in}
-use Rattle.uniting.specs.Whole.{kept-both}
 use Rattle.uniting.specs.Corollaries.{united-as-is, hidden-stands}
 use Rattle.making.specs.Checked.{CheckRoom}
 use Rattle.binding.specs.Rooms.{as-is, StepRoom, SeenRoom}
 use Rattle.binding.specs.Binding.{HiddenBound}
-use Rattle.binding.specs.Places.{Laid, Counts, block-laid, counts, mode-apart, own-step, InsideBlock, seen-inside, inside-more}
+use Rattle.binding.specs.Places.{Laid, Counts, block-laid, mode-apart, own-step, InsideBlock, seen-inside, inside-more}
 use Rattle.binding.specs.VisibleSteps.{as-is-kind, as-is-apart, sorts-as-is, functions-as-is}
 
 module _ (text : List ℕ) (t : ℕ) (w : List ℕ) (m : Mode) (g actual f : Form) (b : Block) (given : SeenRoom (length w) t m g actual f b) where
@@ -40,16 +39,9 @@ module _ (text : List ℕ) (t : ℕ) (w : List ℕ) (m : Mode) (g actual f : For
   laid = block-laid (length w) t b (room .room .own .room)
 
   abbrev fit : Counts g actual
-  fit = counts (length w) t g actual b (room .room)
+  fit = (room .room .own .fits, room .room .fits)
 
-  abbrev low : ℕ
-  low = b .low
-
-  abbrev high : ℕ
-  high = b .high
-
-  abbrev notes : ℕ
-  notes = b .«visible_notes»
+  open Block b using (low, high, «visible_notes» as notes)
 
   table-apart : Apart low high (m .visible) (m .visible + m .count * 16)
   table-apart = mode-apart (length w) t m g b (own-step (length w) t m g actual b room)
@@ -67,8 +59,8 @@ module _ (text : List ℕ) (t : ℕ) (w : List ℕ) (m : Mode) (g actual f : For
 
   pub own-hidden-room : HiddenRoom (length w) t m g f b notes
   own-hidden-room =
-      hidden-room-in (length w) t b 16 1024 1024 2048 laid f inside m g notes (room .room .own .outside) table-apart
-      (omega (arith, no-hidden, fit)) (omega (arith, fit)) (omega (arith, no-hidden, fit)) (room .room .own .nodes)
+      hidden-room-in laid inside m g notes _ (outside-in (omega (arith, laid, fit)) (room .room .own .outside)) (apart-in (omega (arith, laid, fit)) table-apart)
+      (omega arith) (omega (arith, no-hidden, fit)) (omega (arith, no-hidden, fit)) (omega (arith, fit)) (room .room .own .nodes)
       (inr (omega (arith, laid))) (inl (omega (arith, laid, fit)))
 
   module _ (own : Form) (w₁ : List ℕ) (x : HiddenUnited text t w m g f b notes own w₁) where
@@ -79,9 +71,7 @@ module _ (text : List ℕ) (t : ℕ) (w : List ℕ) (m : Mode) (g actual f : For
     own-inside = inside-more b f own inside (x .form) (omega (arith, own-hidden, fit)) (x .equations) (x .nodes)
 
     own-kept : Kept low high w w₁
-    own-kept =
-        let l = inside .lies in
-        kept-both low high _ _ _ _ w w₁ (omega (arith, l, laid)) (omega (arith, l, laid)) (omega (arith, laid)) (omega (arith, laid, fit)) (x .kept)
+    own-kept = around (omega (arith, inside .lies, laid)) (omega (arith, laid, fit)) (x .kept)
 
     same-visible : own .visible ≡ f .visible
     same-visible = own-inside .lies .visible ∙ sym (inside .lies .visible)
@@ -93,8 +83,8 @@ module _ (text : List ℕ) (t : ℕ) (w : List ℕ) (m : Mode) (g actual f : For
     module _ (o : Mode) (plain : o ≡ as-is) where
       pub actual-hidden-room : HiddenRoom (length w₁) t o actual own b (notes + 1024)
       actual-hidden-room =
-          rw (own-kept .size) (hidden-room-in (length w) t b 16 1024 1024 2048 laid own own-inside o actual (notes + 1024) (room .room .outside)
-          (as-is-apart _ _ o plain) (omega (arith, own-hidden, fit)) (omega (arith, fit)) (omega (arith, own-hidden, fit)) (room .room .nodes)
+          rw (own-kept .size) (hidden-room-in laid own-inside o actual (notes + 1024) _ (outside-in (omega (arith, laid, fit)) (room .room .outside))
+          (as-is-apart _ _ o plain) (omega arith) (omega (arith, own-hidden, fit)) (omega (arith, own-hidden, fit)) (omega (arith, fit)) (room .room .nodes)
           (inr (omega (arith, laid))) (inl (omega (arith, laid, fit))))
 
       module _ (r : Form) (w₂ : List ℕ) (y : HiddenUnited text t w₁ o actual own b (notes + 1024) r w₂) where
@@ -102,12 +92,10 @@ module _ (text : List ℕ) (t : ℕ) (w : List ℕ) (m : Mode) (g actual f : For
         last-inside = inside-more b own r own-inside (y .form) (omega (arith, y .few, own-hidden, fit)) (y .equations) (y .nodes)
 
         last-kept : Kept low high w₁ w₂
-        last-kept =
-            let l = own-inside .lies in
-            kept-both low high _ _ _ _ w₁ w₂ (omega (arith, l, laid)) (omega (arith, l, laid)) (omega (arith, laid)) (omega (arith, laid, fit)) (y .kept)
+        last-kept = around (omega (arith, own-inside .lies, laid)) (omega (arith, laid, fit)) (y .kept)
 
         both-kept : Kept low high w w₂
-        both-kept = kept-then low high w w₁ w₂ own-kept last-kept
+        both-kept = onward own-kept last-kept
 
         check : CheckRoom (length w₂) t r b
         check =
@@ -137,7 +125,7 @@ module _ (text : List ℕ) (t : ℕ) (w : List ℕ) (m : Mode) (g actual f : For
         φ = functions text t w m
 
         tape₁ : part w₁ 0 t ≡ part w 0 t
-        tape₁ = tape-same w w₁ t (own-kept .size) (λ i h l. own-kept .below i (omega (arith, laid .tape)))
+        tape₁ = tape-kept (laid .tape) own-kept
 
         -- the actual form's notes stay, and lead to rows that stay
         noted-then : Noted (sorts text t w as-is) (functions text t w as-is) text (part w 0 t) w true (notes + 1024) (actual .visible) (actual .«visible_count»)
@@ -172,16 +160,9 @@ module _ (text : List ℕ) (t : ℕ) (w : List ℕ) (m : Mode) (g actual f : For
             let room-left = room .room .own .room .equations-room in
             let first = hidden-stands text t w m g f b own w₁ (omega (arith, no-equations, few, room-left)) n to s z notes x own-noted in
             let moved = map (move-equation σ φ) (n .hidden .equations) in
-            omega (
-              arith,
-              first .equation-count,
-              length-union one-equation (to .hidden .equations) moved,
-              length-map (n .hidden .equations) (move-equation σ φ),
-              s .equation-count,
-              z .equation-count,
-              no-equations,
-              few,
-            )
+            let total = length-union one-equation (to .hidden .equations) moved in
+            let same = length-map (n .hidden .equations) (move-equation σ φ) in
+            omega (arith, first .equation-count, total, same, s .equation-count, z .equation-count, no-equations, few)
 
         both-stand : (n a to : Normal) → Stands text (part w 0 t) w g n → Stands text (part w 0 t) w actual a → Stands text (part w 0 t) w f to
             → Noted σ φ text (part w 0 t) w true notes (g .visible) (g .«visible_count») (f .visible) (f .«visible_count»)
@@ -192,7 +173,7 @@ module _ (text : List ℕ) (t : ℕ) (w : List ℕ) (m : Mode) (g actual f : For
             let room-left = room .room .own .room .equations-room in
             let few = room .room .own .fits .equations in
             let first = hidden-stands text t w m g f b own w₁ (omega (arith, no-equations, few, room-left)) n to s z notes x own-noted in
-            let then = stands-kept text t w w₁ low high actual a (laid .tape) own-kept (room .room .outside) u in
+            let then = still-stands (laid .tape) own-kept (room .room .outside) u in
             let last = hidden-stands text t w₁ o actual own b r w₂ (omega (arith, own-equations n to s z own-noted, room .room .fits .equations, room-left)) a
             (record { visible = to .visible; hidden = hidden-onto σ φ (to .hidden) (n .hidden) }) then first (notes + 1024) y (noted-then actual-noted) in
             subst (λ (h : Hidden). Stands text (part w₂ 0 t) w₂ r (record { visible = to .visible; hidden = h }))

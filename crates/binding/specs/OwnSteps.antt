@@ -14,7 +14,9 @@ use Rattle.forms.specs.declared.Form.{Form}
 use Rattle.forms.specs.declared.Block.{Block}
 use Rattle.forms.specs.Memory.{part, Kept}
 use Rattle.forms.specs.Forms.{slots-at, items-at, visible-at, Stands}
-use Rattle.forms.specs.FormLaws.{Apart, apart-within, kept-wider, kept-then, kept-same, items-same, tape-same}
+use Rattle.forms.specs.Blocks.{Fits}
+use Rattle.forms.specs.FormLaws.{Apart}
+use Rattle.frames.specs.Changes.{onward, wider, around, apart-in, items-kept}
 use Rattle.translation.specs.declared.Mode.{Mode}
 use Rattle.absorb.specs.Absorb.{taken}
 use Rattle.absorb.specs.Turns.{Room}
@@ -22,27 +24,20 @@ use Rattle.uniting.specs.United.{empty-in, with-items, VisibleUnited}
 use Rattle.uniting.specs.Standing.{stands-more, empty-stands}
 use Rattle.uniting.specs.InBlock.{outside-notes, outside-rows}
 use Rattle.uniting.specs.Showing.{visible-stands}
-use Rattle.uniting.specs.Whole.{kept-both, sorts-stay, functions-stay}
+use Rattle.uniting.specs.Whole.{sorts-stay, functions-stay}
 use Rattle.clauses.specs.KeptParameters.{but, KeepRoom, SlotsKept}
 use Rattle.binding.specs.Rooms.{OwnRoom}
 use Rattle.binding.specs.Binding.{named-in, left-of, OwnBound}
-use Rattle.binding.specs.Places.{Laid, Few, block-laid, few-fit, mode-apart, InsideBlock, empty-inside}
+use Rattle.binding.specs.Places.{Laid, block-laid, mode-apart, InsideBlock, empty-inside}
 
 module _ (text : List ℕ) (t : ℕ) (w : List ℕ) (m : Mode) (g : Form) (b : Block) (given : OwnRoom (length w) t m g b) where
   abbrev laid : Laid (length w) t b
   laid = block-laid (length w) t b (given .room .room)
 
-  abbrev few : Few g
-  few = few-fit g (given .room .fits)
+  abbrev few : Fits g
+  few = given .room .fits
 
-  abbrev low : ℕ
-  low = b .low
-
-  abbrev high : ℕ
-  high = b .high
-
-  abbrev notes : ℕ
-  notes = b .«visible_notes»
+  open Block b using (low, high, «visible_notes» as notes)
 
   table-apart : Apart low high (m .visible) (m .visible + m .count * 16)
   table-apart = mode-apart (length w) t m g b given
@@ -59,7 +54,7 @@ module _ (text : List ℕ) (t : ℕ) (w : List ℕ) (m : Mode) (g : Form) (b : B
       record {
         few = omega (arith, few);
         room = omega (arith, at, few, laid);
-        apart = apart-within low high _ _ _ _ (omega (arith, at, laid)) (omega (arith, at, few, laid)) (given .room .outside .parameters);
+        apart = apart-in (omega (arith, at, few, laid)) (given .room .outside .parameters);
       }
 
   named-inside : (n : ℕ) → n ≤ g .«parameter_count» → InsideBlock b (named-in b n)
@@ -85,10 +80,10 @@ module _ (text : List ℕ) (t : ℕ) (w : List ℕ) (m : Mode) (g : Form) (b : B
           note = omega (arith, few, laid, s);
           few = omega (arith, z, few, laid);
           table-note = inr (omega (arith, y, z, few, laid));
-          table-source = apart-within low high _ _ _ _ (omega (arith, y, few, laid)) (omega (arith, y, z, few, laid)) source;
-          note-source = apart-within low high _ _ _ _ (omega (arith, few, laid)) (omega (arith, few, laid)) source;
-          table-mode = apart-within low high _ _ _ _ (omega (arith, y, few, laid)) (omega (arith, y, z, few, laid)) table-apart;
-          note-mode = apart-within low high _ _ _ _ (omega (arith, few, laid)) (omega (arith, few, laid)) table-apart;
+          table-source = apart-in (omega (arith, y, z, few, laid)) source;
+          note-source = apart-in (omega (arith, few, laid)) source;
+          table-mode = apart-in (omega (arith, y, z, few, laid)) table-apart;
+          note-mode = apart-in (omega (arith, few, laid)) table-apart;
         }
 
     pub own-bound : (own : Form) (w₂ : List ℕ) → VisibleUnited text t w₁ m true g f notes own w₂ → OwnBound text t w m g b own w₂
@@ -112,17 +107,16 @@ module _ (text : List ℕ) (t : ℕ) (w : List ℕ) (m : Mode) (g : Form) (b : B
     first-inside = named-inside (x .count) (x .parameters .few)
 
     pub first-kept : Kept low high w w₁
-    first-kept = kept-wider _ _ low high w w₁ (omega (arith, laid)) (omega (arith, few, laid)) (x .parameters .kept)
+    first-kept = wider (omega (arith, few, laid)) (x .parameters .kept)
 
     pub rows-kept : Kept low high w₁ w₂
     rows-kept =
         let y = first-inside .lies in
         let z = no-items (x .count) in
-        kept-both low high _ _ _ _ w₁ w₂ (omega (arith, y, laid)) (omega (arith, y, z, few, laid)) (omega (arith, laid)) (omega (arith, few, laid))
-        (x .rows .absorbed .kept)
+        around (omega (arith, y, z, few, laid)) (omega (arith, few, laid)) (x .rows .absorbed .kept)
 
     pub own-kept : Kept low high w w₂
-    own-kept = kept-then low high w w₁ w₂ first-kept rows-kept
+    own-kept = onward first-kept rows-kept
 
     pub own-form : own ≡ with-items (empty-in b) (x .count) (own .«visible_count») 0
     unfolding named-in with-items
@@ -140,14 +134,9 @@ module _ (text : List ℕ) (t : ℕ) (w : List ℕ) (m : Mode) (g : Form) (b : B
         subst (InsideBlock b) (sym own-form)
         (empty-inside b (x .count) (own .«visible_count») (omega (arith, few, x .parameters .few)) (omega (arith, few, own-few)))
 
-    first-tape : part w₁ 0 t ≡ part w 0 t
-    first-tape = tape-same w w₁ t (first-kept .size) (λ i h l. first-kept .below i (omega (arith, laid .tape)))
-
     -- the items of g stay
     first-items : items-at text (part w₁ 0 t) w₁ (g .visible) (g .«visible_count») ≡ items-at text (part w 0 t) w (g .visible) (g .«visible_count»)
-    first-items =
-        ap (λ (tape : List ℕ). items-at text tape w₁ (g .visible) (g .«visible_count»)) first-tape
-        ∙ items-same w w₁ text (part w 0 t) (g .visible) (g .«visible_count») (kept-same low high _ _ w w₁ (given .room .outside .visible) first-kept)
+    first-items = items-kept text (g .visible) (g .«visible_count») (laid .tape) first-kept (given .room .outside .visible)
 
     -- ---- what the form stands for
 
@@ -167,8 +156,8 @@ module _ (text : List ℕ) (t : ℕ) (w : List ℕ) (m : Mode) (g : Form) (b : B
         let z = no-items (x .count) in
         let stood = visible-stands text t w₁ w₂ m true g first notes own (x .rows) (omega (arith, y, laid)) (omega (arith, laid)) _
         (items-at text (part w 0 t) w (g .visible) (g .«visible_count»))
-        (outside-rows (length w) t b 16 1024 1024 2048 laid first first-inside (g .«visible_count») (omega (arith, z, few)))
-        (outside-notes (length w) t b 16 1024 1024 2048 laid first first-inside _ _ (omega arith)) first-stands first-items in
+        (outside-rows laid first-inside (g .«visible_count») (omega (arith, z, few)))
+        (outside-notes laid first-inside _ _ (omega arith)) first-stands first-items in
         let same-sorts = sorts-stay text t w w₁ m low high (laid .tape) first-kept table-apart in
         let same-functions = functions-stay text t w w₁ m low high (laid .tape) first-kept table-apart in
         transport (λ i. Stands text (part w₂ 0 t) w₂ own (record {

@@ -10,9 +10,8 @@ use Rattle.translation.specs.declared.Mode.{Mode}
 use Rattle.joining.specs.Joined.{with-counts}
 use Rattle.uniting.specs.Rooms.{Inside}
 use Rattle.uniting.specs.United.{empty-in, with-items}
-use Rattle.uniting.specs.Standing.{empty-lies}
 use Rattle.making.specs.Steps.{BlockRoom}
-use Rattle.binding.specs.Rooms.{OwnRoom, BindRoom, StepRoom, Seen}
+use Rattle.binding.specs.Rooms.{OwnRoom, StepRoom, Seen}
 
 -- ---- the block, with room for both forms
 
@@ -20,43 +19,11 @@ abbrev pub Laid : ℕ → ℕ → Block → Type 0
 Laid size t b = BlockLaid size t b 16 1024 1024 2048
 
 pub block-laid : (size t : ℕ) (b : Block) → BlockRoom size t b → Laid size t b
-block-laid size t b o =
-    let l = o .laid in
-    record {
-      tape = l .tape;
-      first = l .first;
-      parameters = omega (arith, l .parameters, o .names-room);
-      visible = omega (arith, l .visible, o .rows-room);
-      hidden = omega (arith, l .hidden, o .hidden-room);
-      equations = l .equations;
-      nodes = l .nodes;
-      enough = l .enough;
-      visible-notes = omega (arith, l .visible-notes, o .sources-room);
-      hidden-notes = omega (arith, l .hidden-notes, o .sources-room);
-      order = omega (arith, l .order, o .names-room, o .rows-room);
-      within = l .within;
-      small = l .small;
-    }
+block-laid size t b o = omega arith
 
--- what fits, in numbers: of the form that is bound, and of both
-pub record Few (f : Form) : Type 0 where
-  pub parameters : f .«parameter_count» ≤ 8
-  pub items : f .«visible_count» + f .«hidden_count» ≤ 512
-
-pub few-fit : (f : Form) → Fits f → Few f
-few-fit f x = record { parameters = x .parameters; items = x .items }
-
-pub record Counts (g actual : Form) : Type 0 where
-  pub own-parameters : g .«parameter_count» ≤ 8
-  pub own-items : g .«visible_count» + g .«hidden_count» ≤ 512
-  pub actual-parameters : actual .«parameter_count» ≤ 8
-  pub actual-items : actual .«visible_count» + actual .«hidden_count» ≤ 512
-
-pub counts : (size t : ℕ) (g actual : Form) (b : Block) → BindRoom size t g actual b → Counts g actual
-counts size t g actual b room =
-    let own = few-fit g (room .own .fits) in
-    let other = few-fit actual (room .fits) in
-    record { own-parameters = own .parameters; own-items = own .items; actual-parameters = other .parameters; actual-items = other .items }
+-- what fits: of the form that is bound, and of the actual one
+abbrev pub Counts : Form → Form → Type 0
+Counts g actual = Fits g × Fits actual
 
 -- the mode's table is that of g
 pub mode-apart : (size t : ℕ) (m : Mode) (g : Form) (b : Block) → OwnRoom size t m g b → Apart (b .low) (b .high) (m .visible) (m .visible + m .count * 16)
@@ -72,16 +39,7 @@ InsideBlock b f = Inside b 16 1024 1024 f
 
 pub empty-inside : (b : Block) (p v : ℕ) → p ≤ 16 → v ≤ 1024 → InsideBlock b (with-items (empty-in b) p v 0)
 unfolding with-items empty-in
-empty-inside b p v h l =
-    let e = empty-lies b in
-    record {
-      lies = record { parameters = e .parameters; visible = e .visible; hidden = e .hidden; equations = e .equations; nodes = e .nodes };
-      parameters = h;
-      visible = l;
-      hidden = omega arith;
-      equations = omega arith;
-      nodes = omega arith;
-    }
+empty-inside b p v h l = omega arith
 
 pub seen-inside : (g actual : Form) (b : Block) → Counts g actual → (f : Form) → Seen g actual b f → InsideBlock b f
 seen-inside g actual b c f n =
@@ -93,14 +51,4 @@ pub inside-more : (b : Block) (f r : Form) → InsideBlock b f
     → r ≡ with-counts (with-items f (f .«parameter_count») (f .«visible_count») (r .«hidden_count»)) (r .«equation_count») (r .«node_count»)
     → r .«hidden_count» ≤ 1024 → r .«equation_count» ≤ b .«equation_room» → r .«node_count» ≤ b .«node_room» → InsideBlock b r
 unfolding with-items with-counts
-inside-more b f r x e h n k =
-    let l = x .lies in
-    subst (InsideBlock b) (sym e)
-    (record {
-      lies = record { parameters = l .parameters; visible = l .visible; hidden = l .hidden; equations = l .equations; nodes = l .nodes };
-      parameters = x .parameters;
-      visible = x .visible;
-      hidden = h;
-      equations = n;
-      nodes = k;
-    })
+inside-more b f r x e h n k = subst (InsideBlock b) (sym e) (omega arith)

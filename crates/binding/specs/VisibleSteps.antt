@@ -14,8 +14,8 @@ use Rattle.forms.specs.declared.Form.{Form}
 use Rattle.forms.specs.declared.Block.{Block}
 use Rattle.forms.specs.Memory.{part, Kept}
 use Rattle.forms.specs.Forms.{items-at, visible-at, Stands}
-use Rattle.forms.specs.FormLaws.{Apart, apart-within, kept-wider, kept-then, kept-same, kept-two-same, tape-same}
-use Rattle.forms.specs.Frames.{stands-kept}
+use Rattle.forms.specs.FormLaws.{Apart, kept-same, kept-two-same}
+use Rattle.frames.specs.Changes.{onward, wider, around, apart-in, tape-kept, still-stands}
 use Rattle.translation.specs.declared.Mode.{Mode}
 use Rattle.translation.specs.Translation.{pairs-at, sort-name, function-name, moved, moved-in}
 use Rattle.translation.specs.MovedLaws.{map-kept, moved-same, sort-name-same, function-name-same}
@@ -29,11 +29,11 @@ use Rattle.uniting.specs.InBlock.{inside-as, outside-notes, outside-slots, outs
 use Rattle.uniting.specs.Noting.{all-noted}
 use Rattle.uniting.specs.Hiding.{keep-all, absorbed-all}
 use Rattle.uniting.specs.Showing.{slots-stand, visible-stands}
-use Rattle.uniting.specs.Whole.{kept-both, sorts-stay, functions-stay}
+use Rattle.uniting.specs.Whole.{sorts-stay, functions-stay}
 use Rattle.clauses.specs.Notes.{NoteRoom, FormalsNoted}
 use Rattle.binding.specs.Rooms.{as-is, OwnRoom, StepRoom, Seen}
 use Rattle.binding.specs.Binding.{PairsRight, named-in, left-of, OwnBound, RowsBound, FrontBound}
-use Rattle.binding.specs.Places.{Laid, Counts, block-laid, counts, mode-apart, own-step, InsideBlock}
+use Rattle.binding.specs.Places.{Laid, Counts, block-laid, mode-apart, own-step, InsideBlock}
 use Rattle.binding.specs.OwnSteps.{first-kept, rows-kept, own-kept, own-form, own-few, own-slots, own-inside, own-stands}
 use Rattle.binding.specs.ActualNotes.{StaysNoted, bound-noted}
 
@@ -78,16 +78,9 @@ module _ (text : List ℕ) (t : ℕ) (w : List ℕ) (m : Mode) (g actual : Form)
   laid = block-laid (length w) t b (room .room .own .room)
 
   abbrev fit : Counts g actual
-  fit = counts (length w) t g actual b (room .room)
+  fit = (room .room .own .fits, room .room .fits)
 
-  abbrev low : ℕ
-  low = b .low
-
-  abbrev high : ℕ
-  high = b .high
-
-  abbrev notes : ℕ
-  notes = b .«visible_notes»
+  open Block b using (low, high, «visible_notes» as notes)
 
   table-apart : Apart low high (m .visible) (m .visible + m .count * 16)
   table-apart = mode-apart (length w) t m g b mine
@@ -116,8 +109,8 @@ module _ (text : List ℕ) (t : ℕ) (w : List ℕ) (m : Mode) (g actual : Form)
           few = omega (arith, n, fit);
           room = omega (arith, end, laid, own-stays .size);
           own-rows = inr (omega (arith, y, n, fit, laid));
-          source = apart-within low high _ _ _ _ start end (room .room .outside .parameters);
-          source-rows = apart-within low high _ _ _ _ start end (room .room .outside .visible);
+          source = apart-in (record { first = start; last = end }) (room .room .outside .parameters);
+          source-rows = apart-in (record { first = start; last = end }) (room .room .outside .visible);
         }
 
     module _ (named : Form) (w₃ : List ℕ) (y : SlotsUnited text t w₂ actual own named w₃) where
@@ -132,16 +125,13 @@ module _ (text : List ℕ) (t : ℕ) (w : List ℕ) (m : Mode) (g actual : Form)
       named-inside =
           let i = own-there in
           subst (InsideBlock b) (sym (y .form))
-          (inside-as (length w) t b 16 1024 1024 2048 laid own i _ _ _ (omega (arith, named-slots, fit)) (i .visible) (i .hidden))
+          (inside-as laid i _ _ _ (omega (arith, named-slots, fit)) (i .visible) (i .hidden))
 
       slots-kept : Kept low high w₂ w₃
-      slots-kept =
-          let e = own-there .lies in
-          let n = few-slots in
-          kept-wider _ _ low high w₂ w₃ (omega (arith, e, laid)) (omega (arith, e, n, fit, laid)) (y .kept)
+      slots-kept = wider (omega (arith, own-there .lies, few-slots, fit, laid)) (y .kept)
 
       named-kept : Kept low high w w₃
-      named-kept = kept-then low high w w₂ w₃ own-stays slots-kept
+      named-kept = onward own-stays slots-kept
 
       module _ (o : Mode) (plain : o ≡ as-is) where
         pub actual-room : Room (length w₃) t o (actual .visible) (actual .«visible_count») (named .visible) (named .«visible_count») (notes + 1024)
@@ -157,8 +147,8 @@ module _ (text : List ℕ) (t : ℕ) (w : List ℕ) (m : Mode) (g actual : Form)
               note = omega (arith, fit, laid, s);
               few = omega (arith, c, n, fit, laid);
               table-note = inr (omega (arith, e, c, n, fit, laid));
-              table-source = apart-within low high _ _ _ _ (omega (arith, e, fit, laid)) (omega (arith, e, c, n, fit, laid)) (room .room .outside .visible);
-              note-source = apart-within low high _ _ _ _ (omega (arith, fit, laid)) (omega (arith, fit, laid)) (room .room .outside .visible);
+              table-source = apart-in (omega (arith, e, c, n, fit, laid)) (room .room .outside .visible);
+              note-source = apart-in (omega (arith, fit, laid)) (room .room .outside .visible);
               table-mode = as-is-apart _ _ o plain;
               note-mode = as-is-apart _ _ o plain;
             }
@@ -204,20 +194,13 @@ module _ (text : List ℕ) (t : ℕ) (w : List ℕ) (m : Mode) (g actual : Form)
 
     all-inside : InsideBlock b all
     all-inside =
-        let e = there in
-        subst (InsideBlock b) (sym (y .form))
-        (inside-as (length w) t b 16 1024 1024 2048 laid named e _ _ _ (e .parameters) (omega (arith, all-few, fit)) (e .hidden))
+        subst (InsideBlock b) (sym (y .form)) (inside-as laid there _ _ _ (there .parameters) (omega (arith, all-few, fit)) (there .hidden))
 
     last-kept : Kept low high w₃ w₄
-    last-kept =
-        let e = there .lies in
-        let c = same-count in
-        let n = few-own in
-        kept-both low high _ _ _ _ w₃ w₄ (omega (arith, e, laid)) (omega (arith, e, c, n, fit, laid)) (omega (arith, laid)) (omega (arith, fit, laid))
-        (y .absorbed .kept)
+    last-kept = around (omega (arith, there .lies, same-count, few-own, fit, laid)) (omega (arith, fit, laid)) (y .absorbed .kept)
 
     four-kept : Kept low high w w₄
-    four-kept = kept-then low high w w₃ w₄ three-kept last-kept
+    four-kept = onward three-kept last-kept
 
     pub note-room : NoteRoom (length w₄) t m all notes
     note-room =
@@ -226,17 +209,16 @@ module _ (text : List ℕ) (t : ℕ) (w : List ℕ) (m : Mode) (g actual : Form)
         record {
           tape = omega (arith, fit, laid);
           within = omega (arith, c, fit, laid, four-kept .size);
-          table = apart-within low high _ _ _ _ (omega (arith, fit, laid)) (omega (arith, c, fit, laid)) table-apart;
+          table = apart-in (omega (arith, c, fit, laid)) table-apart;
           rows = inl (omega (arith, e, all-inside .visible, laid));
         }
 
     module _ (w₅ : List ℕ) (z : FormalsNoted text (part w₄ 0 t) w₄ w₅ m all notes) where
       formals-kept : Kept low high w₄ w₅
-      formals-kept =
-          let c = room .mode .count in kept-wider _ _ low high w₄ w₅ (omega (arith, fit, laid)) (omega (arith, c, fit, laid)) (z .kept)
+      formals-kept = wider (omega (arith, room .mode .count, fit, laid)) (z .kept)
 
       all-kept : Kept low high w w₅
-      all-kept = kept-then low high w w₄ w₅ four-kept formals-kept
+      all-kept = onward four-kept formals-kept
 
       one-kept : Kept low high w w₁
       one-kept = first-kept text t w m g b mine own w₂ (both .first)
@@ -244,21 +226,19 @@ module _ (text : List ℕ) (t : ℕ) (w : List ℕ) (m : Mode) (g actual : Form)
       -- from where the rows of g were taken up
       rows-all : Kept low high w₁ w₄
       rows-all =
-          kept-then low high w₁ w₃ w₄
-          (kept-then low high w₁ w₂ w₃ (rows-kept text t w m g b mine own w₂ (both .first)) (slots-kept own w₂ (both .first) named w₃ (both .parameters)))
-          last-kept
+          onward (onward (rows-kept text t w m g b mine own w₂ (both .first)) (slots-kept own w₂ (both .first) named w₃ (both .parameters))) last-kept
 
       rows-last : Kept low high w₁ w₅
-      rows-last = kept-then low high w₁ w₄ w₅ rows-all formals-kept
+      rows-last = onward rows-all formals-kept
 
       tape-at : (v v′ : List ℕ) → Kept low high v v′ → part v′ 0 t ≡ part v 0 t
-      tape-at v v′ k = tape-same v v′ t (k .size) (λ i h l. k .below i (omega (arith, laid .tape)))
+      tape-at v v′ k = tape-kept (laid .tape) k
 
       -- ---- what the form stands for
 
       -- the actual form stays
       seen-then : (w′ : List ℕ) → Kept low high w w′ → (a : Normal) → Stands text (part w 0 t) w actual a → visible-at text (part w′ 0 t) w′ actual ≡ a .visible
-      seen-then w′ k a u = stands-kept text t w w′ low high actual a (laid .tape) k (room .room .outside) u .visible
+      seen-then w′ k a u = still-stands (laid .tape) k (room .room .outside) u .visible
 
       others-then : (w′ : List ℕ) → Kept low high w w′ → (a : Normal) → Stands text (part w 0 t) w actual a
           → items-at text (part w′ 0 t) w′ (actual .visible) (actual .«visible_count») ≡ a .visible .items
@@ -289,14 +269,13 @@ module _ (text : List ℕ) (t : ℕ) (w : List ℕ) (m : Mode) (g actual : Form)
           let s₂ = subst (λ (v : Visible). Stands text (part w₂ 0 t) w₂ own (record { visible = left-of text t w m v; hidden = nothing-hidden })) (s .visible)
           (own-stands text t w m g b mine own w₂ (both .first)) in
           let s₃ = slots-stand text t w₂ w₃ actual own named (a .visible) _ (both .parameters) (omega (arith, lies₂, laid))
-          (outside-slots (length w) t b 16 1024 1024 2048 laid own e₂ (actual .«parameter_count») (omega (arith, n₂, fit)))
+          (outside-slots laid e₂ (actual .«parameter_count») (omega (arith, n₂, fit)))
           (seen-then w₂ (own-stays own w₂ (both .first)) a u) s₂ in
           let s₄ = visible-stands text t w₃ w₄ as-is false actual named (notes + 1024) all y (omega (arith, lies₃, fit, laid)) (omega (arith, fit, laid)) _
           (a .visible .items)
-          (outside-rows (length w) t b 16 1024 1024 2048 laid named e₃ (actual .«visible_count») (omega (arith, c, n₃, fit)))
-          (outside-notes (length w) t b 16 1024 1024 2048 laid named e₃ _ _ (omega arith)) s₃ (others-then w₃ three-kept a u) in
-          let s₅ = stands-kept text t w₄ w₅ notes (notes + m .count) all _ (omega (arith, fit, laid)) (z .kept)
-          (outside-notes (length w) t b 16 1024 1024 2048 laid all all-inside _ _ (omega arith)) s₄ in
+          (outside-rows laid e₃ (actual .«visible_count») (omega (arith, c, n₃, fit)))
+          (outside-notes laid e₃ _ _ (omega arith)) s₃ (others-then w₃ three-kept a u) in
+          let s₅ = still-stands {t = t} (omega (arith, fit, laid)) (z .kept) (outside-notes laid all-inside _ _ (omega arith)) s₄ in
           subst (λ (is : List Item). Stands text (part w₅ 0 t) w₅ all (record {
             visible = record {
               parameters = left-of text t w m (n .visible) .parameters ++ other-slots (left-of text t w m (n .visible)) (a .visible);
@@ -363,7 +342,7 @@ module _ (text : List ℕ) (t : ℕ) (w : List ℕ) (m : Mode) (g actual : Form)
       unfolding visible-at
       own-noted n a s u pairs =
           let few : all .«visible_count» ≤ 65536 = omega (arith, all-few, fit) in
-          let mine-then = stands-kept text t w w₁ low high g n (laid .tape) one-kept (room .room .own .outside) s .visible in
+          let mine-then = still-stands (laid .tape) one-kept (room .room .own .outside) s .visible in
           let table = ap₂ (items-at text (part w₁ 0 t) w₁) (room .mode .table) (room .mode .count) ∙ ap (λ (v : Visible). v .items) mine-then in
           let pass = subst (λ (tape : List ℕ). PairsRight (name-of text (m .parameter)) (pairs-at text tape (m .pairs)) (n .visible) (a .visible))
           (sym (tape-at w w₁ one-kept)) pairs in

@@ -14,8 +14,8 @@ use Rattle.forms.specs.declared.Block.{Block}
 use Rattle.forms.specs.declared.Made.{Made}
 use Rattle.forms.specs.Memory.{part, Kept}
 use Rattle.forms.specs.Forms.{items-at, visible-at, Stands}
-use Rattle.forms.specs.FormLaws.{Apart, kept-then}
-use Rattle.forms.specs.Frames.{stands-kept}
+use Rattle.forms.specs.FormLaws.{Apart}
+use Rattle.frames.specs.Changes.{onward, still-stands}
 use Rattle.translation.specs.declared.Mode.{Mode}
 use Rattle.translation.specs.Translation.{pairs-at}
 use Rattle.uniting.specs.United.{hidden-onto, sorts, functions}
@@ -48,7 +48,7 @@ module _ (text : List ℕ) (t : ℕ) (w : List ℕ) (m : Mode) (g actual : Form)
       check-step = y .check
 
       both-kept : Kept (b .low) (b .high) w w₂
-      both-kept = kept-then (b .low) (b .high) w w₁ w₂ (x .kept) (y .kept)
+      both-kept = onward (x .kept) (y .kept)
 
       module _ (n a : Normal) (s : Stands text (part w 0 t) w g n) (u : Stands text (part w 0 t) w actual a) where
         abbrev p : Name
@@ -64,10 +64,10 @@ module _ (text : List ℕ) (t : ℕ) (w : List ℕ) (m : Mode) (g actual : Form)
         φ = new-function (formals p (n .visible)) rs (n .visible) (a .visible)
 
         s₁ : Stands text (part w₁ 0 t) w₁ g n
-        s₁ = stands-kept text t w w₁ (b .low) (b .high) g n behind (x .kept) (room .room .own .outside) s
+        s₁ = still-stands behind (x .kept) (room .room .own .outside) s
 
         u₁ : Stands text (part w₁ 0 t) w₁ actual a
-        u₁ = stands-kept text t w w₁ (b .low) (b .high) actual a behind (x .kept) (room .room .outside) u
+        u₁ = still-stands behind (x .kept) (room .room .outside) u
 
         table : items-at text (part w 0 t) w (m .visible) (m .count) ≡ n .visible .items
         table = table-meant text (part w 0 t) w m g n (room .mode) s
@@ -97,7 +97,7 @@ module _ (text : List ℕ) (t : ℕ) (w : List ℕ) (m : Mode) (g actual : Form)
 
       pub bound-form : (r : Made) (w₃ : List ℕ) → CheckedForm text t w₂ f b r w₃ → BoundForm text t w m g actual b r w₃
       bound-form r w₃ c = record {
-        kept = kept-then (b .low) (b .high) w w₂ w₃ both-kept (c .kept);
+        kept = onward both-kept (c .kept);
         made-in = c .made-in;
         made = λ n a s u pairs. c .made (bound-normal text t w m n a) (stood n a s u pairs);
       }

@@ -1,23 +1,23 @@
 -- What the places of the tests on two items ask, one law each: the hypotheses are the facts that the place has.
 use mathlib.Core.Path.{_≡_, refl, sym, ap, _∙_}
 use mathlib.Core.Bool.{Bool, true, false, and-true, and-false}
-use mathlib.Core.List.{List, [], _∷_, map}
-use Prim.Native.Nat.{ℕ, suc, _-_, _≤_, _<_, min}
+use mathlib.Core.List.{List, map}
+use Prim.Native.Nat.{ℕ, _-_, _≤_, _<_, min}
 use native.Mathlib.Omega.{arith}
-use lib.Dec.{eqb, leb}
 use lib.ListN.{length, getD, take, length-take, length-map}
-use lib.Seq.{take-all}
 use borrow.Author.Needs.{needs}
-use borrow.Author.Tests.{eq-eqb, ne-eqb, eqb-true, eqb-false, leb-true, leb-false}
-use Rattle.meaning.specs.Lists.{pick, agree}
+use borrow.Author.Tests.{eq-eqb, ne-eqb, lt-leb}
+use Rattle.meaning.specs.Lists.{agree}
 use Rattle.meaning.specs.Names.{same}
-use Rattle.meaning.specs.Origins.{same-origin, same-sort, same-shape, is-sort, is-function, Shape, sort-shape, function-shape, variable-shape, in-parameter}
+use Rattle.meaning.specs.Origins.{same-origin, same-sort, same-shape, is-sort, is-function, Shape, function-shape, in-parameter}
 use Rattle.meaning.specs.Checks.{other-origin, other-output, in-one-parameter, both-in-one}
 use Rattle.names.specs.Word.{name-of}
 use Rattle.tables.specs.declared.Row.{Row}
 use Rattle.tables.specs.declared.Section.{Section}
 use Rattle.tables.specs.declared.Section.the-variants.{Export, Hidden, Parameter}
 use Rattle.tables.specs.Rows.{sort-of, type-of, section-of, shape-of, origin-of, item-of}
+use Rattle.walks.specs.Lists.{agree-lengths, take-nine}
+use Rattle.walks.specs.Shapes.{shape-function, by-kind, is-sort-kind, is-function-kind}
 use Rattle.checks.specs.declared.Test.{Test}
 use Rattle.checks.specs.declared.Test.the-variants.{Sorts, Functions, Overloading}
 use Rattle.checks.specs.Clashes.{two-sorts, two-functions, two-overloaded, overloaded-types, but-name}
@@ -25,46 +25,14 @@ use Rattle.checks.specs.Clashes.{two-sorts, two-functions, two-overloade
 -- ---- what a row's kind says
 
 module _ (text tape : List ℕ) (k : ℕ) (sorts : List ℕ) where
-  shape-sort : k ≡ 0 → shape-of text tape k sorts ≡ sort-shape
-  unfolding shape-of pick
-  shape-sort h = rw (eq-eqb k 0 h)
-
-  shape-function : 2 ≤ k → shape-of text tape k sorts ≡ function-shape (type-of text tape (k - 2) sorts)
-  unfolding shape-of pick
-  shape-function h = rw (ne-eqb k 0 (λ e. omega arith), ne-eqb k 1 (λ e. omega arith))
-
-  shape-variable : k ≡ 1 → shape-of text tape k sorts ≡ variable-shape (sort-of text tape (getD sorts 8 0))
-  unfolding shape-of pick
-  shape-variable h = rw h
-
-  -- what holds of sorts and of variables
-  shape-small : (P : Shape → Type 0) → k < 2 → P sort-shape → P (variable-shape (sort-of text tape (getD sorts 8 0))) → P (shape-of text tape k sorts)
-  shape-small P h s v = go (eqb k 0) refl
-    where
-      go : (b : Bool) → eqb k 0 ≡ b → P (shape-of text tape k sorts)
-      go true e = rw (shape-sort (eqb-true k 0 e)) s
-      go false e = let d = eqb-false k 0 e in rw (shape-variable (omega (arith, d))) v
-
-  -- what holds of functions and of variables
-  shape-other : (P : Shape → Type 0) → (k ≡ 0 → ⊥) → P (function-shape (type-of text tape (k - 2) sorts)) → P (variable-shape (sort-of text tape (getD sorts 8 0)))
-      → P (shape-of text tape k sorts)
-  shape-other P h f v = go (eqb k 1) refl
-    where
-      go : (b : Bool) → eqb k 1 ≡ b → P (shape-of text tape k sorts)
-      go true e = rw (shape-variable (eqb-true k 1 e)) v
-      go false e = let d = eqb-false k 1 e in rw (shape-function (omega (arith, h, d))) f
-
   is-one : k ≡ 0 → is-sort (shape-of text tape k sorts) ≡ true
-  unfolding is-sort
-  is-one h = rw (shape-sort h)
+  is-one h = is-sort-kind text tape k sorts ∙ eq-eqb k 0 h
 
   no-sort : (k ≡ 0 → ⊥) → is-sort (shape-of text tape k sorts) ≡ false
-  unfolding is-sort
-  no-sort h = shape-other (λ s. is-sort s ≡ false) h refl refl
+  no-sort h = is-sort-kind text tape k sorts ∙ ne-eqb k 0 h
 
   no-function : k < 2 → is-function (shape-of text tape k sorts) ≡ false
-  unfolding is-function
-  no-function h = shape-small (λ s. is-function s ≡ false) h refl refl
+  no-function h = sym (is-function-kind text tape k sorts) ∙ lt-leb 2 k h
 
 -- ---- rows
 
@@ -176,25 +144,6 @@ module _ (text : List ℕ) (a b : Section) where
 
 -- ---- equal inputs and different outputs
 
-agree-lengths : {A : Type 0} (e : A → A → Bool) (xs ys : List A) → (length xs ≡ length ys → ⊥) → agree e xs ys ≡ false
-unfolding agree pick
-agree-lengths e [] [] h = absurd (h refl)
-agree-lengths e [] (y ∷ ys) h = refl
-agree-lengths e (x ∷ xs) [] h = refl
-agree-lengths e (x ∷ xs) (y ∷ ys) h = rw (agree-lengths e xs ys (λ q. h (ap suc q))) (go (e x y))
-  where
-    go : (b : Bool) → pick b false false ≡ false
-    go true = refl
-    go false = refl
-
--- past the nine there is nothing to take
-take-nine : (n : ℕ) (xs : List ℕ) → length xs ≡ 9 → take (min n 9) xs ≡ take n xs
-take-nine n xs l = go (leb n 9) refl
-  where
-    go : (b : Bool) → leb n 9 ≡ b → take (min n 9) xs ≡ take n xs
-    go true e = let h : min n 9 ≡ n = omega (arith, leb-true n 9 e) in ap (λ (k : ℕ). take k xs) h
-    go false e = let g = leb-false n 9 e in take-all (min n 9) xs (omega arith) ∙ sym (take-all n xs (omega arith))
-
 module _ (text tape : List ℕ) (k : ℕ) (a : List ℕ) (l : ℕ) (b : List ℕ) where
   module _ (la : length a ≡ 9) (lb : length b ≡ 9) (n m : ℕ) (e : n ≡ min (k - 2) 9) (f : m ≡ min (l - 2) 9) where
     pub types-apart : (n ≡ m → ⊥) → false ≡ overloaded-types text tape k a l b
@@ -223,14 +172,15 @@ module _ (text tape : List ℕ) (k : ℕ) (a : List ℕ) (l : ℕ) (b : List ℕ
 
   pub output-first : k < 2 → false ≡ other-output (shape-of text tape k a) (shape-of text tape l b)
   unfolding other-output
-  output-first h = shape-small text tape k a (λ s. false ≡ other-output s (shape-of text tape l b)) h refl refl
+  output-first h =
+      by-kind text tape k a (λ (s : Shape). false ≡ other-output s (shape-of text tape l b)) (λ e. refl) (λ e. refl) (λ m. absurd (omega (arith, h, m)))
 
   module _ (h : 2 ≤ k) where
     pub output-second : l < 2 → false ≡ other-output (shape-of text tape k a) (shape-of text tape l b)
     unfolding other-output
     output-second g =
         rw (shape-function text tape k a h)
-        (shape-small text tape l b (λ s. false ≡ other-output (function-shape (type-of text tape (k - 2) a)) s) g refl refl)
+        (by-kind text tape l b (λ (s : Shape). false ≡ other-output (function-shape (type-of text tape (k - 2) a)) s) (λ e. refl) (λ e. refl) (λ m. absurd (omega (arith, g, m))))
 
     pub output-told : (r : Bool) → 2 ≤ l → r ≡ overloaded-types text tape k a l b → r ≡ other-output (shape-of text tape k a) (shape-of text tape l b)
     unfolding other-output overloaded-types

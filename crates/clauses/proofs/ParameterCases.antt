@@ -15,7 +15,7 @@ use Rattle.names.specs.Word.{name-of}
 use Rattle.forms.specs.Memory.{Kept}
 use Rattle.forms.specs.Forms.{slot-at, slots-at}
 use Rattle.forms.specs.FormLaws.{kept-all, kept-wider, kept-then, kept-set, kept-same, slot-same, slots-grow}
-use Rattle.clauses.specs.Joined.{keep-append}
+use Rattle.walks.specs.Lists.{keep-append}
 use Rattle.clauses.specs.KeptParameters.{but, SlotRoom, SlotCopied, copied-behind, SlotKept, KeepRoom, SlotsKept}
 
 -- ---- a parameter's two words

@@ -7,7 +7,7 @@ use mathlib.Core.List.{List, [], _∷_, map}
 use native.Mathlib.Omega.{arith}
 use native.Mathlib.Numerals.{add-one}
 use lib.Dec.{eqb, leb}
-use lib.ListN.{length, getD, take, length-take, length-map}
+use lib.ListN.{length, take, length-take, length-map}
 use borrow.Author.Needs.{needs}
 use borrow.Author.Tests.{eq-eqb, ne-eqb, eqb-true, eqb-false}
 use Rattle.meaning.specs.Lists.{pick, any, before}
@@ -28,29 +28,9 @@ use Rattle.translation.specs.Translation.{pairs-at}
 use Rattle.clauses.specs.Pairs.{pair-count, given, pair-at, rightly}
 use Rattle.clauses.specs.PairWalks.{Walking, walk-start, walk-end, walk-here, walk-again}
 use Rattle.clauses.specs.Renamed.{kind-named, unfit}
-use Rattle.clauses.specs.Walks.{none-below}
+use Rattle.walks.specs.Shapes.{by-kind}
+use Rattle.walks.specs.Rows.{none-below}
 use Rattle.clauses.specs.Searches.{named-any}
-
--- ---- what a name may stand for, by the kind k of a row
-
-module _ (w : Name) (k : ℕ) where
-  pub named-variable : k ≡ 1 → true ≡ kind-named w k
-  unfolding kind-named pick
-  named-variable h = rw (eq-eqb k 1 h)
-
-  module _ (h : k ≡ 1 → ⊥) (o : Bool) (e : o ≡ is-operator w) where
-    pub named-plain : o ≡ false → true ≡ kind-named w k
-    unfolding kind-named pick
-    named-plain q = rw (ne-eqb k 1 h, ← e, q)
-
-    module _ (q : o ≡ true) (i : Bool) (f : i ≡ is-infix w) where
-      pub named-infix : i ≡ true → eqb k 4 ≡ kind-named w k
-      unfolding kind-named pick
-      named-infix g = rw (ne-eqb k 1 h, ← e, q, ← f, g)
-
-      pub named-prefix : i ≡ false → eqb k 3 ≡ kind-named w k
-      unfolding kind-named pick
-      named-prefix g = rw (ne-eqb k 1 h, ← e, q, ← f, g)
 
 -- ---- the kind tells the shape
 
@@ -65,12 +45,15 @@ module _ (text tape : List ℕ) (w : Name) (k : ℕ) (sorts : List ℕ) (nine : 
   inputs-told : length (map (sort-of text tape) (take (k - 2) sorts)) ≡ min (k - 2) 9
   inputs-told = length-map (take (k - 2) sorts) (sort-of text tape) ∙ length-take (k - 2) sorts ∙ ap (min (k - 2)) nine
 
-  abbrev asked : Bool → Bool
-  asked b = pick b true (pick (is-operator w) (pick (is-infix w) (eqb k 4) (eqb k 3)) true)
-
   kind-told : kind-named w k ≡ may-name w (shape-of text tape k sorts)
-  unfolding kind-named may-name arguments-fit shape-of type-of pick
-  kind-told = go (eqb k 0) (eqb k 1) refl refl
+  unfolding kind-named may-name arguments-fit type-of pick
+  kind-told =
+      by-kind text tape k sorts (λ (s : Shape). kind-named w k ≡ may-name w s)
+      (λ e. rw (ne-eqb k 1 (λ q. omega arith), ne-eqb k 4 (λ q. omega arith), ne-eqb k 3 (λ q. omega arith)) (no-sort (is-operator w) (is-infix w)))
+      (λ e. rw (eq-eqb k 1 e))
+      (λ h. let n = min (k - 2) 9 in
+      rw (ne-eqb k 1 (λ q. omega arith), inputs-told)
+      (as-many n (one-test k 4 n 2 (λ q. omega arith) (λ q. omega arith)) (one-test k 3 n 1 (λ q. omega arith) (λ q. omega arith)) (is-operator w) (is-infix w)))
     where
       no-sort : (o i : Bool) → pick o (pick i false false) true ≡ not o
       no-sort true true = refl
@@ -82,18 +65,6 @@ module _ (text tape : List ℕ) (w : Name) (k : ℕ) (sorts : List ℕ) (nine : 
       as-many n e f true true = e
       as-many n e f true false = f
       as-many n e f false i = refl
-
-      go : (a b : Bool) → eqb k 0 ≡ a → eqb k 1 ≡ b
-          → asked b ≡ may-name w (pick a sort-shape (pick b (variable-shape (sort-of text tape (getD sorts 8 0))) (function-shape (type-of text tape (k - 2) sorts))))
-      go true true e f = absurd (omega (arith, eqb-true k 0 e, eqb-true k 1 f))
-      go true false e f =
-          let zero-kind = eqb-true k 0 e in
-          rw (ne-eqb k 4 (λ q. omega arith), ne-eqb k 3 (λ q. omega arith)) (no-sort (is-operator w) (is-infix w))
-      go false true e f = refl
-      go false false e f =
-          let n = min (k - 2) 9 in
-          rw inputs-told
-          (as-many n (one-test k 4 n 2 (λ q. omega arith) (λ q. omega arith)) (one-test k 3 n 1 (λ q. omega arith) (λ q. omega arith)) (is-operator w) (is-infix w))
 
 -- ---- a row that the new name may not stand for
 
@@ -186,8 +157,6 @@ module _ (visible : List Item) (text tape : List ℕ) (pairs n : ℕ) where
       pub renaming-stops : (x : ℕ) → r ≡ false → x ≡ word-at tape (pairs + k * 2) → told text (Stop 14 (record { name = x; actual = 0 })) ≡ unless 14 wrong
       unfolding told unless
       renaming-stops x q e = rw (one-wrong q, ← e, lone-of text x)
-
-pub ruleset kinds = (named-variable, named-plain, named-infix, named-prefix, needs)
 
 pub ruleset unfits = (unfit-other, unfit-not, unfit-here, needs)
 

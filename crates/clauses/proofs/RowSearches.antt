@@ -1,23 +1,23 @@
 -- Laws of searches, in the code's terms: whether there is a parameter or a row, and the tests on one row and on two.
-use mathlib.Core.Path.{_≡_, refl, sym, _∙_}
+use mathlib.Core.Path.{_≡_, sym, _∙_}
 use Prim.Native.Nat.{ℕ, _+_, _-_, _*_, _≤_, _<_}
 use mathlib.Core.Bool.{Bool, true, false}
 use mathlib.Core.List.{List}
-use native.Mathlib.Omega.{arith}
-use lib.Dec.{eqb, ltb, leb}
+use lib.Dec.{ltb, leb}
 use lib.ListN.{getD}
 use borrow.Author.Needs.{needs}
-use borrow.Author.Tests.{eq-eqb, ne-eqb, eqb-true, eqb-false, lt-ltb, le-ltb, le-leb, lt-leb}
+use borrow.Author.Tests.{eq-eqb, ne-eqb}
 use Rattle.meaning.specs.Lists.{pick, any, before}
 use Rattle.meaning.specs.Names.{same, member}
-use Rattle.meaning.specs.Origins.{same-origin, Sort, FunctionType, same-shape, is-sort, is-function, sort-shape, function-shape, variable-shape, Item}
+use Rattle.meaning.specs.Origins.{same-origin, same-shape, is-sort, Item}
 use Rattle.meaning.specs.Normal.{Slot, names-in, sorts-among, is-called, slot-names}
 use Rattle.names.specs.Word.{name-of}
 use Rattle.tables.specs.declared.Row.{Row}
-use Rattle.tables.specs.Rows.{origin-of, sort-of, type-of, shape-of, item-of, row-at}
+use Rattle.tables.specs.Rows.{origin-of, shape-of, item-of, row-at}
 use Rattle.forms.specs.Forms.{slot-at, slots-at, items-at}
-use Rattle.clauses.specs.Joined.{any-keep}
-use Rattle.clauses.specs.Walks.{Seeking, seek-start, seek-end, seek-again, seek-found, Finding, find-start, find-end, find-again, find-here, found-below}
+use Rattle.walks.specs.Lists.{any-keep}
+use Rattle.walks.specs.Shapes.{is-sort-kind, is-function-kind}
+use Rattle.walks.specs.Rows.{find-start, find-end, nowhere, find-again, find-here, somewhere, found-below, Seeking, seek-start, seek-end, seek-again, seek-found}
 use Rattle.clauses.specs.Searches.{slot-called, sort-called, function-called, like, called-any, named-any}
 
 -- ---- whether there is a parameter of the name
@@ -67,36 +67,7 @@ module _ (text tape w : List ℕ) (b n i : ℕ) where
         found-below text tape w b n i (sort-called (name-of text a)) e
         ∙ sym (named-any (name-of text a) (sorts-among items) ∙ any-keep (λ (x : Item). is-sort (x .shape)) (is-called (name-of text a)) items)
 
-module _ (test : Item → Bool) (text tape w : List ℕ) (b n i : ℕ) (inv : Finding test text tape w b n i) where
-  pub nowhere : n ≤ i → false ≡ any test (items-at text tape w b n)
-  nowhere h = sym (le-ltb n n (omega arith)) ∙ found-below text tape w b n n test (find-end test text tape w b n i h inv)
-
-  pub somewhere : (y : Row) (r : Bool) → i < n → y ≡ row-at w (b + i * 16) → r ≡ test (item-of text tape y) → r ≡ true
-      → true ≡ any test (items-at text tape w b n)
-  somewhere y r h e f q = sym (lt-ltb i n h) ∙ found-below text tape w b n i test (find-here test text tape w b n i y r h inv e f q)
-
 -- ---- the tests on one row
-
-is-sort-kind : (text tape : List ℕ) (x : Row) → is-sort (shape-of text tape (x .kind) (x .sorts)) ≡ eqb (x .kind) 0
-unfolding is-sort shape-of pick
-is-sort-kind text tape x =
-    go (eqb (x .kind) 0) (eqb (x .kind) 1) (sort-of text tape (getD (x .sorts) 8 0)) (type-of text tape (x .kind - 2) (x .sorts))
-  where
-    go : (a b : Bool) (s : Sort) (t : FunctionType) → is-sort (pick a sort-shape (pick b (variable-shape s) (function-shape t))) ≡ a
-    go true b s t = refl
-    go false true s t = refl
-    go false false s t = refl
-
-is-function-kind : (text tape : List ℕ) (x : Row) → leb 2 (x .kind) ≡ is-function (shape-of text tape (x .kind) (x .sorts))
-unfolding is-function shape-of pick
-is-function-kind text tape x =
-    go (eqb (x .kind) 0) (eqb (x .kind) 1) (sort-of text tape (getD (x .sorts) 8 0)) (type-of text tape (x .kind - 2) (x .sorts)) refl refl
-  where
-    go : (a b : Bool) (s : Sort) (t : FunctionType) → eqb (x .kind) 0 ≡ a → eqb (x .kind) 1 ≡ b
-        → leb 2 (x .kind) ≡ is-function (pick a sort-shape (pick b (variable-shape s) (function-shape t)))
-    go true b s t e f = lt-leb 2 (x .kind) (omega (arith, eqb-true (x .kind) 0 e))
-    go false true s t e f = lt-leb 2 (x .kind) (omega (arith, eqb-true (x .kind) 1 f))
-    go false false s t e f = le-leb 2 (x .kind) (omega (arith, eqb-false (x .kind) 0 e, eqb-false (x .kind) 1 f))
 
 module _ (text tape : List ℕ) (a : ℕ) (x : Row) where
   pub called-row : (r : Bool) → r ≡ same (name-of text a) (name-of text (x .name)) → r ≡ is-called (name-of text a) (item-of text tape x)
@@ -105,16 +76,16 @@ module _ (text tape : List ℕ) (a : ℕ) (x : Row) where
 
   pub called-sort : (r : Bool) → x .kind ≡ 0 → r ≡ same (name-of text a) (name-of text (x .name)) → r ≡ sort-called (name-of text a) (item-of text tape x)
   unfolding sort-called item-of is-called pick
-  called-sort r h e = rw (is-sort-kind text tape x, eq-eqb (x .kind) 0 h) e
+  called-sort r h e = rw (is-sort-kind text tape (x .kind) (x .sorts), eq-eqb (x .kind) 0 h) e
 
   pub called-other : (x .kind ≡ 0 → ⊥) → false ≡ sort-called (name-of text a) (item-of text tape x)
   unfolding sort-called item-of pick
-  called-other h = rw (is-sort-kind text tape x, ne-eqb (x .kind) 0 h)
+  called-other h = rw (is-sort-kind text tape (x .kind) (x .sorts), ne-eqb (x .kind) 0 h)
 
   module _ (c : Bool) (e : c ≡ same (name-of text a) (name-of text (x .name))) where
     pub called-function : c ≡ true → leb 2 (x .kind) ≡ function-called (name-of text a) (item-of text tape x)
     unfolding function-called item-of is-called
-    called-function h = rw (← e, h) (is-function-kind text tape x)
+    called-function h = rw (← e, h) (is-function-kind text tape (x .kind) (x .sorts))
 
     pub called-not : c ≡ false → false ≡ function-called (name-of text a) (item-of text tape x)
     unfolding function-called item-of is-called

@@ -1,26 +1,19 @@
 -- Laws of lists: what a test finds in what is kept and in what is joined, and where it finds it.
 use mathlib.Core.Path.{_≡_, refl, sym, ap, _∙_}
-use Prim.Native.Nat.{ℕ, zero, suc, _≤_, _<_}
+use Prim.Native.Nat.{ℕ, zero, suc, _<_}
 use mathlib.Core.Bool.{Bool, true, false, _&&_, false≢true}
-use mathlib.Core.Option.{none, some}
+use mathlib.Core.Option.{some}
 use mathlib.Core.List.{List, [], _∷_, _++_, append-assoc}
 use native.Mathlib.Omega.{arith}
-use lib.Dec.{ltb}
 use lib.ListN.{length, getD}
-use borrow.Author.Tests.{ltb-true, ltb-false, lt-ltb, le-ltb}
+use borrow.Author.Tests.{ltb-true}
 use Rattle.meaning.specs.Lists.{pick, keep, any, first, before, union}
 use Rattle.meaning.specs.OrderLaws.{Every}
+use Rattle.walks.specs.Lists.{any-before, found-passes}
 
 pub both-true : (a b : Bool) → (a && b) ≡ true → (a ≡ true) × (b ≡ true)
 both-true true b h = (refl, h)
 both-true false b h = absurd (false≢true h)
-
-less-both : (a b : ℕ) → ltb (suc a) (suc b) ≡ ltb a b
-less-both a b = go (ltb a b) refl
-  where
-    go : (r : Bool) → ltb a b ≡ r → ltb (suc a) (suc b) ≡ ltb a b
-    go true e = lt-ltb (suc a) (suc b) (omega (arith, ltb-true a b e)) ∙ sym e
-    go false e = le-ltb (suc a) (suc b) (omega (arith, ltb-false a b e)) ∙ sym e
 
 module _ {A : Type 0} where
   -- ---- all of a list
@@ -51,38 +44,7 @@ module _ {A : Type 0} where
       at zero l f more = here (p x) f all
       at (suc j) l f more = more j (omega arith) f
 
-  -- ---- one of a list
-
-  pub any-before : (p : A → Bool) (xs : List A) → any p xs ≡ ltb (before p xs) (length xs)
-  unfolding any before pick
-  any-before p [] = sym (le-ltb 0 0 (omega arith))
-  any-before p (x ∷ xs) = go (p x) (any-before p xs)
-    where
-      go : (b : Bool) → any p xs ≡ ltb (before p xs) (length xs) → pick b true (any p xs) ≡ ltb (pick b 0 (suc (before p xs))) (suc (length xs))
-      go true ih = sym (lt-ltb 0 (suc (length xs)) (omega arith))
-      go false ih = ih ∙ sym (less-both (before p xs) (length xs))
-
-  pub keep-append : (p : A → Bool) (xs ys : List A) → keep p (xs ++ ys) ≡ keep p xs ++ keep p ys
-  unfolding keep pick
-  keep-append p [] ys = refl
-  keep-append p (x ∷ xs) ys = go (p x) (keep-append p xs ys)
-    where
-      go : (b : Bool) → keep p (xs ++ ys) ≡ keep p xs ++ keep p ys
-          → pick b (x ∷ keep p (xs ++ ys)) (keep p (xs ++ ys)) ≡ pick b (x ∷ keep p xs) (keep p xs) ++ keep p ys
-      go true ih = ap (x ∷_) ih
-      go false ih = ih
-
-  pub any-keep : (p q : A → Bool) (xs : List A) → any q (keep p xs) ≡ any (λ (x : A). pick (p x) (q x) false) xs
-  unfolding any keep pick
-  any-keep p q [] = refl
-  any-keep p q (x ∷ xs) = go (p x) (any-keep p q xs)
-    where
-      go : (b : Bool) → any q (keep p xs) ≡ any (λ (y : A). pick (p y) (q y) false) xs
-          → any q (pick b (x ∷ keep p xs) (keep p xs)) ≡ pick (pick b (q x) false) true (any (λ (y : A). pick (p y) (q y) false) xs)
-      go true ih = ap (pick (q x) true) ih
-      go false ih = ih
-
-  -- what a test finds first is where it finds it
+  -- ---- what a test finds first is where it finds it
 
   pub first-keep : (p q : A → Bool) (xs : List A) → first q (keep p xs) ≡ first (λ (x : A). pick (p x) (q x) false) xs
   unfolding first keep pick
@@ -93,25 +55,6 @@ module _ {A : Type 0} where
           → first q (pick b (x ∷ keep p xs) (keep p xs)) ≡ pick (pick b (q x) false) (some x) (first (λ (y : A). pick (p y) (q y) false) xs)
       go true ih = ap (pick (q x) (some x)) ih
       go false ih = ih
-
-  pub first-there : (p : A → Bool) (d : A) (xs : List A) → before p xs < length xs → first p xs ≡ some (getD xs (before p xs) d)
-  unfolding first before pick
-  first-there p d [] h = absurd (omega arith)
-  first-there p d (x ∷ xs) h = go (p x) h (first-there p d xs)
-    where
-      go : (b : Bool) → pick b 0 (suc (before p xs)) < suc (length xs) → (before p xs < length xs → first p xs ≡ some (getD xs (before p xs) d))
-          → pick b (some x) (first p xs) ≡ some (getD (x ∷ xs) (pick b 0 (suc (before p xs))) d)
-      go true l ih = refl
-      go false l ih = ih (omega arith)
-
-  pub first-nowhere : (p : A → Bool) (xs : List A) → length xs ≤ before p xs → first p xs ≡ none
-  unfolding first before pick
-  first-nowhere p [] h = refl
-  first-nowhere p (x ∷ xs) h = go (p x) h (first-nowhere p xs)
-    where
-      go : (b : Bool) → suc (length xs) ≤ pick b 0 (suc (before p xs)) → (length xs ≤ before p xs → first p xs ≡ none) → pick b (some x) (first p xs) ≡ none
-      go true l ih = absurd (omega arith)
-      go false l ih = ih (omega arith)
 
   module _ (p : A → Bool) where
     later : (b : Bool) (xs : List A) → any p xs ≡ true → pick b true (any p xs) ≡ true
@@ -134,14 +77,9 @@ module _ {A : Type 0} where
         go false e ih = ih e
 
     pub first-passes : (d : A) (xs : List A) → any p xs ≡ true → (before p xs < length xs) × (p (getD xs (before p xs) d) ≡ true)
-    unfolding any before pick
-    first-passes d [] e = absurd (false≢true e)
-    first-passes d (x ∷ xs) e = go (p x) refl e (first-passes d xs)
-      where
-        go : (b : Bool) → p x ≡ b → pick b true (any p xs) ≡ true → (any p xs ≡ true → (before p xs < length xs) × (p (getD xs (before p xs) d) ≡ true))
-            → (pick b 0 (suc (before p xs)) < suc (length xs)) × (p (getD (x ∷ xs) (pick b 0 (suc (before p xs))) d) ≡ true)
-        go true q f ih = (omega arith, q)
-        go false q f ih = let r = ih f in let l = r .0 in (omega arith, r .1)
+    first-passes d xs e =
+        let l : before p xs < length xs = ltb-true (before p xs) (length xs) (sym (any-before p xs) ∙ e) in
+        (l, found-passes p d xs l)
 
     -- ---- what is joined, where only equals are one
 

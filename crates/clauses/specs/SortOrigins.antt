@@ -4,7 +4,6 @@ use Prim.Native.Nat.{ℕ, _+_, _*_, _≤_, _<_}
 use mathlib.Core.Option.{Option, none, some}
 use mathlib.Core.List.{List}
 use native.Mathlib.Omega.{arith}
-use lib.ListN.{getD}
 use Rattle.meaning.specs.Lists.{first, before}
 use Rattle.meaning.specs.Names.{Name}
 use Rattle.meaning.specs.Origins.{Origin, is-sort, Item}
@@ -12,8 +11,8 @@ use Rattle.meaning.specs.Normal.{sorts-among, is-called, origin-of-item}
 use Rattle.names.specs.Word.{name-of}
 use Rattle.tables.specs.Rows.{origin-of as row-origin, item-of, row-at}
 use Rattle.forms.specs.Forms.{items-at}
-use Rattle.forms.specs.FormLaws.{length-items, item-at}
-use Rattle.clauses.specs.Joined.{first-keep, first-there, first-nowhere}
+use Rattle.walks.specs.Rows.{first-row, no-row}
+use Rattle.clauses.specs.Joined.{first-keep}
 use Rattle.clauses.specs.Searches.{sort-called}
 
 -- where the first sort of the name is from
@@ -31,13 +30,10 @@ module _ (text tape w : List ℕ) (b n a i : ℕ) (e : i ≡ before (sort-called
   pub origin-there : i < n → origin-among items (name-of text a) ≡ some (row-origin text tape (row-at w (b + i * 16) .origin))
   unfolding origin-among origin-of-item item-of
   origin-there h =
-      let d : Item = item-of text tape (row-at w b) in
-      let size = length-items text tape w b n in
-      ap origin-of-item (first-sort ∙ first-there (sort-called (name-of text a)) d items (omega (arith, e, size))
-      ∙ ap (λ (j : ℕ). some (getD items j d)) (sym e) ∙ ap (λ (x : Item). some x) (item-at text tape w b n i d h))
+      let there : before (sort-called (name-of text a)) items < n = rw (← e) h in
+      ap origin-of-item (first-sort ∙ first-row (sort-called (name-of text a)) text tape w b n there)
+      ∙ ap (λ (j : ℕ). some (row-origin text tape (row-at w (b + j * 16) .origin))) (sym e)
 
   pub origin-nowhere : n ≤ i → origin-among items (name-of text a) ≡ none
   unfolding origin-among origin-of-item
-  origin-nowhere h =
-      let size = length-items text tape w b n in
-      ap origin-of-item (first-sort ∙ first-nowhere (sort-called (name-of text a)) items (omega (arith, e, size)))
+  origin-nowhere h = ap origin-of-item (first-sort ∙ no-row (sort-called (name-of text a)) text tape w b n (omega (arith, e)))

@@ -1,110 +1,15 @@
--- Laws of walks, in the code's terms: of the parameters, of the rows and of the sorts of a type those before i have been asked.
-use mathlib.Core.Path.{_≡_, refl, sym, ap, ap₂, _∙_}
-use Prim.Native.Nat.{ℕ, zero, suc, _+_, _-_, _*_, _≤_, _<_}
+-- Laws of the walk over the sorts of a type, in the code's terms: those before i pass.
+use mathlib.Core.Path.{_≡_, refl, sym, _∙_}
+use Prim.Native.Nat.{ℕ, zero, suc, _+_, _-_, _≤_, _<_}
 use mathlib.Core.Bool.{Bool, true, false, not}
 use mathlib.Core.List.{List, [], _∷_, map}
 use native.Mathlib.Omega.{arith}
-use lib.Dec.{eqb, ltb, leb}
+use lib.Dec.{eqb}
 use lib.ListN.{length, getD, take}
-use borrow.Author.Tests.{eqb-true, eqb-false, ltb-true, ltb-false, le-leb, lt-leb}
-use Rattle.meaning.specs.Lists.{pick, any, before}
-use Rattle.meaning.specs.Origins.{Sort, Item}
-use Rattle.meaning.specs.Normal.{Slot}
-use Rattle.tables.specs.declared.Row.{Row}
-use Rattle.tables.specs.Rows.{sort-of, item-of, row-at}
-use Rattle.forms.specs.Forms.{slot-at, slots-at, items-at}
-use Rattle.forms.specs.FormLaws.{length-items}
-use Rattle.clauses.specs.Joined.{any-before}
-
--- ---- whether a parameter passes a test
-
-pub record Seeking (test : Slot → Bool) (text w : List ℕ) (b n i : ℕ) : Type 0 where
-  pub inside : i ≤ n
-  pub rest : any test (slots-at text w b n) ≡ any test (slots-at text w (b + i * 2) (n - i))
-
-module _ (test : Slot → Bool) (text w : List ℕ) (b n : ℕ) where
-  pub seek-start : Seeking test text w b n 0
-  seek-start =
-      let e : b ≡ b + 0 * 2 = omega arith in
-      let f : n ≡ n - 0 = omega arith in
-      record { inside = omega arith; rest = ap₂ (λ (i c : ℕ). any test (slots-at text w i c)) e f }
-
-  pub seek-end : (i : ℕ) → n ≤ i → Seeking test text w b n i → false ≡ any test (slots-at text w b n)
-  unfolding any slots-at
-  seek-end i h inv = let z : n - i ≡ 0 = omega arith in sym (inv .rest ∙ rw z)
-
-  module _ (i : ℕ) (r : Bool) (h : i < n) (inv : Seeking test text w b n i) (e : r ≡ test (slot-at text w (b + i * 2))) where
-    asked-here : any test (slots-at text w (b + i * 2) (n - i)) ≡ pick r true (any test (slots-at text w (b + (i + 1) * 2) (n - (i + 1))))
-    unfolding any slots-at
-    asked-here =
-        let s : n - i ≡ suc (n - (i + 1)) = omega arith in
-        let p : b + i * 2 + 2 ≡ b + (i + 1) * 2 = omega arith in
-        rw (s, p, ← e)
-
-    pub seek-again : r ≡ false → Seeking test text w b n (i + 1)
-    unfolding pick
-    seek-again q = record { inside = omega arith; rest = inv .rest ∙ asked-here ∙ rw q }
-
-    pub seek-found : r ≡ true → true ≡ any test (slots-at text w b n)
-    unfolding pick
-    seek-found q = sym (inv .rest ∙ asked-here ∙ rw q)
-
--- ---- the first row that passes a test
-
-pub record Finding (test : Item → Bool) (text tape w : List ℕ) (b n i : ℕ) : Type 0 where
-  pub inside : i ≤ n
-  pub comes : before test (items-at text tape w b n) ≡ i + before test (items-at text tape w (b + i * 16) (n - i))
-
-module _ (test : Item → Bool) (text tape w : List ℕ) (b n : ℕ) where
-  pub find-start : Finding test text tape w b n 0
-  find-start =
-      let e : b ≡ b + 0 * 16 = omega arith in
-      let f : n ≡ n - 0 = omega arith in
-      let q : before test (items-at text tape w b n) ≡ before test (items-at text tape w (b + 0 * 16) (n - 0)) =
-      ap₂ (λ (i c : ℕ). before test (items-at text tape w i c)) e f in
-      record { inside = omega arith; comes = omega arith }
-
-  pub find-end : (i : ℕ) → n ≤ i → Finding test text tape w b n i → n ≡ before test (items-at text tape w b n)
-  unfolding before items-at
-  find-end i h inv =
-      let z : n - i ≡ 0 = omega arith in
-      let none : before test (items-at text tape w (b + i * 16) (n - i)) ≡ 0 = rw z in
-      omega (arith, inv .comes, inv .inside)
-
-  module _ (i : ℕ) (y : Row) (r : Bool) (h : i < n) (inv : Finding test text tape w b n i) (e : y ≡ row-at w (b + i * 16))
-      (f : r ≡ test (item-of text tape y)) where
-    now-here : before test (items-at text tape w (b + i * 16) (n - i)) ≡ pick r 0 (suc (before test (items-at text tape w (b + (i + 1) * 16) (n - (i + 1)))))
-    unfolding before items-at
-    now-here =
-        let s : n - i ≡ suc (n - (i + 1)) = omega arith in
-        let p : b + i * 16 + 16 ≡ b + (i + 1) * 16 = omega arith in
-        rw (s, p, ← e, ← f)
-
-    pub find-again : r ≡ false → Finding test text tape w b n (i + 1)
-    unfolding pick
-    find-again q = let more = rw q at now-here in record { inside = omega arith; comes = omega (arith, inv .comes, more) }
-
-    pub find-here : r ≡ true → i ≡ before test (items-at text tape w b n)
-    unfolding pick
-    find-here q = let none = rw q at now-here in omega (arith, inv .comes, none)
-
--- ---- whether there is one
-
-module _ (text tape w : List ℕ) (b n i : ℕ) where
-  abbrev items : List Item
-  items = items-at text tape w b n
-
-  pub found-below : (test : Item → Bool) → i ≡ before test items → ltb i n ≡ any test items
-  found-below test e = ap₂ ltb e (sym (length-items text tape w b n)) ∙ sym (any-before test items)
-
-  pub none-below : (test : Item → Bool) → i ≡ before test items → leb n i ≡ not (any test items)
-  none-below test e = go (ltb i n) refl ∙ ap not (found-below test e)
-    where
-      go : (b : Bool) → ltb i n ≡ b → leb n i ≡ not (ltb i n)
-      go true q = lt-leb n i (ltb-true i n q) ∙ ap not (sym q)
-      go false q = le-leb n i (ltb-false i n q) ∙ ap not (sym q)
-
--- ---- the sorts of a type, of which those before i pass
+use borrow.Author.Tests.{eqb-true, eqb-false}
+use Rattle.meaning.specs.Lists.{pick, any}
+use Rattle.meaning.specs.Origins.{Sort}
+use Rattle.tables.specs.Rows.{sort-of}
 
 unfoldable pub all-pass : (Sort → Bool) → List Sort → Bool
 all-pass fits ss = not (any (λ (s : Sort). not (fits s)) ss)

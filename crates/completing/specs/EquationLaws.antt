@@ -2,7 +2,7 @@
 use mathlib.Core.Path.{_≡_, refl, sym, ap, _∙_, subst}
 use mathlib.Core.Logic.{inl}
 use mathlib.Core.List.{List}
-use Prim.Native.Nat.{ℕ, _+_, _-_, _≤_}
+use Prim.Native.Nat.{ℕ, _+_, _≤_}
 use native.Mathlib.Omega.{arith}
 use lib.ListN.{length, length-append}
 use Rattle.meaning.specs.Lists.{each}
@@ -21,8 +21,7 @@ use Rattle.forms.specs.declared.Made.{Made}
 use Rattle.forms.specs.declared.Made.the-variants.{Done, Refused}
 use Rattle.forms.specs.Memory.{part, Kept}
 use Rattle.forms.specs.Forms.{visible-at, Stands}
-use Rattle.forms.specs.FormLaws.{kept-wider, kept-then}
-use Rattle.forms.specs.Frames.{stands-kept}
+use Rattle.frames.specs.Changes.{onward, wider, outside, still-stands}
 use Rattle.forms.specs.Blocks.{Outside, Makes, MadeIn}
 use Rattle.declarations.specs.declared.Own.{Own}
 use Rattle.own.specs.declared.OwnRows.{OwnRows}
@@ -77,30 +76,16 @@ module _ (t : ℕ) (own : Own) (f : Form) (counts : OwnRows) (b : Block) (scratc
   seen-now = with-items f (counts .«parameter_count») (counts .«visible_count») (f .«hidden_count»)
 
   module _ (size : ℕ) (room : Rooms size t own f b scratch totals) where
-    entries-few : own .end - own .from ≤ 32768
-    entries-few = room .few-entries
-
     pub said-room : SaidRoom f counts scratch
-    said-room =
-        let laid = room .laid in
-        let lies = room .there .lies in
-        let fits = room .there .fits in
-        record {
-          rows = omega (arith, laid, lies .visible, fits .items, few .rows, entries-few);
-          nodes = room .small;
-        }
+    said-room = omega (arith, room, few)
 
     pub typed-few : said .«visible_count» + said .«hidden_count» ≤ 65536
     unfolding said-form
-    typed-few = omega (arith, few .rows, entries-few, room .there .fits .items)
+    typed-few = omega (arith, few, room)
 
     join-room : (g : Form) → g ≡ with-equations said (g .«equation_count») (g .«node_count») → JoinRoom size t g seen-now b
     unfolding said-form with-items
     join-room g e =
-        let laid = room .laid in
-        let lies = room .there .lies in
-        let fits = room .there .fits in
-        let entries = entries-few in
         let equations : g .equations ≡ scratch = ap (λ (z : Form). z .equations) e in
         let nodes : g .nodes ≡ scratch + 65536 = ap (λ (z : Form). z .nodes) e in
         let hidden : g .«hidden_count» ≡ counts .«hidden_count» = ap (λ (z : Form). z .«hidden_count») e in
@@ -108,21 +93,8 @@ module _ (t : ℕ) (own : Own) (f : Form) (counts : OwnRows) (b : Block) (scratc
           names = 32776;
           rows = 33280;
           sources = 33280;
-          laid = laid;
-          inside = record {
-            lies = record {
-              parameters = lies .parameters;
-              visible = lies .visible;
-              hidden = lies .hidden;
-              equations = lies .equations;
-              nodes = lies .nodes;
-            };
-            parameters = omega (arith, few .names, entries, fits .parameters);
-            visible = omega (arith, few .rows, entries, fits .items);
-            hidden = omega (arith, fits .items);
-            equations = omega (arith, fits .equations, room .enough-equations);
-            nodes = room .there .nodes;
-          };
+          laid = room .laid;
+          inside = omega (arith, room, few);
           few-rows = omega arith;
           enough-notes = omega arith;
           enough-equations = room .enough-equations;
@@ -131,7 +103,7 @@ module _ (t : ℕ) (own : Own) (f : Form) (counts : OwnRows) (b : Block) (scratc
           same-rows = ap (λ (z : Form). z .visible) e;
           same-row-count = ap (λ (z : Form). z .«visible_count») e;
           own-rows = ap (λ (z : Form). z .hidden) e;
-          own-row-count = omega (arith, few .rows, entries, fits .items, hidden);
+          own-row-count = omega (arith, room, few, hidden);
           own-equations = omega (arith, room .behind, equations);
           own-nodes = omega (arith, room .behind, nodes);
           own-node-room = omega (arith, room .scratch-room, nodes);
@@ -161,7 +133,7 @@ module _ (t : ℕ) (own : Own) (f : Form) (counts : OwnRows) (b : Block) (scratc
           let laid = room .laid in
           let lies = room .there .lies in
           let fits = room .there .fits in
-          let entries = entries-few (length w) room in
+          let entries = room .few-entries in
           let es = each flat-equation (m .equations) in
           let whole = ap length (module-split m) ∙ length-append (in-front m) es in
           let many : length es ≤ 32768 = omega (arith, whole, p .joined .imported .end, entries) in
@@ -188,23 +160,10 @@ module _ (t : ℕ) (own : Own) (f : Form) (counts : OwnRows) (b : Block) (scratc
       module _ (c k : ℕ) (kept : Kept scratch (scratch + 131072) w w₁) (rs : List ResolvedEquation)
           (s : Stands text (part w₁ 0 t) w₁ (with-equations said c k) (own-form m sorts v rs)) where
         scratch-outside : Outside scratch (scratch + 131072) f
-        scratch-outside =
-            let laid = room .laid in
-            let lies = room .there .lies in
-            let fits = room .there .fits in
-            let nodes = room .there .nodes in
-            let last = room .behind in
-            record {
-              parameters = inl (omega (arith, laid, lies .parameters, fits .parameters, last));
-              visible = inl (omega (arith, laid, lies .visible, fits .items, last));
-              hidden = inl (omega (arith, laid, lies .hidden, fits .items, last));
-              equations = inl (omega (arith, laid, lies .equations, fits .equations, room .enough-equations, last));
-              nodes = inl (omega (arith, laid, lies .nodes, nodes, last));
-            }
+        scratch-outside = outside (omega (arith, room))
 
         imported-still : Stands text (part w₁ 0 t) w₁ f n
-        imported-still =
-            stands-kept text t w w₁ scratch (scratch + 131072) f n (omega (arith, room .laid, room .behind)) kept scratch-outside (p .imported)
+        imported-still = still-stands {t = t} (omega (arith, room)) kept scratch-outside (p .imported)
 
         -- what is imported, with all that the module sees
         seen-stands : Stands text (part w₁ 0 t) w₁ seen-now (record { visible = v; hidden = n .hidden })
@@ -265,9 +224,7 @@ module _ (t : ℕ) (own : Own) (f : Form) (counts : OwnRows) (b : Block) (scratc
                     (λ rs s. y .made (omega (arith, nodes)) (h rs) (record { visible = joined-visible m (n .visible); hidden = n .hidden }) total e s
                     (seen-stands m n p c k kept rs s));
                 kept = kept-done (b .low) (scratch + 131072) w w′ r
-                    (kept-then (b .low) (scratch + 131072) w w₁ w′
-                    (kept-wider scratch (scratch + 131072) (b .low) (scratch + 131072) w w₁ (omega (arith, room .laid, room .behind)) (omega arith) kept)
-                    (kept-wider (b .low) (b .high) (b .low) (scratch + 131072) w₁ w′ (omega arith) (omega (arith, room .behind)) (y .kept)));
+                    (onward (wider (omega (arith, room)) kept) (wider (omega (arith, room .behind)) (y .kept)));
               }
 
       pub equations-completed : EquationsJoined text t w home own f counts b scratch totals r w′

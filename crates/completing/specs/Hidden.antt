@@ -13,9 +13,8 @@ use Rattle.forms.specs.declared.Form.{Form}
 use Rattle.forms.specs.declared.Block.{Block}
 use Rattle.forms.specs.Memory.{part, Kept}
 use Rattle.forms.specs.Forms.{items-at, visible-at, node-of, Stands}
-use Rattle.forms.specs.FormLaws.{kept-wider, kept-then}
 use Rattle.forms.specs.Blocks.{BlockLaid, Outside}
-use Rattle.forms.specs.Frames.{stands-kept}
+use Rattle.frames.specs.Changes.{onward, wider, around, outside, still-stands}
 use Rattle.translation.specs.declared.Mode.{Mode}
 use Rattle.translation.specs.Translation.{sort-name, function-name, moved-in, moved, moved-hidden}
 use Rattle.translation.specs.MovedLaws.{moved-same}
@@ -23,6 +22,7 @@ use Rattle.joining.specs.Joined.{with-counts}
 use Rattle.joining.specs.Found.{Noted}
 use Rattle.uniting.specs.Rooms.{HiddenRoomWithin, Inside}
 use Rattle.uniting.specs.United.{with-items, hidden-onto, moved-onto, within, sorts, functions, HiddenUnitedWithin}
+use Rattle.uniting.specs.InBlock.{hidden-room-in}
 use Rattle.uniting.specs.Noting.{item-moved, node-moved, shape-moved}
 use Rattle.uniting.specs.Corollaries.{united-as-is}
 
@@ -104,102 +104,37 @@ hidden-as-is text tape w to from = ap (λ (n : Normal). n .hidden) (united-as-is
 
 module _ (text : List ℕ) (t : ℕ) (w : List ℕ) (g f : Form) (b : Block) (room : JoinRoom (length w) t g f b) where
   pub note-room : b .«visible_notes» + g .«visible_count» ≤ length w
-  note-room =
-      let laid = room .laid in
-      let inside = room .inside in
-      omega (arith, laid, inside .visible, room .same-row-count, room .enough-notes)
+  note-room = omega (arith, room)
 
   module _ (w₁ : List ℕ) (x : SameNoted w (b .«visible_notes») (g .«visible_count») w₁) where
     pub hidden-room : g .«node_count» ≤ 65536 → HiddenRoomWithin (length w₁) t as-is g f b (b .«visible_notes») 1024
     hidden-room few =
-        let laid = room .laid in
-        let inside = room .inside in
-        let lies = inside .lies in
-        let size = x .kept .size in
-        record {
-          tape = omega (arith, laid, lies);
-          parameters = omega (arith, laid, lies, inside .parameters);
-          visible = omega (arith, laid, lies, inside .visible);
-          hidden = omega (arith, laid, lies);
-          equations = omega (arith, laid, lies);
-          nodes = omega (arith, laid, lies);
-          hidden-notes = omega (arith, laid, lies, room .own-row-count, room .enough-notes, size);
-          enough = laid .enough;
-          have = inside .hidden;
-          few = omega arith;
-          few-equations = inside .equations;
-          few-nodes = inside .nodes;
-          source-nodes = omega (arith, room .own-node-room, size);
-          outside = record {
-            parameters = inl (omega (arith, laid, lies, inside .parameters, room .same-names, room .same-name-count));
-            visible = inl (omega (arith, laid, lies, inside .visible, room .same-rows, room .same-row-count));
-            hidden = inl (omega (arith, laid, lies, room .own-rows, room .own-row-count));
-            equations = inr (omega (arith, laid, lies, room .own-row-count, room .enough-notes, room .own-equations));
-            nodes = inr (omega (arith, laid, lies, room .own-row-count, room .enough-notes, room .own-nodes));
-          };
-          mode = inl (omega arith);
-          notes-rows = inr (omega (arith, laid, lies));
-          notes-notes = inl (omega (arith, laid, inside .visible, room .same-row-count, room .enough-notes));
-        }
+        rw (x .kept .size) (hidden-room-in (room .laid) (room .inside) as-is g (b .«visible_notes») 1024 (outside (omega (arith, room))) (inl (omega arith))
+        (room .inside .hidden) (omega arith) (omega arith) (omega (arith, room)) (omega (arith, room .own-node-room)) (inr (omega (arith, room .laid)))
+        (inl (omega (arith, room))))
 
     notes-kept : Kept (b .low) (b .high) w w₁
-    notes-kept =
-        let laid = room .laid in
-        kept-wider _ _ (b .low) (b .high) w w₁ (omega (arith, laid))
-        (omega (arith, laid, room .inside .visible, room .same-row-count, room .enough-notes)) (x .kept)
+    notes-kept = wider (omega (arith, room)) (x .kept)
 
     notes-tape : t ≤ b .«visible_notes»
     notes-tape = omega (arith, room .laid)
 
     -- neither form has the notes among its words
     notes-outside-f : Outside (b .«visible_notes») (b .«visible_notes» + g .«visible_count») f
-    notes-outside-f =
-        let laid = room .laid in
-        let inside = room .inside in
-        let lies = inside .lies in
-        record {
-          parameters = inl (omega (arith, laid, lies, inside .parameters));
-          visible = inl (omega (arith, laid, lies, inside .visible));
-          hidden = inl (omega (arith, laid, lies, inside .hidden));
-          equations = inl (omega (arith, laid, lies, inside .equations));
-          nodes = inl (omega (arith, laid, lies, inside .nodes));
-        }
+    notes-outside-f = outside (omega (arith, room))
 
     notes-outside-g : Outside (b .«visible_notes») (b .«visible_notes» + g .«visible_count») g
-    notes-outside-g =
-        let laid = room .laid in
-        let inside = room .inside in
-        let lies = inside .lies in
-        let last = b .«visible_notes» + g .«visible_count» in
-        let ends : last ≤ b .high = omega (arith, laid, inside .visible, room .same-row-count, room .enough-notes) in
-        record {
-          parameters = inl (omega (arith, laid, lies, inside .parameters, room .same-names, room .same-name-count));
-          visible = inl (omega (arith, laid, lies, inside .visible, room .same-rows, room .same-row-count));
-          hidden = inl (omega (arith, laid, lies, room .own-rows, room .own-row-count));
-          equations = inr (omega (arith, ends, room .own-equations));
-          nodes = inr (omega (arith, ends, room .own-nodes));
-        }
+    notes-outside-g = outside (omega (arith, room))
 
     f-noted : (n : Normal) → Stands text (part w 0 t) w f n → Stands text (part w₁ 0 t) w₁ f n
-    f-noted n s = stands-kept text t w w₁ _ _ f n notes-tape (x .kept) notes-outside-f s
+    f-noted n s = still-stands notes-tape (x .kept) notes-outside-f s
 
     g-noted : (n : Normal) → Stands text (part w 0 t) w g n → Stands text (part w₁ 0 t) w₁ g n
-    g-noted n s = stands-kept text t w w₁ _ _ g n notes-tape (x .kept) notes-outside-g s
+    g-noted n s = still-stands notes-tape (x .kept) notes-outside-g s
 
     module _ (r : Form) (w′ : List ℕ) (z : HiddenUnitedWithin text t w₁ as-is g f b (b .«visible_notes») 1024 r w′) where
       united-kept : Kept (b .low) (b .high) w₁ w′
-      united-kept =
-          let laid = room .laid in
-          let lies = room .inside .lies in
-          let rows : f .nodes + b .«node_room» ≤ b .high = omega (arith, laid, lies) in
-          let low : b .low ≤ f .hidden = omega (arith, laid, lies) in
-          let notes : b .low ≤ b .«hidden_notes» = omega (arith, laid) in
-          let ends : b .«hidden_notes» + g .«hidden_count» ≤ b .high = omega (arith, laid, room .own-row-count, room .enough-notes) in
-          record {
-            size = z .kept .size;
-            below = λ i u. z .kept .kept i (inl (omega arith)) (inl (omega arith));
-            above = λ i u. z .kept .kept i (inr (omega arith)) (inr (omega arith));
-          }
+      united-kept = around (omega (arith, room)) (omega (arith, room)) (z .kept)
 
       abbrev tape : List ℕ
       tape = part w₁ 0 t
@@ -222,7 +157,7 @@ module _ (text : List ℕ) (t : ℕ) (w : List ℕ) (g f : Form) (b : Block) (ro
         few = z .few;
         equations = z .equations;
         nodes = z .nodes;
-        kept = kept-then (b .low) (b .high) w w₁ w′ notes-kept united-kept;
+        kept = onward notes-kept united-kept;
         seen = λ to u. z .seen ∙ f-noted to u .visible;
         items = λ from to s u.
             z .items from to (g-noted from s) (f-noted to u) ∙ ap (λ (h : Hidden). take 1024 (h .items)) (hidden-as-is text tape w₁ to from);

@@ -2,7 +2,7 @@
 use mathlib.Core.Path.{_≡_, refl, sym, ap, _∙_, subst}
 use mathlib.Core.Logic.{inl, inr}
 use mathlib.Core.List.{List}
-use Prim.Native.Nat.{ℕ, _+_, _-_, _*_, _≤_}
+use Prim.Native.Nat.{ℕ, _+_, _≤_}
 use native.Mathlib.Omega.{arith}
 use lib.ListN.{length}
 use Rattle.meaning.specs.Syntax.{Module}
@@ -17,10 +17,9 @@ use Rattle.forms.specs.declared.Verdict.{Verdict}
 use Rattle.forms.specs.declared.Verdict.the-variants.{Fine, Stop}
 use Rattle.forms.specs.Memory.{part, Kept}
 use Rattle.forms.specs.Forms.{visible-at, Stands}
-use Rattle.forms.specs.FormLaws.{kept-wider, kept-then}
-use Rattle.forms.specs.Frames.{stands-kept}
 use Rattle.forms.specs.Blocks.{Outside}
 use Rattle.forms.specs.Verdicts.{culprit-of, told}
+use Rattle.frames.specs.Changes.{onward, wider, around, outside, still-stands, still-stands-two}
 use Rattle.making.specs.Made.{makes-as, refused-makes, stops, goes-on}
 use Rattle.declarations.specs.Sorts.{Ready}
 use Rattle.declarations.specs.ItemLaws.{few-inputs}
@@ -29,7 +28,6 @@ use Rattle.own.specs.declared.OwnRows.{OwnRows}
 use Rattle.own.specs.Joined.{OwnRoom, OwnStands, OwnMade}
 use Rattle.own.specs.Checking.{CheckRoom, OwnChecked}
 use Rattle.own.specs.JoinLaws.{own-stands-kept}
-use Rattle.uniting.specs.Standing.{stands-kept-two}
 use Rattle.layout.specs.Layout.{block-at, joining-block, first-block, second-block}
 use Rattle.completing.specs.declared.Totals.{Totals}
 use Rattle.completing.specs.Completed.{equations-joined, joined-all, Rooms, Counted, CompleteRoom, KeptDone, Given, Prepared, EquationsJoined, CompletedIn, Completed}
@@ -38,26 +36,16 @@ module _ (t : ℕ) (own : Own) (f : Form) (b : Block) (scratch : ℕ) (totals : 
   -- ---- places
 
   module _ (size : ℕ) (room : Rooms size t own f b scratch totals) where
-    few-entries : own .end - own .from ≤ 32768
-    few-entries = room .few-entries
-
     pub own-room : OwnRoom size t own (f .parameters) (f .«parameter_count»)
-    own-room =
-        let laid = room .laid in
-        let lies = room .there .lies in
-        let fits = room .there .fits in
-        let rows = room .rows in
-        let count = room .count in
-        let entries = few-entries in
-        record {
-          few-names = omega (arith, fits .parameters);
-          few-rows = omega (arith, fits .items, count, entries);
-          behind-names = omega (arith, laid, lies .parameters);
-          behind-rows = omega (arith, laid, lies .visible, rows, count);
-          names = omega (arith, laid, lies .parameters, fits .parameters, entries);
-          rows = omega (arith, laid, lies .visible, fits .items, entries, rows, count);
-          apart = inr (omega (arith, laid, lies .parameters, lies .visible, fits .parameters, entries, rows));
-        }
+    own-room = record {
+      few-names = omega arith;
+      few-rows = omega arith;
+      behind-names = omega arith;
+      behind-rows = omega arith;
+      names = omega arith;
+      rows = omega arith;
+      apart = inr (omega arith);
+    }
 
   module _ (text : List ℕ) (w : List ℕ) (room : Rooms (length w) t own f b scratch totals) where
     pub own-ready : Ready w t own
@@ -67,11 +55,7 @@ module _ (t : ℕ) (own : Own) (f : Form) (b : Block) (scratch : ℕ) (totals : 
 
     module _ (counts : OwnRows) (w₁ : List ℕ) (x : OwnMade text t own (f .parameters) (f .«parameter_count») w w₁ counts) where
       pub counted : Counted own f counts
-      counted = record {
-        names = x .few-names;
-        more-rows = omega (arith, x .rows-grow, room .count);
-        rows = omega (arith, x .few-rows, room .count);
-      }
+      counted = omega arith
 
       items-size : length w₁ ≡ length w
       items-size = x .kept .size
@@ -80,10 +64,10 @@ module _ (t : ℕ) (own : Own) (f : Form) (b : Block) (scratch : ℕ) (totals : 
       ready-still = record { tape = omega (arith, room .laid, items-size); small = own-ready .small }
 
       names-few : counts .«parameter_count» ≤ 32776
-      names-few = omega (arith, x .few-names, room .there .fits .parameters, few-entries (length w) room)
+      names-few = omega (arith, x .few-names, room)
 
       rows-few : counts .«visible_count» + counts .«hidden_count» ≤ 33280
-      rows-few = omega (arith, x .few-rows, room .count, room .there .fits .items, few-entries (length w) room)
+      rows-few = omega (arith, x .few-rows, room)
 
       pub check-room : CheckRoom (length w₁) t own (f .parameters) counts (b .order)
       check-room =
@@ -104,48 +88,11 @@ module _ (t : ℕ) (own : Own) (f : Form) (b : Block) (scratch : ℕ) (totals : 
       -- ---- after the checks
 
       items-kept : Kept (b .low) (scratch + 131072) w w₁
-      items-kept =
-          let laid = room .laid in
-          let lies = room .there .lies in
-          let fits = room .there .fits in
-          let entries = few-entries (length w) room in
-          let names-low : b .low ≤ f .parameters + f .«parameter_count» * 2 = omega (arith, laid, lies .parameters) in
-          let rows-low : b .low ≤ own .rows + own .count * 16 = omega (arith, laid, lies .visible, room .rows) in
-          let names-high : f .parameters + (f .«parameter_count» + (own .end - own .from)) * 2 ≤ scratch + 131072 =
-          omega (arith, laid, lies .parameters, fits .parameters, entries, room .behind) in
-          let rows-high : own .rows + (own .count + (own .end - own .from)) * 16 ≤ scratch + 131072 =
-          omega (arith, laid, lies .visible, fits .items, entries, room .rows, room .count, room .behind) in
-          record {
-            size = x .kept .size;
-            below = λ i u. x .kept .kept i (inl (omega (arith, names-low))) (inl (omega (arith, rows-low)));
-            above = λ i u. x .kept .kept i (inr (omega (arith, names-high))) (inr (omega (arith, rows-high)));
-          }
+      items-kept = around (omega (arith, room)) (omega (arith, room)) (x .kept)
 
       imported-items : (n : Normal) → Stands text (part w 0 t) w f n → Stands text (part w₁ 0 t) w₁ f n
       imported-items n s =
-          let laid = room .laid in
-          let lies = room .there .lies in
-          let fits = room .there .fits in
-          let entries = few-entries (length w) room in
-          let rows = room .rows in
-          let count = room .count in
-          stands-kept-two text t w w₁ (f .parameters + f .«parameter_count» * 2) (f .parameters + (f .«parameter_count» + (own .end - own .from)) * 2)
-          (own .rows + own .count * 16) (own .rows + (own .count + (own .end - own .from)) * 16) f n
-          (omega (arith, laid, lies .parameters)) (omega (arith, laid, lies .visible, rows)) (x .kept)
-          (record {
-            parameters = inl (omega arith);
-            visible = inr (omega (arith, laid, lies .parameters, lies .visible, fits .parameters, entries));
-            hidden = inr (omega (arith, laid, lies .parameters, lies .hidden, fits .parameters, entries));
-            equations = inr (omega (arith, laid, lies .parameters, lies .equations, fits .parameters, entries));
-            nodes = inr (omega (arith, laid, lies .parameters, lies .nodes, fits .parameters, entries));
-          })
-          (record {
-            parameters = inl (omega (arith, laid, lies .parameters, lies .visible, fits .parameters, rows));
-            visible = inl (omega (arith, rows, count));
-            hidden = inr (omega (arith, laid, lies .visible, lies .hidden, fits .items, entries, rows, count));
-            equations = inr (omega (arith, laid, lies .visible, lies .equations, fits .items, entries, rows, count));
-            nodes = inr (omega (arith, laid, lies .visible, lies .nodes, fits .items, entries, rows, count));
-          }) s
+          still-stands-two {t = t} (omega (arith, room)) (omega (arith, room)) (x .kept) (outside (omega (arith, room))) (outside (omega (arith, room))) s
 
       joined-there : (m : Module) (n : Normal) → Given text t w (own .from) (own .end) f m n
           → OwnStands text (part w₁ 0 t) w₁ own (f .parameters) counts m (n .visible)
@@ -167,26 +114,14 @@ module _ (t : ℕ) (own : Own) (f : Form) (b : Block) (scratch : ℕ) (totals : 
         checks-high = omega (arith, room .laid, names-few, rows-few, room .behind)
 
         both-kept : Kept (b .low) (scratch + 131072) w w₂
-        both-kept =
-            kept-then (b .low) (scratch + 131072) w w₁ w₂ items-kept
-            (kept-wider _ _ (b .low) (scratch + 131072) w₁ w₂ (omega (arith, room .laid)) checks-high (y .kept))
+        both-kept = onward items-kept (wider (omega (arith, room .laid, checks-high)) (y .kept))
 
         verdict-meant : (m : Module) (n : Normal) → Given text t w (own .from) (own .end) f m n
             → own-checks m (seen-sorts m (n .visible)) (joined-visible m (n .visible)) ≡ told text v
         verdict-meant m n g = sym (y .verdict m (n .visible) (joined-there m n g) (few-inputs m (g .limited)))
 
         order-outside : Outside (b .order) (b .order + (counts .«parameter_count» + (counts .«visible_count» + counts .«hidden_count»))) f
-        order-outside =
-            let laid = room .laid in
-            let lies = room .there .lies in
-            let fits = room .there .fits in
-            record {
-              parameters = inl (omega (arith, laid, lies .parameters, fits .parameters));
-              visible = inl (omega (arith, laid, lies .visible, fits .items));
-              hidden = inl (omega (arith, laid, lies .hidden, fits .items));
-              equations = inl (omega (arith, laid, lies .equations, fits .equations, room .enough-equations));
-              nodes = inl (omega (arith, laid, lies .nodes, room .there .nodes));
-            }
+        order-outside = outside (omega (arith, room))
 
         prepared : (m : Module) (n : Normal) → Given text t w (own .from) (own .end) f m n → Prepared text t w₂ own f counts m n
         prepared m n g =
@@ -194,7 +129,7 @@ module _ (t : ℕ) (own : Own) (f : Form) (b : Block) (scratch : ℕ) (totals : 
             let lies = room .there .lies in
             let behind : t ≤ b .order = omega (arith, laid) in
             record {
-              imported = stands-kept text t w₁ w₂ _ _ f n behind (y .kept) order-outside (imported-items n (g .imported));
+              imported = still-stands behind (y .kept) order-outside (imported-items n (g .imported));
               joined = own-stands-kept text w₁ w₂ t _ _ (y .kept) behind own (f .parameters) counts m (n .visible) (x .rows-grow)
                   (inl (omega (arith, laid, lies .parameters, names-few))) (inl (omega (arith, laid, lies .visible, room .rows, rows-few)))
                   (joined-there m n g);
@@ -216,7 +151,7 @@ module _ (t : ℕ) (own : Own) (f : Form) (b : Block) (scratch : ℕ) (totals : 
         }
 
         kept-on : (r : Made) (w′ : List ℕ) → KeptDone (b .low) (scratch + 131072) w₂ w′ r → KeptDone (b .low) (scratch + 131072) w w′ r
-        kept-on (Done h) w′ k = kept-then (b .low) (scratch + 131072) w w₂ w′ both-kept k
+        kept-on (Done h) w′ k = onward both-kept k
         kept-on (Refused j z) w′ k = tt
 
         pub items-fine : (home : ℕ) (r : Made) (w′ : List ℕ) → v ≡ Fine → EquationsJoined text t w₂ home own f counts b scratch totals r w′
@@ -266,7 +201,7 @@ module _ (t from end : ℕ) (f : Form) (totals : Totals) (b c : Block) (eb : b �
 
   kept-laid : (r : Made) (w w′ : List ℕ) → KeptDone (joining-block .low) (c .low + 131072) w w′ r
       → KeptDone (joining-block .low) (second-block .high) w w′ r
-  kept-laid (Done h) w w′ k = kept-wider _ _ (joining-block .low) (second-block .high) w w′ (omega arith) scratch-high k
+  kept-laid (Done h) w w′ k = wider (omega (arith, scratch-high)) k
   kept-laid (Refused j z) w w′ k = tt
 
   pub completed : (text w : List ℕ) (home : ℕ) (r : Made) (w′ : List ℕ) → CompletedIn text t w home own-of f b (c .low) totals r w′

@@ -24,7 +24,7 @@ use Rattle.forms.specs.FormLaws.{length-items}
 use Rattle.forms.specs.Verdicts.{nobody-of}
 use Rattle.forms.specs.Blocks.{Lies, Makes, MadeIn}
 use Rattle.checks.specs.Consistent.{nobody}
-use Rattle.making.specs.Checked.{enough, length-slots, and-true}
+use Rattle.making.specs.Checked.{enough, length-slots, and-true, enough-fits}
 use Rattle.uniting.specs.United.{within}
 use Rattle.completing.specs.declared.Totals.{Totals}
 use Rattle.completing.specs.Hidden.{HiddenJoined}
@@ -81,22 +81,11 @@ module _ (f : Form) (totals : Totals) where
       go false c e = tt
 
   pub all-in : (b : Block) → Lies b f → f .«node_count» ≤ b .«node_room» → MadeIn b (fitting-all f totals)
-  unfolding fitting-all fitting-together enough pick
+  unfolding fitting-all fitting-together pick
   all-in b l nodes = go (enough f) refl (together f totals)
     where
       go : (a : Bool) → enough f ≡ a → (c : Bool) → MadeIn b (pick a (pick c (Done f) (Refused no-room nobody)) (Refused no-room nobody))
-      go true e true =
-          let last = and-true _ _ e in
-          let front = and-true _ _ (last .0) in
-          record {
-            lies = l;
-            fits = record {
-              parameters = leb-true (f .«parameter_count») parameter-room (front .0);
-              items = leb-true (f .«visible_count» + f .«hidden_count») item-room (front .1);
-              equations = leb-true (f .«equation_count») equation-room (last .1);
-            };
-            nodes = nodes;
-          }
+      go true e true = record { lies = l; fits = enough-fits f e; nodes = nodes }
       go true e false = tt
       go false e c = tt
 
@@ -200,19 +189,14 @@ module _ (text : List ℕ) (t : ℕ) (w : List ℕ) (g f : Form) (b : Block) (r 
       (λ e. equations-room (omega (arith, leb-true (r .«visible_count» + r .«hidden_count») item-room e))))
 
   all-stands : enough r ≡ true → Stands text tape w′ r all
-  unfolding enough within
+  unfolding within
   all-stands e =
-      let names-fit = leb (r .«parameter_count») parameter-room in
-      let items-fit = leb (r .«visible_count» + r .«hidden_count») item-room in
-      let last = and-true (names-fit && items-fit) (leb (r .«equation_count») equation-room) e in
-      let front = and-true names-fit items-fit (last .0) in
-      let items = leb-true (r .«visible_count» + r .«hidden_count») item-room (front .1) in
-      let equations = leb-true (r .«equation_count») equation-room (last .1) in
-      let stands = x .stands (omega (arith, items)) from to s u in
+      let fits-in = enough-fits r e in
+      let stands = x .stands (omega (arith, fits-in .items)) from to s u in
       let whole : within (b .«equation_room») hidden ≡ hidden =
       λ i. record {
         items = hidden .items;
-        equations = cut-none (b .«equation_room») (hidden .equations) (omega (arith, equations, stands .equation-count)) i;
+        equations = cut-none (b .«equation_room») (hidden .equations) (omega (arith, fits-in .equations, stands .equation-count)) i;
       } in
       subst (λ (h : Hidden). Stands text tape w′ r (record { visible = to .visible; hidden = h })) whole stands
 

@@ -81,15 +81,7 @@ module _ (text : List ℕ) (t : ℕ) (w : List ℕ) (g f : Form) (b : Block) (to
   module _ (room : JoinRoom (length w) t g f b) (h : Form) (w′ : List ℕ) (x : HiddenJoined text t w g f b h w′) where
     joined-lies : Lies b h
     unfolding with-counts with-items
-    joined-lies =
-        let lies = room .inside .lies in
-        record {
-          parameters = ap (λ (z : Form). z .parameters) (x .form) ∙ lies .parameters;
-          visible = ap (λ (z : Form). z .visible) (x .form) ∙ lies .visible;
-          hidden = ap (λ (z : Form). z .hidden) (x .form) ∙ lies .hidden;
-          equations = ap (λ (z : Form). z .equations) (x .form) ∙ lies .equations;
-          nodes = ap (λ (z : Form). z .nodes) (x .form) ∙ lies .nodes;
-        }
+    joined-lies = subst (Lies b) (sym (x .form)) (omega (arith, room .inside .lies))
 
     pub said-few : TotalsRight totals → FewIn h totals
     unfolding with-counts with-items

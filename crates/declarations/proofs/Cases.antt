@@ -10,7 +10,7 @@ use borrow.Author.Needs.{needs}
 use borrow.Author.Tests.{lt-ltb, le-ltb, eq-eqb, ne-eqb}
 use mir.Syntax.{w32}
 use mir.Val.{Fits}
-use lib.Dec.{eqb, ltb}
+use lib.Dec.{eqb}
 use Rattle.meaning.specs.Lists.{pick}
 use Rattle.meaning.specs.Names.{Name, same}
 use Rattle.meaning.specs.Origins as meant
@@ -27,6 +27,7 @@ use Rattle.forms.specs.declared.Verdict.the-variants.{Fine, Stop}
 use Rattle.forms.specs.Verdicts.{lone-of, told}
 use Rattle.declarations.specs.Scans.{found, walked, first-of}
 use Rattle.declarations.specs.Sorts.{is-named, is-row, place-of, declares-at, declares-seen, hidden-place, is-seen, is-inside, resolved-in}
+use Rattle.declarations.specs.Spelled.{first-found}
 use Rattle.declarations.specs.declared.Own.{Own}
 use Rattle.declarations.specs.Once.{is-declaring, repeats, section-start, is-repeat, once-at}
 
@@ -71,14 +72,6 @@ module _ (text : List ℕ) (f : ℕ → Check) (i e : ℕ) where
     walked-stop k w q = rw (one-left i e h, ← g, q)
 
 -- ---- 9
-
-pub declaring-low : (r : ℕ) → r < 2 → false ≡ is-declaring r
-unfolding is-declaring pick
-declaring-low r h = rw (lt-ltb r 2 h)
-
-pub declaring-high : (r : ℕ) → 2 ≤ r → ltb r 9 ≡ is-declaring r
-unfolding is-declaring pick
-declaring-high r h = rw (le-ltb r 2 h)
 
 -- what is declared is called as its entry says, so that declarations of two names are two
 unfoldable called : Declared → Name
@@ -192,16 +185,7 @@ module _ (text m : List ℕ) (b kind : ℕ) (w i r : ℕ) (e : r ≡ getD m (b +
   unfolding is-row pick
   row-not q = rw (← e, ne-eqb r kind q)
 
--- a place is found before the end where one of them passes; and one that passes one of two tests, where either is passed
-first-found : (p : ℕ → Bool) (i c e : ℕ) → e - i ≡ c → ltb (first-of p i c) e ≡ found p i c
-unfolding first-of found pick
-first-found p i zero e h = le-ltb i e (omega arith)
-first-found p i (suc c) e h = go (p i) (first-found p (suc i) c e (omega arith))
-  where
-    go : (b : Bool) → ltb (first-of p (suc i) c) e ≡ found p (suc i) c → ltb (pick b i (first-of p (suc i) c)) e ≡ pick b true (found p (suc i) c)
-    go true r = lt-ltb i e (omega arith)
-    go false r = r
-
+-- one that passes one of two tests is found where either is passed
 found-either : (p q both : ℕ → Bool) → ((i : ℕ) → both i ≡ pick (p i) true (q i)) → (i c : ℕ) → pick (found p i c) true (found q i c) ≡ found both i c
 unfolding found pick
 found-either p q both h i zero = refl
@@ -219,32 +203,13 @@ unfolding declares-seen declares-at place-of
 declares-told text tape own n r h =
     let a = own .from in
     let c = own .end - own .from in
-    rw (first-found (is-named text tape 3 n) a c (own .end) refl, first-found (is-named text tape 5 n) a c (own .end) refl)
+    rw (first-found text tape (is-named text tape 3 n) c a (own .end) refl, first-found text tape (is-named text tape 5 n) c a (own .end) refl)
     (h ∙ sym (found-either (is-named text tape 3 n) (is-named text tape 5 n) (declares-at text tape n) (λ i. refl) a c))
-
-module _ (text tape : List ℕ) (n : Name) (i : ℕ) (a : Bool) (e : a ≡ is-named text tape 3 n i) where
-  pub declares-parameter : a ≡ true → true ≡ declares-at text tape n i
-  unfolding declares-at pick
-  declares-parameter h = rw (← e, h)
-
-  pub declares-export : (b : Bool) → a ≡ false → b ≡ is-named text tape 5 n i → b ≡ declares-at text tape n i
-  unfolding declares-at pick
-  declares-export b h f = rw (← e, h) f
 
 module _ (text tape : List ℕ) (own : Own) (w x : ℕ) where
   pub hidden-found : x ≡ first-of (is-named text tape 7 (name-of text w)) (own .from) (own .end - own .from) → x ≡ hidden-place text tape own (name-of text w)
   unfolding hidden-place place-of
   hidden-found e = e
-
-module _ (text tape m : List ℕ) (own : Own) (n : Name) (b : Bool) where
-  module _ (e : b ≡ found (is-row text m (own .rows) 0 n) 0 (own .count)) where
-    pub seen-imported : b ≡ true → true ≡ is-seen text tape m own n
-    unfolding is-seen pick
-    seen-imported q = rw (← e, q)
-
-    pub seen-declared : (c : Bool) → b ≡ false → c ≡ declares-seen text tape own n → c ≡ is-seen text tape m own n
-    unfolding is-seen pick
-    seen-declared c q f = rw (← e, q) f
 
 module _ (text tape m : List ℕ) (own : Own) (n : Name) (d : ℕ) (e : d ≡ hidden-place text tape own n) where
   pub inside-hidden : d < own .end → true ≡ is-inside text tape m own n
@@ -296,4 +261,4 @@ pub resolved-there : (text tape m : List ℕ) (own : Own) (i x r : ℕ) → x �
     → sort-of text tape r ≡ resolved-in text tape m own (name-of text (x / 32)) → sort-of text tape r ≡ resolved-in text tape m own (name-at text tape i)
 resolved-there text tape m own i x r e h = rw (← e) h
 
-pub ruleset cases = (on, done, found-none, found-here, found-on, walked-all, walked-on, walked-stop, declaring-low, declaring-high, repeats-told, repeats-other, repeats-not, last-fits, start-parameter, start-module, once-other, once-first, once-again, first-none, first-here, first-on, found-start, named-there, named-not, row-there, row-not, hidden-found, declares-told, declares-parameter, declares-export, seen-imported, seen-declared, inside-seen, inside-hidden, resolved-seen, resolved-hidden, resolved-other, resolved-there, needs)
+pub ruleset cases = (on, done, found-none, found-here, found-on, walked-all, walked-on, walked-stop, repeats-told, repeats-other, repeats-not, last-fits, start-parameter, start-module, once-other, once-first, once-again, first-none, first-here, first-on, found-start, named-there, named-not, row-there, row-not, hidden-found, declares-told, inside-seen, inside-hidden, resolved-seen, resolved-hidden, resolved-other, resolved-there, needs)

@@ -7,7 +7,7 @@ use Prim.Native.Nat.{ℕ, zero, suc, _+_, _-_, _*_, _<_, _≤_}
 use native.Mathlib.Numerals.{add-one, add-two}
 use native.Mathlib.Omega.{arith}
 use borrow.Author.Needs.{needs}
-use borrow.Author.Tests.{ltb-true, ltb-false, lt-ltb, le-ltb, eq-eqb, ne-eqb}
+use borrow.Author.Tests.{ltb-true, ltb-false, ne-eqb}
 use mir.Syntax.{w32}
 use mir.Val.{Fits}
 use lib.Dec.{eqb, ltb}
@@ -26,7 +26,7 @@ use Rattle.forms.specs.Memory.{part, Same, Kept}
 use Rattle.forms.specs.Forms.{items-at}
 use Rattle.forms.specs.FormLaws.{kept-all, kept-wider, kept-then, kept-sets, kept-same, items-same, tape-same, items-grow}
 use Rattle.declarations.specs.Sorts.{Ready, resolved-in}
-use Rattle.declarations.specs.Items.{resolved-at, resolved-from, own-shape, own-item, InputSorts, OwnSorts, OwnRow, own-role, is-own, own-count, own-items, Roomy, Put, Appended}
+use Rattle.declarations.specs.Items.{resolved-at, resolved-from, own-shape, own-item, InputSorts, OwnSorts, OwnRow, is-own, own-count, own-items, Roomy, Put, Appended}
 use Rattle.declarations.specs.Frames.{item-same, count-short}
 use Rattle.declarations.specs.declared.Own.{Own}
 
@@ -157,29 +157,6 @@ row-put text w w′ t own base k d r g q =
       item = λ h. rw (q, row-back w b r (g .fits) h) (g .item);
     }
 
--- ---- which entries declare an item
-
-module _ (tape : List ℕ) (i r : ℕ) (e : r ≡ role-at tape i) where
-  pub own-variable : r ≡ 17 → (hidden : Bool) → hidden ≡ true → true ≡ is-own tape hidden i
-  unfolding is-own own-role pick
-  own-variable h hidden q = rw (q, ← e, eq-eqb r 17 h)
-
-  pub own-hidden-low : (r ≡ 17 → ⊥) → r < 7 → (hidden : Bool) → hidden ≡ true → false ≡ is-own tape hidden i
-  unfolding is-own own-role pick
-  own-hidden-low n h hidden q = rw (q, ← e, ne-eqb r 17 n, lt-ltb r 7 h)
-
-  pub own-hidden-high : (r ≡ 17 → ⊥) → 7 ≤ r → (hidden : Bool) → hidden ≡ true → ltb r 9 ≡ is-own tape hidden i
-  unfolding is-own own-role pick
-  own-hidden-high n h hidden q = rw (q, ← e, ne-eqb r 17 n, le-ltb r 7 h)
-
-  pub own-seen-low : r < 3 → (hidden : Bool) → hidden ≡ false → false ≡ is-own tape hidden i
-  unfolding is-own own-role pick
-  own-seen-low h hidden q = rw (q, ← e, lt-ltb r 3 h)
-
-  pub own-seen-high : 3 ≤ r → (hidden : Bool) → hidden ≡ false → ltb r 7 ≡ is-own tape hidden i
-  unfolding is-own own-role pick
-  own-seen-high h hidden q = rw (q, ← e, le-ltb r 3 h)
-
 -- ---- all items: those before i are the rows from n up to k
 
 pub record Appending (text : List ℕ) (t : ℕ) (own : Own) (hidden : Bool) (base n : ℕ) (w₀ w : List ℕ) (k i : ℕ) : Type 0 where
@@ -270,4 +247,4 @@ module _ (text : List ℕ) (t : ℕ) (own : Own) (hidden : Bool) (base n : ℕ) 
             so-far = rw (all, append-assoc) old;
           }
 
-pub ruleset making = (gather-start, gather-size, gather-on, gather-end, sorts-function, sorts-variable, sorts-none, sorts-some, kind-short, row-made, row-put, own-variable, own-hidden-low, own-hidden-high, own-seen-low, own-seen-high, append-start, append-ready, append-long, append-part, append-end, append-skip, append-fits, append-put, needs)
+pub ruleset making = (gather-start, gather-size, gather-on, gather-end, sorts-function, sorts-variable, sorts-none, sorts-some, kind-short, row-made, row-put, append-start, append-ready, append-long, append-part, append-end, append-skip, append-fits, append-put, needs)

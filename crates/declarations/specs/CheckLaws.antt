@@ -8,7 +8,7 @@ use native.Mathlib.Nat.{add-zero}
 use native.Mathlib.Omega.{arith}
 use borrow.Author.Tests.{ne-eqb}
 use lib.Dec.{eqb}
-use lib.ListN.{length, length-append}
+use lib.ListN.{length}
 use Rattle.meaning.specs.Lists.{pick, any, or-else, first-some, each}
 use Rattle.meaning.specs.Names.{Name, member}
 use Rattle.meaning.specs.Numbers.{bad-sort}
@@ -17,49 +17,20 @@ use Rattle.meaning.specs.Normal.{Visible}
 use Rattle.meaning.specs.Checks.{lone, Check, fine, stop, _>>_, unless}
 use Rattle.meaning.specs.Own.{lacking, lacking-variable, parameter-functions, available-sorts}
 use Rattle.meaning.specs.Evaluate.{seen-sorts}
-use Rattle.tape.specs.Tape.{Entry, entry, flat-function, flat-signature, flat-parameter, flat-import, flat-group, flat-equation, flat-module}
+use Rattle.tape.specs.Tape.{Entry, entry, flat-function, flat-signature, flat-parameter, flat-group, flat-module}
 use Rattle.tables.specs.Entries.{name-at, names-from, is-function-role, sort-place}
 use Rattle.declarations.specs.Scans.{found, walked}
 use Rattle.declarations.specs.Checked.{lacks, lacks-function, lacks-variable, lacks-sort, available-at}
-use Rattle.declarations.specs.Spelled.{Spells, All, all-map, all-type, all-imports, all-equations, spells-front, spells-behind}
+use Rattle.walks.specs.Lists.{any-append}
+use Rattle.walks.specs.Flat.{All, all-map, all-type, all-imports, all-equations}
+use Rattle.declarations.specs.Spelled.{Spells, spells-front, spells-behind}
+use Rattle.declarations.specs.Runs.{imports-of, equations-of, at-exports, at-imports, at-hidden, at-groups, at-equations, parts}
+use Rattle.declarations.specs.Runs.{quiet-run, walk-module, then-fine, check-walks, walked-append}
 use Rattle.declarations.specs.DeclarationLaws.{Stands, seen-told, inside-told}
 use Rattle.declarations.specs.ItemLaws.{Few, FewEach, FewInputs, FunctionAt, function-at, group-entries, type-entries, variable-sorted}
 use Rattle.declarations.specs.declared.Own.{Own}
 
--- ---- walks over runs of entries
-
-pub then-fine : (c : Check) → (c >> fine tt) ≡ c
-unfolding _>>_
-then-fine (fine tt) = refl
-then-fine (stop k w) = refl
-
-pub then-then : (a b c : Check) → ((a >> b) >> c) ≡ (a >> (b >> c))
-unfolding _>>_
-then-then (fine tt) b c = refl
-then-then (stop k w) b c = refl
-
-module _ (f : ℕ → Check) where
-  walked-split : (c e d : ℕ) → walked f d (c + e) ≡ (walked f d c >> walked f (d + c) e)
-  unfolding walked _>>_
-  walked-split zero e d = let z : 0 + e ≡ e = omega arith in rw (z, add-zero d)
-  walked-split (suc c) e d =
-      let z : suc c + e ≡ suc (c + e) = omega arith in
-      let y : d + suc c ≡ suc d + c = omega arith in
-      rw (z, y) (ap (λ (x : Check). f d >> x) (walked-split c e (suc d)) ∙ sym (then-then (f d) (walked f (suc d) c) (walked f (suc d + c) e)))
-
-  pub walked-append : (es fs : List Entry) (d : ℕ) → walked f d (length (es ++ fs)) ≡ (walked f d (length es) >> walked f (d + length es) (length fs))
-  walked-append es fs d = rw (length-append es fs) (walked-split (length es) (length fs) d)
-
 -- ---- lists
-
-any-append : {A : Type 0} (p : A → Bool) (xs ys : List A) → any p (xs ++ ys) ≡ pick (any p xs) true (any p ys)
-unfolding any pick
-any-append p [] ys = refl
-any-append p (x ∷ xs) ys = rw (any-append p xs ys) (go (p x))
-  where
-    go : (b : Bool) → pick b true (pick (any p xs) true (any p ys)) ≡ pick (pick b true (any p xs)) true (any p ys)
-    go true = refl
-    go false = refl
 
 unless-or : (k : ℕ) (a b : Option Name) → unless k (or-else a b) ≡ (unless k a >> unless k b)
 unfolding unless or-else _>>_
@@ -143,9 +114,8 @@ module _ (text tape w : List ℕ) (own : Own) (m : Module) (v : Visible) (s : St
       ∙ last-first (any (λ (n : Name). not (member n (available hidden))) (f .inputs)) (not (member (f .output) (available hidden)))))
 
   walk-quiet : (es : List Entry) (d : ℕ) → All Quiet es → Spells text tape d es → walk d es ≡ fine tt
-  unfolding walked available-at lacks-sort _>>_ pick
-  walk-quiet [] d h l = refl
-  walk-quiet (e ∷ es) d h l = rw (l .0, h .0 .function, h .0 .variable) (walk-quiet es (suc d) (h .1) (l .2))
+  unfolding available-at lacks-sort pick
+  walk-quiet es d h l = quiet-run (check-walks (available-at text tape w own)) Quiet text tape (λ j q. rw (q .function, q .variable)) es d h l
 
   -- functions with the role r
   module _ (hidden : Bool) (r : ℕ) (is-function : is-function-role r ≡ true) (is-hidden : eqb r 8 ≡ hidden) where
@@ -239,38 +209,22 @@ module _ (text tape w : List ℕ) (own : Own) (m : Module) (v : Visible) (s : St
   -- ---- the module
 
   module-walked : FewInputs m → walk (own .from) (flat-module m) ≡ available-sorts m (seen-sorts m v)
-  unfolding flat-module available-sorts variables-of walked available-at lacks-sort is-function-role _>>_ pick
+  unfolding available-sorts variables-of available-at lacks-sort is-function-role _>>_ pick
   module-walked n =
-      let f = available-at text tape w own in
-      let a = each flat-parameter (m .parameters) in
-      let b = flat-signature 5 6 (m .exports) in
-      let c = each flat-import (m .imports) in
-      let d = flat-signature 7 8 (m .hidden) in
-      let g = each flat-group (m .groups) in
-      let h = each flat-equation (m .equations) in
-      let i = suc (own .from) in
-      let i₁ = i + length a in
-      let i₂ = i₁ + length b in
-      let i₃ = i₂ + length c in
-      let i₄ = i₃ + length d in
-      let k = s .entries .2 in
-      let k₁ = spells-behind text tape a (b ++ (c ++ (d ++ (g ++ h)))) i k in
-      let k₂ = spells-behind text tape b (c ++ (d ++ (g ++ h))) i₁ k₁ in
-      let k₃ = spells-behind text tape c (d ++ (g ++ h)) i₂ k₂ in
-      let k₄ = spells-behind text tape d (g ++ h) i₃ k₃ in
-      rw (s .entries .0)
-      (walked-append f a (b ++ (c ++ (d ++ (g ++ h)))) i
-      ∙ ap₂ (λ (x y : Check). x >> y) (parameters-walked (m .parameters) i (n .parameters) (spells-front text tape a (b ++ (c ++ (d ++ (g ++ h)))) i k))
-      (walked-append f b (c ++ (d ++ (g ++ h))) i₁
-      ∙ ap₂ (λ (x y : Check). x >> y) (signature-walked false 6 refl refl 5 (record { function = refl; variable = refl }) (m .exports) i₁ (n .exports) (spells-front text tape b (c ++ (d ++ (g ++ h))) i₁ k₁))
-      (walked-append f c (d ++ (g ++ h)) i₂
-      ∙ ap₂ (λ (x y : Check). x >> y) (walk-quiet c i₂ (all-imports Quiet (λ r x y. quiet-role r (omega arith) (λ q. omega arith)) (m .imports)) (spells-front text tape c (d ++ (g ++ h)) i₂ k₂))
-      (walked-append f d (g ++ h) i₃
-      ∙ ap₂ (λ (x y : Check). x >> y) (signature-walked true 8 refl refl 7 (record { function = refl; variable = refl }) (m .hidden) i₃ (n .hidden) (spells-front text tape d (g ++ h) i₃ k₃))
-      (walked-append f g h i₄
-      ∙ ap₂ (λ (x y : Check). x >> y) (groups-walked (m .groups) i₄ (spells-front text tape g h i₄ k₄))
-      (walk-quiet h (i₄ + length g) (all-equations Quiet (λ r x. quiet-role r (omega arith) (λ q. omega arith)) (m .equations)) (spells-behind text tape g h i₄ k₄))
-      ∙ then-fine (unless bad-sort (first-some (lacking-variable inside) (variables-of m))))))))
+      let a = own .from in
+      let p = parts text tape a m (s .entries) in
+      let quiet : (r : ℕ) → 11 ≤ r → (r ≡ 17 → ⊥) → Quiet r = λ r h q. quiet-role r (omega arith) q in
+      walk-module (check-walks (available-at text tape w own)) a m
+      ∙ rw (
+        p .head,
+        parameters-walked (m .parameters) (suc a) (n .parameters) (p .parameters),
+        signature-walked false 6 refl refl 5 (record { function = refl; variable = refl }) (m .exports) (at-exports a m) (n .exports) (p .exports),
+        walk-quiet (imports-of m) (at-imports a m) (all-imports Quiet (λ r x y. quiet r x (λ q. omega arith)) (m .imports)) (p .imports),
+        signature-walked true 8 refl refl 7 (record { function = refl; variable = refl }) (m .hidden) (at-hidden a m) (n .hidden) (p .hidden),
+        groups-walked (m .groups) (at-groups a m) (p .groups),
+        walk-quiet (equations-of m) (at-equations a m) (all-equations Quiet (λ r x. quiet r (omega arith) (λ q. omega arith)) (m .equations)) (p .equations),
+        then-fine,
+      )
 
   -- 13 by places is the meaning's
   pub available-told : FewInputs m → walked (available-at text tape w own) (own .from) (own .end - own .from) ≡ available-sorts m (seen-sorts m v)

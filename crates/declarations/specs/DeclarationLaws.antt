@@ -20,12 +20,13 @@ use Rattle.meaning.specs.Evaluate.{seen-sorts}
 use Rattle.names.specs.Word.{name-of}
 use Rattle.tape.specs.Tape.{flat-module}
 use Rattle.tables.specs.Entries.{role-at, name-at, home-at}
+use Rattle.walks.specs.Flat.{names-with}
 use Rattle.tables.specs.Rows.{hidden-origin}
 use Rattle.forms.specs.Forms.{items-at}
 use Rattle.declarations.specs.Scans.{first-of}
 use Rattle.declarations.specs.Sorts.{is-named, place-of, declares-seen, hidden-place, is-seen, is-inside, resolved-in}
 use Rattle.declarations.specs.RowNames.{sorts-found}
-use Rattle.declarations.specs.Spelled.{Spells, names-with, names-module, place-found, home-there}
+use Rattle.declarations.specs.Spelled.{Spells, is-role, names-module, place-found, home-there}
 use Rattle.declarations.specs.declared.Own.{Own}
 
 -- the entries of `own` spell the module, and its rows stand for what is visible
@@ -72,15 +73,15 @@ called false x y e = absurd (false≢true e)
 
 -- ---- the sorts that a module declares
 
-parameter-sorts : (m : Module) → names-with 3 (flat-module m) ≡ each (λ (p : Parameter). p .signature .sorts) (m .parameters)
+parameter-sorts : (m : Module) → names-with (is-role 3) (flat-module m) ≡ each (λ (p : Parameter). p .signature .sorts) (m .parameters)
 unfolding pick
 parameter-sorts m = names-module 3 (record { odd = refl; more = omega arith; less = omega arith }) m ∙ append-nil _
 
-export-sorts : (m : Module) → names-with 5 (flat-module m) ≡ m .exports .sorts
+export-sorts : (m : Module) → names-with (is-role 5) (flat-module m) ≡ m .exports .sorts
 unfolding pick
 export-sorts m = names-module 5 (record { odd = refl; more = omega arith; less = omega arith }) m ∙ append-nil _
 
-hidden-sorts : (m : Module) → names-with 7 (flat-module m) ≡ m .hidden .sorts
+hidden-sorts : (m : Module) → names-with (is-role 7) (flat-module m) ≡ m .hidden .sorts
 unfolding pick
 hidden-sorts m = names-module 7 (record { odd = refl; more = omega arith; less = omega arith }) m
 

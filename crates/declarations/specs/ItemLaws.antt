@@ -1,5 +1,5 @@
 -- The items that a module's entries declare are the meaning's (meaning/specs/Own.antt).
-use mathlib.Core.Path.{_≡_, refl, sym, ap, ap₂, subst, _∙_}
+use mathlib.Core.Path.{_≡_, refl, sym, ap, ap₂, _∙_}
 use mathlib.Core.Bool.{Bool, true, false}
 use mathlib.Core.List.{List, [], _∷_, _++_, map, map-append, append-nil, append-assoc}
 use Prim.Native.Nat.{ℕ, zero, suc, _+_, _-_, _<_, _≤_}
@@ -20,12 +20,15 @@ use Rattle.meaning.specs.Evaluate.{seen-sorts}
 use Rattle.meaning.specs.OrderLaws.{Every}
 use Rattle.limits.specs.Limits.{InputsWithin, Limited}
 use Rattle.names.specs.Word.{name-of}
-use Rattle.tape.specs.Tape.{Entry, entry, flat-function, flat-signature, flat-parameter, flat-import, flat-group, flat-equation, flat-module}
+use Rattle.tape.specs.Tape.{Entry, entry, flat-function, flat-signature, flat-parameter, flat-group, flat-module}
 use Rattle.tables.specs.Entries.{role-at, name-at, inputs-from, names-from, is-function-role, is-parameter-role, is-export-role, arity-at, last-with, next-with, sort-place, home-at, section-at, origin-at, declared-at}
 use Rattle.tables.specs.Kinds.{kind-at}
 use Rattle.tables.specs.Rows.{section-of, origin-of}
 use Rattle.declarations.specs.Items.{resolved-at, resolved-from, own-shape, own-item, own-role, is-own, own-items}
-use Rattle.declarations.specs.Spelled.{Spells, All, all-append, all-type, all-signature, all-parameters, all-imports, all-groups, all-equations, spells-front, spells-behind, last-over, home-there, behind-name}
+use Rattle.walks.specs.Flat.{All, all-type, all-signature, all-parameters, all-imports, all-groups, all-equations}
+use Rattle.declarations.specs.Spelled.{Spells, spells-front, spells-behind, last-over, home-there}
+use Rattle.declarations.specs.Runs.{parameters-of, exports-of, imports-of, hidden-of, groups-of, equations-of}
+use Rattle.declarations.specs.Runs.{at-exports, at-imports, at-hidden, at-groups, at-equations, parts, Walks, walk-append, quiet-run, walk-module}
 use Rattle.declarations.specs.DeclarationLaws.{Stands, resolved-told}
 use Rattle.declarations.specs.declared.Own.{Own}
 
@@ -186,29 +189,25 @@ module _ (text tape w : List ℕ) (own : Own) (m : Module) (v : Visible) (s : St
     abbrev over : ℕ → List Entry → List Item
     over d es = own-items text tape w own hidden d (length es)
 
-    items-split : (c e d : ℕ) → own-items text tape w own hidden d (c + e) ≡ own-items text tape w own hidden d c ++ own-items text tape w own hidden (d + c) e
+    item-walks : Walks _++_ [] (λ (i : ℕ). pick (is-own tape hidden i) (own-item text tape w own i ∷ []) []) (own-items text tape w own hidden)
     unfolding own-items pick
-    items-split zero e d =
-        let z : 0 + e ≡ e = omega arith in
-        rw (z, add-zero d)
-    items-split (suc c) e d =
-        let z : suc c + e ≡ suc (c + e) = omega arith in
-        let y : d + suc c ≡ suc d + c = omega arith in
-        rw (z, y) (go (is-own tape hidden d) (items-split c e (suc d)))
+    item-walks = record {
+      unit = λ xs. refl;
+      assoc = λ xs ys zs. append-assoc xs ys zs;
+      empty = λ i. refl;
+      more = λ i c. go (is-own tape hidden i) (own-item text tape w own i) (own-items text tape w own hidden (suc i) c);
+    }
       where
-        go : (b : Bool) → own-items text tape w own hidden (suc d) (c + e) ≡ own-items text tape w own hidden (suc d) c ++ own-items text tape w own hidden (suc d + c) e
-            → pick b (own-item text tape w own d ∷ own-items text tape w own hidden (suc d) (c + e)) (own-items text tape w own hidden (suc d) (c + e))
-            ≡ pick b (own-item text tape w own d ∷ own-items text tape w own hidden (suc d) c) (own-items text tape w own hidden (suc d) c) ++ own-items text tape w own hidden (suc d + c) e
-        go true h = ap (λ (xs : List Item). own-item text tape w own d ∷ xs) h
-        go false h = h
+        go : (b : Bool) (x : Item) (xs : List Item) → pick b (x ∷ xs) xs ≡ pick b (x ∷ []) [] ++ xs
+        go true x xs = refl
+        go false x xs = refl
 
     over-append : (es fs : List Entry) (d : ℕ) → over d (es ++ fs) ≡ over d es ++ over (d + length es) fs
-    over-append es fs d = rw (length-append es fs) (items-split (length es) (length fs) d)
+    over-append es fs d = walk-append item-walks es fs d
 
     over-quiet : (es : List Entry) (d : ℕ) → All (λ (r : ℕ). own-role hidden r ≡ false) es → Spells text tape d es → over d es ≡ []
-    unfolding own-items is-own pick
-    over-quiet [] d h l = refl
-    over-quiet (e ∷ es) d h l = rw (l .0, h .0) (over-quiet es (suc d) (h .1) (l .2))
+    unfolding is-own pick
+    over-quiet es d h l = quiet-run item-walks (λ (r : ℕ). own-role hidden r ≡ false) text tape (λ j q. rw q) es d h l
 
     -- the sorts and functions of one section, with the roles q and r, among the places from lo up to hi
     module _ (sec : meant.Section) (q r : ℕ) (own-q : own-role hidden q ≡ true) (own-r : own-role hidden r ≡ true) (sort-q : is-function-role q ≡ false) (other-q : eqb q 17 ≡ false)
@@ -293,59 +292,32 @@ module _ (text tape w : List ℕ) (own : Own) (m : Module) (v : Visible) (s : St
       (parameter-own p d h (omega (arith, size)) (n .0) (spells-front text tape (flat-parameter p) (each flat-parameter ps) d k))
       (parameters-own ps (d + length (flat-parameter p)) (omega arith) (omega (arith, size)) (n .1) (spells-behind text tape (flat-parameter p) (each flat-parameter ps) d k))
 
-  abbrev parameters-there : List Entry
-  parameters-there = each flat-parameter (m .parameters)
-
-  abbrev exports-there : List Entry
-  exports-there = flat-signature 5 6 (m .exports)
-
-  abbrev imports-there : List Entry
-  imports-there = each flat-import (m .imports)
-
-  abbrev hidden-there : List Entry
-  hidden-there = flat-signature 7 8 (m .hidden)
-
-  abbrev variables-there : List Entry
-  variables-there = each flat-group (m .groups) ++ each flat-equation (m .equations)
-
-  abbrev behind-exports : List Entry
-  behind-exports = imports-there ++ (hidden-there ++ variables-there)
-
-  behind-exports-quiet : All (λ (r : ℕ). own-role false r ≡ false) behind-exports
-  behind-exports-quiet =
-      all-append P imports-there (hidden-there ++ variables-there) (all-imports P (λ r h l. quiet-seen r (omega arith)) (m .imports))
-      (all-append P hidden-there variables-there (all-signature P 7 8 (q 7 (omega arith)) (q 8 (omega arith)) (q 9 (omega arith)) (q 10 (omega arith)) (m .hidden))
-      (all-append P (each flat-group (m .groups)) (each flat-equation (m .equations)) (all-groups P (q 17 (omega arith)) (q 18 (omega arith)) (m .groups))
-      (all-equations P (λ r h. quiet-seen r (omega arith)) (m .equations))))
-    where
-      P : ℕ → Type 0
-      P r = own-role false r ≡ false
-
-      q : (r : ℕ) → 7 ≤ r → P r
-      q r h = quiet-seen r h
-
   visible-over : FewInputs m → over false (own .from) (flat-module m) ≡ own-visible m (seen-sorts m v) .items
-  unfolding flat-module own-visible own-items is-own own-role is-function-role is-parameter-role is-export-role pick
+  unfolding own-visible is-own own-role is-function-role is-parameter-role is-export-role pick
   visible-over n =
-      let k = s .entries in
-      let d = suc (own .from) in
-      let e = d + length parameters-there in
-      let size = length-append parameters-there (exports-there ++ behind-exports) in
-      let size′ = length-append exports-there behind-exports in
-      let behind = spells-behind text tape parameters-there (exports-there ++ behind-exports) d (k .2) in
-      rw (k .0)
-      (over-append false parameters-there (exports-there ++ behind-exports) d
-      ∙ ap₂ (λ (x y : List Item). x ++ y)
-      (parameters-own (m .parameters) d (omega arith) (omega (arith, s .end, size)) (n .parameters) (spells-front text tape parameters-there (exports-there ++ behind-exports) d (k .2)))
-      (over-append false exports-there behind-exports e
-      ∙ ap₂ (λ (x y : List Item). x ++ y)
-      (signature-own false meant.export-section 5 6 refl refl refl refl refl refl refl e (own .end)
-      (λ x i j. module-home x (omega arith) j)
-      (λ x i j h. stands-export text tape x 5 refl refl h)
-      (λ x i j h. stands-export text tape x 6 refl refl h)
-      (m .exports) e (omega arith) (omega (arith, s .end, size, size′)) (n .exports) (spells-front text tape exports-there behind-exports e behind))
-      (over-quiet false behind-exports (e + length exports-there) behind-exports-quiet (spells-behind text tape exports-there behind-exports e behind))
-      ∙ append-nil (own-section m (seen-sorts m v) meant.export-section (m .exports))))
+      let a = own .from in
+      let p = parts text tape a m (s .entries) in
+      walk-module (item-walks false) a m
+      ∙ rw (
+        p .head,
+        parameters-own (m .parameters) (suc a) (omega arith) (omega (arith, s .end, p .end)) (n .parameters) (p .parameters),
+        signature-own false meant.export-section 5 6 refl refl refl refl refl refl refl (at-exports a m) (own .end)
+            (λ x i j. module-home x (omega arith) j)
+            (λ x i j h. stands-export text tape x 5 refl refl h)
+            (λ x i j h. stands-export text tape x 6 refl refl h)
+            (m .exports) (at-exports a m) (omega arith) (omega (arith, s .end, p .end)) (n .exports) (p .exports),
+        over-quiet false (imports-of m) (at-imports a m) (all-imports Q (λ r h l. quiet-seen r (omega arith)) (m .imports)) (p .imports),
+        over-quiet false (hidden-of m) (at-hidden a m) (all-signature Q 7 8 (q 7 (omega arith)) (q 8 (omega arith)) (q 9 (omega arith)) (q 10 (omega arith)) (m .hidden)) (p .hidden),
+        over-quiet false (groups-of m) (at-groups a m) (all-groups Q (q 17 (omega arith)) (q 18 (omega arith)) (m .groups)) (p .groups),
+        over-quiet false (equations-of m) (at-equations a m) (all-equations Q (λ r h. quiet-seen r (omega arith)) (m .equations)) (p .equations),
+        append-nil,
+      )
+    where
+      Q : ℕ → Type 0
+      Q r = own-role false r ≡ false
+
+      q : (r : ℕ) → 7 ≤ r → Q r
+      q r h = quiet-seen r h
 
   -- the entries of parameters and exports declare what the meaning has as visible
   pub visible-items : FewInputs m → own-items text tape w own false (own .from) (own .end - own .from) ≡ own-visible m (seen-sorts m v) .items
@@ -385,73 +357,38 @@ module _ (text tape w : List ℕ) (own : Own) (m : Module) (v : Visible) (s : St
       (groups-own gs (d + length es) (omega arith) (omega (arith, size)) (spells-behind text tape es (each flat-group gs) d k))
       ∙ sym (map-append (own-variable m (seen-sorts m v)) (group-variables g) (each group-variables gs))
 
-  -- in front of the hidden section
-  abbrev before-hidden : List Entry
-  before-hidden = parameters-there ++ (exports-there ++ imports-there)
-
-  before-hidden-quiet : All (λ (r : ℕ). own-role true r ≡ false) before-hidden
-  before-hidden-quiet =
-      all-append P parameters-there (exports-there ++ imports-there) (all-parameters P (q 2 (omega arith)) (q 3 (omega arith)) (q 4 (omega arith)) p9 p10 (m .parameters))
-      (all-append P exports-there imports-there (all-signature P 5 6 (q 5 (omega arith)) (q 6 (omega arith)) p9 p10 (m .exports))
-      (all-imports P (λ r h l. quiet-other r (omega arith) (λ e. omega arith)) (m .imports)))
+  hidden-over : FewInputs m → over true (own .from) (flat-module m) ≡ own-hidden-items m (seen-sorts m v)
+  unfolding own-hidden-items variables-of is-own own-role is-function-role is-parameter-role is-export-role pick
+  hidden-over n =
+      let a = own .from in
+      let p = parts text tape a m (s .entries) in
+      walk-module (item-walks true) a m
+      ∙ rw (
+        p .head,
+        over-quiet true (parameters-of m) (suc a) (all-parameters Q (q 2 (omega arith)) (q 3 (omega arith)) (q 4 (omega arith)) q9 q10 (m .parameters)) (p .parameters),
+        over-quiet true (exports-of m) (at-exports a m) (all-signature Q 5 6 (q 5 (omega arith)) (q 6 (omega arith)) q9 q10 (m .exports)) (p .exports),
+        over-quiet true (imports-of m) (at-imports a m) (all-imports Q (λ r h l. quiet-other r (omega arith) (λ e. omega arith)) (m .imports)) (p .imports),
+        signature-own true meant.hidden-section 7 8 refl refl refl refl refl refl refl (at-hidden a m) (own .end)
+            (λ x i j. module-home x (omega arith) j)
+            (λ x i j h. stands-hidden text tape x 7 refl refl h)
+            (λ x i j h. stands-hidden text tape x 8 refl refl h)
+            (m .hidden) (at-hidden a m) (omega arith) (omega (arith, s .end, p .end)) (n .hidden) (p .hidden),
+        groups-own (m .groups) (at-groups a m) (omega arith) (omega (arith, s .end, p .end)) (p .groups),
+        over-quiet true (equations-of m) (at-equations a m) (all-equations Q (λ r h. quiet-other r (omega arith) (λ e. omega arith)) (m .equations)) (p .equations),
+        append-nil,
+      )
     where
-      P : ℕ → Type 0
-      P r = own-role true r ≡ false
+      Q : ℕ → Type 0
+      Q r = own-role true r ≡ false
 
-      q : (r : ℕ) → r < 7 → P r
+      q : (r : ℕ) → r < 7 → Q r
       q r h = quiet-hidden r h
 
-      p9 : P 9
-      p9 = quiet-other 9 (omega arith) (λ e. omega arith)
+      q9 : Q 9
+      q9 = quiet-other 9 (omega arith) (λ e. omega arith)
 
-      p10 : P 10
-      p10 = quiet-other 10 (omega arith) (λ e. omega arith)
-
-  module-parts : behind-name m ≡ before-hidden ++ (hidden-there ++ variables-there)
-  unfolding behind-name
-  module-parts = simp append-assoc
-
-  spelled-parts : Spells text tape (suc (own .from)) (before-hidden ++ (hidden-there ++ variables-there))
-  unfolding flat-module behind-name
-  spelled-parts = subst (Spells text tape (suc (own .from))) module-parts (s .entries .2)
-
-  over-parts : over true (own .from) (flat-module m) ≡ over true (suc (own .from)) (before-hidden ++ (hidden-there ++ variables-there))
-  unfolding flat-module behind-name own-items is-own own-role pick
-  over-parts = rw (s .entries .0) (ap (over true (suc (own .from))) module-parts)
-
-  parts-long : length (flat-module m) ≡ suc (length (before-hidden ++ (hidden-there ++ variables-there)))
-  unfolding flat-module behind-name
-  parts-long = ap (λ (es : List Entry). suc (length es)) module-parts
-
-  hidden-over : FewInputs m → over true (own .from) (flat-module m) ≡ own-hidden-items m (seen-sorts m v)
-  unfolding own-hidden-items variables-of own-role is-function-role is-parameter-role is-export-role pick
-  hidden-over n =
-      let groups = each flat-group (m .groups) in
-      let equations = each flat-equation (m .equations) in
-      let d = suc (own .from) in
-      let e = d + length before-hidden in
-      let f = e + length hidden-there in
-      let size₁ = length-append before-hidden (hidden-there ++ variables-there) in
-      let size₂ = length-append hidden-there variables-there in
-      let size₃ = length-append groups equations in
-      let k = spells-behind text tape before-hidden (hidden-there ++ variables-there) d spelled-parts in
-      let l = spells-behind text tape hidden-there variables-there e k in
-      over-parts
-      ∙ over-append true before-hidden (hidden-there ++ variables-there) d
-      ∙ ap₂ (λ (x y : List Item). x ++ y)
-      (over-quiet true before-hidden d before-hidden-quiet (spells-front text tape before-hidden (hidden-there ++ variables-there) d spelled-parts))
-      (over-append true hidden-there variables-there e
-      ∙ ap₂ (λ (x y : List Item). x ++ y)
-      (signature-own true meant.hidden-section 7 8 refl refl refl refl refl refl refl e (own .end)
-      (λ x i j. module-home x (omega arith) j)
-      (λ x i j h. stands-hidden text tape x 7 refl refl h)
-      (λ x i j h. stands-hidden text tape x 8 refl refl h)
-      (m .hidden) e (omega arith) (omega (arith, s .end, parts-long, size₁, size₂)) (n .hidden) (spells-front text tape hidden-there variables-there e k))
-      (over-append true groups equations f
-      ∙ ap₂ (λ (x y : List Item). x ++ y)
-      (groups-own (m .groups) f (omega arith) (omega (arith, s .end, parts-long, size₁, size₂, size₃)) (spells-front text tape groups equations f l))
-      (over-quiet true equations (f + length groups) (all-equations (λ (r : ℕ). own-role true r ≡ false) (λ r h. quiet-other r (omega arith) (λ q. omega arith)) (m .equations)) (spells-behind text tape groups equations f l))
-      ∙ append-nil (map (own-variable m (seen-sorts m v)) (variables-of m))))
+      q10 : Q 10
+      q10 = quiet-other 10 (omega arith) (λ e. omega arith)
 
   -- the entries of the hidden section and of variables declare what the meaning has as the module's hidden items
   pub hidden-items : FewInputs m → own-items text tape w own true (own .from) (own .end - own .from) ≡ own-hidden-items m (seen-sorts m v)

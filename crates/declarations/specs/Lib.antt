@@ -5,6 +5,7 @@ pub mod Checked
 pub mod Items
 pub mod RowNames
 pub mod Spelled
+pub mod Runs
 pub mod DeclarationLaws
 pub mod ItemLaws
 pub mod CheckLaws

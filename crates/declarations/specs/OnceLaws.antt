@@ -2,7 +2,7 @@
 use mathlib.Core.Path.{_≡_, refl, sym, ap, ap₂, subst, _∙_}
 use mathlib.Core.Bool.{Bool, true, false}
 use mathlib.Core.Option.{Option, some}
-use mathlib.Core.List.{List, [], _∷_, _++_, map, append-assoc}
+use mathlib.Core.List.{List, [], _∷_, map}
 use Prim.Native.Nat.{ℕ, suc, _+_, _-_, _<_, _≤_}
 use native.Mathlib.Nat.{add-zero}
 use native.Mathlib.Omega.{arith}
@@ -16,14 +16,17 @@ use Rattle.meaning.specs.Syntax.{Function, Signature, Parameter, Module}
 use Rattle.meaning.specs.Origins.{Declared, declared-sort, declared-function, same-declared}
 use Rattle.meaning.specs.Checks.{lone, Check, fine, stop, _>>_, unless}
 use Rattle.meaning.specs.Evaluate.{same-function, name-of-function, once-in, once-in-parameters, declared-once}
-use Rattle.tape.specs.Tape.{Entry, entry, flat-function, flat-signature, flat-parameter, flat-import, flat-group, flat-equation, flat-module}
+use Rattle.tape.specs.Tape.{Entry, entry, flat-function, flat-signature, flat-parameter, flat-module}
 use Rattle.tables.specs.Entries.{role-at, name-at, is-function-role, is-parameter-role, last-with, declared-at}
 use Rattle.declarations.specs.Scans.{found, walked}
 use Rattle.declarations.specs.Once.{is-declaring, repeats, section-start, is-repeat, once-at}
-use Rattle.declarations.specs.Spelled.{Spells, All, all-append, all-map, all-type, all-signature, all-parameters, all-imports, all-groups, all-equations, spells-front, spells-behind, last-over}
+use Rattle.walks.specs.Flat.{All, all-map, all-type, all-signature, all-parameters, all-imports, all-groups, all-equations}
+use Rattle.declarations.specs.Spelled.{Spells, spells-front, spells-behind, last-over}
+use Rattle.declarations.specs.Runs.{parameters-of, exports-of, imports-of, groups-of, equations-of}
+use Rattle.declarations.specs.Runs.{at-exports, at-imports, at-hidden, at-groups, at-equations, Parts, parts}
+use Rattle.declarations.specs.Runs.{quiet-run, walk-module, then-fine, then-then, check-walks, walked-append}
 use Rattle.declarations.specs.ItemLaws.{Few, FewEach, FewInputs, FunctionAt, function-at, function-long, type-entries}
-use Rattle.declarations.specs.CheckLaws.{then-fine, then-then, walked-append}
-use Rattle.declarations.specs.VariableLaws.{either-way, found-last, told-at, refused-then}
+use Rattle.declarations.specs.VariableLaws.{either-way, either-false, found-more, told-at, refused-then}
 
 any-member : (n : Name) (ns : List Name) → any (same n) ns ≡ member n ns
 unfolding any member
@@ -45,9 +48,10 @@ module _ (text tape : List ℕ) (a : ℕ) where
   walk i es = walked (once-at text tape a) i (length es)
 
   walk-quiet : (es : List Entry) (i : ℕ) → All (λ (r : ℕ). 9 ≤ r) es → Spells text tape i es → walk i es ≡ fine tt
-  unfolding walked once-at is-declaring _>>_ pick
-  walk-quiet [] i h k = refl
-  walk-quiet (e ∷ es) i h k = rw (k .0, le-ltb (e .role) 2 (let l = h .0 in omega arith), le-ltb (e .role) 9 (h .0)) (walk-quiet es (suc i) (h .1) (k .2))
+  unfolding once-at is-declaring pick
+  walk-quiet es i h k =
+      quiet-run (check-walks (once-at text tape a)) (λ (r : ℕ). 9 ≤ r) text tape
+      (λ j q. rw (le-ltb (role-at tape j) 2 (omega arith), le-ltb (role-at tape j) 9 q)) es i h k
 
   -- ---- what stands before a place in its section: things of A with the role r
 
@@ -59,25 +63,15 @@ module _ (text tape : List ℕ) (a : ℕ) where
     unfolding found any
     before-none j x f g = let z : start - start ≡ 0 = omega arith in rw z
 
-    before-more : (i j : ℕ) → start ≤ i → found (repeats text tape j) start (suc i - start) ≡ pick (found (repeats text tape j) start (i - start)) true (repeats text tape j i)
-    before-more i j h =
-        let z : suc i - start ≡ suc (i - start) = omega arith in
-        let y : start + (i - start) ≡ i = omega arith in
-        rw z (rw y at (found-last (repeats text tape j) (i - start) start))
-
     before-same : (i : ℕ) (y : A) (seen : List A) → start ≤ i → role-at tape i ≡ r → declared-at text tape i ≡ decl y → Before i seen → Before (suc i) (y ∷ seen)
     unfolding repeats any pick
     before-same i y seen h p q b j x f g =
-        before-more i j h ∙ rw (b j x f g, f, p, eq-eqb r r refl, g, q, agreed x y) (either-way (any (e x) seen) (e x y))
+        found-more (repeats text tape j) start i h ∙ rw (b j x f g, f, p, eq-eqb r r refl, g, q, agreed x y) (either-way (any (e x) seen) (e x y))
 
     before-other : (i : ℕ) (seen : List A) → start ≤ i → (role-at tape i ≡ r → ⊥) → Before i seen → Before (suc i) seen
     unfolding repeats pick
     before-other i seen h p b j x f g =
-        before-more i j h ∙ rw (b j x f g, f, ne-eqb r (role-at tape i) (λ q. p (sym q))) (go (any (e x) seen))
-      where
-        go : (c : Bool) → pick c true false ≡ c
-        go true = refl
-        go false = refl
+        found-more (repeats text tape j) start i h ∙ rw (b j x f g, f, ne-eqb r (role-at tape i) (λ q. p (sym q))) (either-false (any (e x) seen))
 
     before-run : (es : List Entry) (i : ℕ) (seen : List A) → start ≤ i → All (λ (x : ℕ). x ≡ r → ⊥) es → Spells text tape i es → Before i seen → Before (i + length es) seen
     before-run [] i seen h l k b = rw (add-zero i) b
@@ -249,95 +243,54 @@ module _ (text tape : List ℕ) (a : ℕ) where
 
   -- exports, or the hidden section: none of its roles stands before it
   section-once : (q r : ℕ) → r < 9 → (q ≡ r → ⊥) → is-declaring q ≡ true → is-declaring r ≡ true → is-function-role q ≡ false → eqb q 17 ≡ false → is-function-role r ≡ true
-      → is-parameter-role q ≡ false → is-parameter-role r ≡ false → (es : List Entry) → All (λ (x : ℕ). x ≡ q → ⊥) es → All (λ (x : ℕ). x ≡ r → ⊥) es → Spells text tape a es
-      → (g : Signature) → Few (g .functions) → Spells text tape (a + length es) (flat-signature q r g) → walk text tape a (a + length es) (flat-signature q r g) ≡ once-in g
-  section-once q r low apart dq dr sq oq fr pq pr es aq ar k g n l =
-      let i = a + length es in
+      → is-parameter-role q ≡ false → is-parameter-role r ≡ false → (i : ℕ) → a ≤ i → Before text tape a Name q declared-sort same sort-agreed a i []
+      → Before text tape a Function r as-declared same-function function-agreed a i [] → (g : Signature) → Few (g .functions)
+      → Spells text tape i (flat-signature q r g) → walk text tape a i (flat-signature q r g) ≡ once-in g
+  section-once q r low apart dq dr sq oq fr pq pr i h b c g n l =
       signature-once text tape a a q r low apart dq dr sq oq fr i (i + length (flat-signature q r g))
-      (λ x j y e. start-module tape a x q e pq) (λ x j y e. start-module tape a x r e pr) (omega arith) g i (omega arith) (omega arith) n
-      (before-run text tape a Name q declared-sort same sort-agreed a es a [] (omega arith) aq k (before-none text tape a Name q declared-sort same sort-agreed a))
-      (before-run text tape a Function r as-declared same-function function-agreed a es a [] (omega arith) ar k (before-none text tape a Function r as-declared same-function function-agreed a))
-      l
+      (λ x j y e. start-module tape a x q e pq) (λ x j y e. start-module tape a x r e pr) h g i (omega arith) (omega arith) n b c l
 
-  module _ (m : Module) where
-    -- up to the exports, and up to the hidden section
-    abbrev to-exports : List Entry
-    to-exports = entry 1 (m .name) ∷ each flat-parameter (m .parameters)
+  module _ (m : Module) (p : Parts text tape a m) where
+    module _ (A : Type 0) (r : ℕ) (decl : A → Declared) (e : A → A → Bool) (agreed : (x y : A) → same-declared (decl x) (decl y) ≡ e x y) (low : r < 9) where
+      abbrev Other : ℕ → Type 0
+      Other x = x ≡ r → ⊥
 
-    abbrev exports-on : List Entry
-    exports-on = flat-signature 5 6 (m .exports) ++ each flat-import (m .imports)
+      abbrev None : ℕ → Type 0
+      None i = Before text tape a A r decl e agreed a i []
 
-    abbrev hidden-on : List Entry
-    hidden-on = flat-signature 7 8 (m .hidden) ++ (each flat-group (m .groups) ++ each flat-equation (m .equations))
+      before-parameters : 1 < r → None (suc a)
+      before-parameters h =
+          before-other text tape a A r decl e agreed a a [] (omega arith) (λ q. let z = sym (p .head) ∙ q in omega arith) (before-none text tape a A r decl e agreed a)
 
-    parts : flat-module m ≡ (to-exports ++ exports-on) ++ hidden-on
-    unfolding flat-module
-    parts = simp append-assoc
+      before-exports : 4 < r → None (at-exports a m)
+      before-exports h =
+          before-run text tape a A r decl e agreed a (parameters-of m) (suc a) [] (omega arith)
+          (all-parameters Other (λ x. omega arith) (λ x. omega arith) (λ x. omega arith) (λ x. omega arith) (λ x. omega arith) (m .parameters)) (p .parameters)
+          (before-parameters (omega arith))
 
-    others-first : (r : ℕ) → 4 < r → r < 9 → All (λ (x : ℕ). x ≡ r → ⊥) to-exports
-    others-first r h l =
-        ((λ x. omega arith), all-parameters (λ (x : ℕ). x ≡ r → ⊥) (λ x. omega arith) (λ x. omega arith) (λ x. omega arith) (λ x. omega arith) (λ x. omega arith) (m .parameters))
+      before-hidden : 6 < r → None (at-hidden a m)
+      before-hidden h =
+          before-run text tape a A r decl e agreed a (imports-of m) (at-imports a m) [] (omega arith) (all-imports Other (λ y j k x. omega arith) (m .imports)) (p .imports)
+          (before-run text tape a A r decl e agreed a (exports-of m) (at-exports a m) [] (omega arith)
+          (all-signature Other 5 6 (λ x. omega arith) (λ x. omega arith) (λ x. omega arith) (λ x. omega arith) (m .exports)) (p .exports) (before-exports (omega arith)))
 
-    others-second : (r : ℕ) → 6 < r → r < 9 → All (λ (x : ℕ). x ≡ r → ⊥) (to-exports ++ exports-on)
-    others-second r h l =
-        all-append P to-exports exports-on (others-first r (omega arith) l)
-        (all-append P (flat-signature 5 6 (m .exports)) (each flat-import (m .imports))
-        (all-signature P 5 6 (λ x. omega arith) (λ x. omega arith) (λ x. omega arith) (λ x. omega arith) (m .exports))
-        (all-imports P (λ y j k x. omega arith) (m .imports)))
-      where
-        P : ℕ → Type 0
-        P x = x ≡ r → ⊥
-
-    first-once : FewEach (m .parameters) → Spells text tape a to-exports → walk text tape a a to-exports ≡ once-in-parameters [] (m .parameters)
-    unfolding walked once-at is-declaring _>>_ pick
-    first-once n k =
-        rw (k .0)
-        (parameters-once (m .parameters) (suc a) [] (omega arith) n
-        (before-other text tape a Name 2 declared-sort same sort-agreed a a [] (omega arith) (λ e. let z = sym (k .0) ∙ e in omega arith) (before-none text tape a Name 2 declared-sort same sort-agreed a))
-        (k .2))
-
-    second-once : Few (m .exports .functions) → Spells text tape a (to-exports ++ exports-on) → walk text tape a (a + length to-exports) exports-on ≡ once-in (m .exports)
-    unfolding is-declaring is-function-role is-parameter-role pick
-    second-once n k =
-        let es = flat-signature 5 6 (m .exports) in
-        let fs = each flat-import (m .imports) in
-        let i = a + length to-exports in
-        let l = spells-behind text tape to-exports exports-on a k in
-        walked-append (once-at text tape a) es fs i
-        ∙ ap₂ (λ (x y : Check). x >> y)
-        (section-once 5 6 (omega arith) (λ x. omega arith) refl refl refl refl refl refl refl to-exports (others-first 5 (omega arith) (omega arith)) (others-first 6 (omega arith) (omega arith))
-        (spells-front text tape to-exports exports-on a k) (m .exports) n (spells-front text tape es fs i l))
-        (walk-quiet text tape a fs (i + length es) (all-imports (λ (x : ℕ). 9 ≤ x) (λ x y z. omega arith) (m .imports)) (spells-behind text tape es fs i l))
-        ∙ then-fine (once-in (m .exports))
-
-    third-once : Few (m .hidden .functions) → Spells text tape a ((to-exports ++ exports-on) ++ hidden-on)
-        → walk text tape a (a + length (to-exports ++ exports-on)) hidden-on ≡ once-in (m .hidden)
-    unfolding is-declaring is-function-role is-parameter-role pick
-    third-once n k =
-        let es = flat-signature 7 8 (m .hidden) in
-        let gs = each flat-group (m .groups) in
-        let hs = each flat-equation (m .equations) in
-        let i = a + length (to-exports ++ exports-on) in
-        let l = spells-behind text tape (to-exports ++ exports-on) hidden-on a k in
-        walked-append (once-at text tape a) es (gs ++ hs) i
-        ∙ ap₂ (λ (x y : Check). x >> y)
-        (section-once 7 8 (omega arith) (λ x. omega arith) refl refl refl refl refl refl refl (to-exports ++ exports-on) (others-second 7 (omega arith) (omega arith)) (others-second 8 (omega arith) (omega arith))
-        (spells-front text tape (to-exports ++ exports-on) hidden-on a k) (m .hidden) n (spells-front text tape es (gs ++ hs) i l))
-        (walk-quiet text tape a (gs ++ hs) (i + length es)
-        (all-append (λ (x : ℕ). 9 ≤ x) gs hs (all-groups (λ (x : ℕ). 9 ≤ x) (omega arith) (omega arith) (m .groups)) (all-equations (λ (x : ℕ). 9 ≤ x) (λ x y. omega arith) (m .equations)))
-        (spells-behind text tape es (gs ++ hs) i l))
-        ∙ then-fine (once-in (m .hidden))
-
-    -- 9 by places is the meaning's
-    pub once-by-places : FewInputs m → Spells text tape a (flat-module m) → walked (once-at text tape a) a (length (flat-module m)) ≡ declared-once m
-    unfolding declared-once
-    once-by-places n k =
-        let j : Spells text tape a ((to-exports ++ exports-on) ++ hidden-on) = subst (Spells text tape a) parts k in
-        let front = spells-front text tape (to-exports ++ exports-on) hidden-on a j in
-        ap (walk text tape a a) parts
-        ∙ walked-append (once-at text tape a) (to-exports ++ exports-on) hidden-on a
-        ∙ ap₂ (λ (x y : Check). x >> y)
-        (walked-append (once-at text tape a) to-exports exports-on a
-        ∙ ap₂ (λ (x y : Check). x >> y) (first-once (n .parameters) (spells-front text tape to-exports exports-on a front)) (second-once (n .exports) front))
-        (third-once (n .hidden) j)
-        ∙ then-then (once-in-parameters [] (m .parameters)) (once-in (m .exports)) (once-in (m .hidden))
+  -- 9 by places is the meaning's
+  pub once-by-places : (m : Module) → FewInputs m → Spells text tape a (flat-module m) → walked (once-at text tape a) a (length (flat-module m)) ≡ declared-once m
+  unfolding declared-once once-at is-declaring is-function-role is-parameter-role _>>_ pick
+  once-by-places m n k =
+      let p = parts text tape a m k in
+      walk-module (check-walks (once-at text tape a)) a m
+      ∙ rw (
+        p .head,
+        parameters-once (m .parameters) (suc a) [] (omega arith) (n .parameters) (before-parameters m p Name 2 declared-sort same sort-agreed (omega arith) (omega arith)) (p .parameters),
+        section-once 5 6 (omega arith) (λ x. omega arith) refl refl refl refl refl refl refl (at-exports a m) (omega arith)
+            (before-exports m p Name 5 declared-sort same sort-agreed (omega arith) (omega arith))
+            (before-exports m p Function 6 as-declared same-function function-agreed (omega arith) (omega arith)) (m .exports) (n .exports) (p .exports),
+        walk-quiet text tape a (imports-of m) (at-imports a m) (all-imports (λ (x : ℕ). 9 ≤ x) (λ x y z. omega arith) (m .imports)) (p .imports),
+        section-once 7 8 (omega arith) (λ x. omega arith) refl refl refl refl refl refl refl (at-hidden a m) (omega arith)
+            (before-hidden m p Name 7 declared-sort same sort-agreed (omega arith) (omega arith))
+            (before-hidden m p Function 8 as-declared same-function function-agreed (omega arith) (omega arith)) (m .hidden) (n .hidden) (p .hidden),
+        walk-quiet text tape a (groups-of m) (at-groups a m) (all-groups (λ (x : ℕ). 9 ≤ x) (omega arith) (omega arith) (m .groups)) (p .groups),
+        walk-quiet text tape a (equations-of m) (at-equations a m) (all-equations (λ (x : ℕ). 9 ≤ x) (λ x y. omega arith) (m .equations)) (p .equations),
+        then-fine,
+      )

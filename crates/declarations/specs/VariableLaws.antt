@@ -1,8 +1,8 @@
 -- 12 by places and rows is the meaning's (meaning/specs/Own.antt): each variable is held against those before it and against the constants.
-use mathlib.Core.Path.{_≡_, refl, sym, ap, subst, _∙_}
+use mathlib.Core.Path.{_≡_, refl, sym, ap, _∙_}
 use mathlib.Core.Bool.{Bool, true, false, _||_}
 use mathlib.Core.Option.{Option, some}
-use mathlib.Core.List.{List, [], _∷_, _++_, map, map-append, append-nil, append-assoc}
+use mathlib.Core.List.{List, [], _∷_, _++_, map, map-append}
 use Prim.Native.Nat.{ℕ, zero, suc, _+_, _-_, _≤_}
 use native.Mathlib.Nat.{add-zero}
 use native.Mathlib.Omega.{arith}
@@ -16,28 +16,23 @@ use Rattle.meaning.specs.Origins.{Item}
 use Rattle.meaning.specs.Normal.{Visible, names-in}
 use Rattle.meaning.specs.Checks.{lone, Check, fine, stop, _>>_, unless}
 use Rattle.meaning.specs.Own.{wrong-variable, is-constant, constants}
-use Rattle.tape.specs.Tape.{Entry, entry, flat-parameter, flat-signature, flat-import, flat-group, flat-equation, flat-module}
+use Rattle.tape.specs.Tape.{Entry, entry, flat-group, flat-module}
 use Rattle.tables.specs.Entries.{role-at, name-at}
 use Rattle.forms.specs.Forms.{items-at}
 use Rattle.declarations.specs.Scans.{found, walked}
 use Rattle.declarations.specs.Sorts.{is-named}
 use Rattle.declarations.specs.Checked.{wrong-at, variable-at}
 use Rattle.declarations.specs.RowNames.{constants-found}
-use Rattle.declarations.specs.Spelled.{Spells, All, all-append, all-parameters, all-signature, all-imports, all-equations, spells-front, spells-behind, first-found}
+use Rattle.walks.specs.Lists.{keep-append}
+use Rattle.walks.specs.Flat.{All, all-parameters, all-signature, all-imports, all-equations}
+use Rattle.declarations.specs.Spelled.{Spells, first-found}
+use Rattle.declarations.specs.Runs.{parameters-of, exports-of, imports-of, hidden-of, equations-of}
+use Rattle.declarations.specs.Runs.{at-exports, at-imports, at-hidden, at-groups, at-equations, parts, quiet-run, walk-module, then-fine, check-walks}
 use Rattle.declarations.specs.DeclarationLaws.{Stands, member-append}
 use Rattle.declarations.specs.ItemLaws.{group-entries}
 use Rattle.declarations.specs.declared.Own.{Own}
 
 -- ---- lists and choices
-
-keep-append : {A : Type 0} (p : A → Bool) (xs ys : List A) → keep p (xs ++ ys) ≡ keep p xs ++ keep p ys
-unfolding keep pick
-keep-append p [] ys = refl
-keep-append p (x ∷ xs) ys = rw (keep-append p xs ys) (go (p x))
-  where
-    go : (b : Bool) → pick b (x ∷ (keep p xs ++ keep p ys)) (keep p xs ++ keep p ys) ≡ pick b (x ∷ keep p xs) (keep p xs) ++ keep p ys
-    go true = refl
-    go false = refl
 
 constants-append : (xs ys : List Item) → constants (xs ++ ys) ≡ constants xs ++ constants ys
 unfolding constants names-in
@@ -66,19 +61,26 @@ unfolding told-at unless pick _>>_
 refused-then k n true o = refl
 refused-then k n false o = refl
 
-pub found-last : (p : ℕ → Bool) (c i : ℕ) → found p i (suc c) ≡ pick (found p i c) true (p (i + c))
+pub either-false : (b : Bool) → pick b true false ≡ b
+unfolding pick
+either-false true = refl
+either-false false = refl
+
+found-last : (p : ℕ → Bool) (c i : ℕ) → found p i (suc c) ≡ pick (found p i c) true (p (i + c))
 unfolding found pick
-found-last p zero i = rw (add-zero i) (go (p i))
-  where
-    go : (b : Bool) → pick b true false ≡ b
-    go true = refl
-    go false = refl
+found-last p zero i = rw (add-zero i) (either-false (p i))
 found-last p (suc c) i = let z : i + suc c ≡ suc i + c = omega arith in rw z (go (p i) (found-last p c (suc i)))
   where
     go : (b : Bool) → found p (suc i) (suc c) ≡ pick (found p (suc i) c) true (p (suc i + c))
         → pick b true (found p (suc i) (suc c)) ≡ pick (pick b true (found p (suc i) c)) true (p (suc i + c))
     go true h = refl
     go false h = h
+
+pub found-more : (p : ℕ → Bool) (start i : ℕ) → start ≤ i → found p start (suc i - start) ≡ pick (found p start (i - start)) true (p i)
+found-more p start i h =
+    let z : suc i - start ≡ suc (i - start) = omega arith in
+    let y : start + (i - start) ≡ i = omega arith in
+    rw z (rw y at (found-last p (i - start) start))
 
 -- ---- the variables before a place
 
@@ -87,24 +89,14 @@ module _ (text tape : List ℕ) (own : Own) where
   abbrev Before : ℕ → List Name → Type 0
   Before i seen = (n : Name) → found (is-named text tape 17 n) (own .from) (i - own .from) ≡ member n seen
 
-  before-more : (i : ℕ) (n : Name) → own .from ≤ i
-      → found (is-named text tape 17 n) (own .from) (suc i - own .from) ≡ pick (found (is-named text tape 17 n) (own .from) (i - own .from)) true (is-named text tape 17 n i)
-  before-more i n h =
-      let z : suc i - own .from ≡ suc (i - own .from) = omega arith in
-      let y : own .from + (i - own .from) ≡ i = omega arith in
-      rw z (rw y at (found-last (is-named text tape 17 n) (i - own .from) (own .from)))
-
   before-variable : (i : ℕ) (x : Name) (seen : List Name) → own .from ≤ i → role-at tape i ≡ 17 → name-at text tape i ≡ x → Before i seen → Before (suc i) (x ∷ seen)
   unfolding is-named member pick
-  before-variable i x seen h e f k n = before-more i n h ∙ rw (k n, e, f) (either-way (member n seen) (same n x))
+  before-variable i x seen h e f k n = found-more (is-named text tape 17 n) (own .from) i h ∙ rw (k n, e, f) (either-way (member n seen) (same n x))
 
   before-other : (i : ℕ) (seen : List Name) → own .from ≤ i → (role-at tape i ≡ 17 → ⊥) → Before i seen → Before (suc i) seen
   unfolding is-named pick
-  before-other i seen h q k n = before-more i n h ∙ rw (k n, ne-eqb (role-at tape i) 17 q) (go (member n seen))
-    where
-      go : (b : Bool) → pick b true false ≡ b
-      go true = refl
-      go false = refl
+  before-other i seen h q k n =
+      found-more (is-named text tape 17 n) (own .from) i h ∙ rw (k n, ne-eqb (role-at tape i) 17 q) (either-false (member n seen))
 
   before-none : Before (own .from) []
   unfolding found member
@@ -129,10 +121,9 @@ module _ (text tape w : List ℕ) (own : Own) (m : Module) (v : Visible) (s : St
   wrong-told : (i : ℕ) (n : Name) (seen : List Name) → own .from ≤ i → name-at text tape i ≡ n → Before text tape own i seen → wrong-at text tape w own b c i ≡ (member n seen || member n in-reach)
   unfolding wrong-at
   wrong-told i n seen h e k =
-      let z : own .from + (i - own .from) ≡ i = omega arith in
       rw (
         e,
-        first-found text tape (is-named text tape 17 n) (i - own .from) (own .from) i z,
+        first-found text tape (is-named text tape 17 n) (i - own .from) (own .from) i refl,
         k n,
         constants-found text tape w (own .rows) (own .count) n,
         s .rows,
@@ -147,11 +138,10 @@ module _ (text tape w : List ℕ) (own : Own) (m : Module) (v : Visible) (s : St
   unfolding walked variable-at _>>_ pick
   walk-other e es i q k = rw (k .0, ne-eqb (e .role) 17 q)
 
-  walk-run : (es fs : List Entry) (i : ℕ) → All (λ (r : ℕ). r ≡ 17 → ⊥) es → Spells text tape i (es ++ fs) → walk i (es ++ fs) ≡ walk (i + length es) fs
-  walk-run [] fs i l k = rw (add-zero i)
-  walk-run (e ∷ es) fs i l k =
-      let z : i + suc (length es) ≡ suc i + length es = omega arith in
-      rw z (walk-other e (es ++ fs) i (l .0) k ∙ walk-run es fs (suc i) (l .1) (k .2))
+  walk-quiet : (es : List Entry) (i : ℕ) → All (λ (r : ℕ). r ≡ 17 → ⊥) es → Spells text tape i es → walk i es ≡ fine tt
+  unfolding variable-at pick
+  walk-quiet es i h k =
+      quiet-run (check-walks (variable-at text tape w own b c)) (λ (r : ℕ). r ≡ 17 → ⊥) text tape (λ j q. rw (ne-eqb (role-at tape j) 17 q)) es i h k
 
   walk-variable : (n : Name) (es : List Entry) (i : ℕ) (seen : List Name) → own .from ≤ i → Before text tape own i seen → Spells text tape i (entry 17 n ∷ es)
       → walk i (entry 17 n ∷ es) ≡ (told-at (member n seen || member n in-reach) bad-variable n >> walk (suc i) es)
@@ -173,51 +163,42 @@ module _ (text tape w : List ℕ) (own : Own) (m : Module) (v : Visible) (s : St
       (group-right ns a es vs (suc i) (n ∷ seen) (omega arith) (before-variable text tape own i n seen h (k .0) (k .1) l) (k .2) rest)
       ∙ refused-then bad-variable n (member n seen || member n in-reach) (wrong-variable in-reach (n ∷ seen) (map (λ (x : Name). record { name = x; sort = a }) ns ++ vs))
 
-  groups-right : (gs : List VariableGroup) (es : List Entry) → All (λ (r : ℕ). r ≡ 17 → ⊥) es → (i : ℕ) (seen : List Name) → own .from ≤ i → Before text tape own i seen
-      → Spells text tape i (each flat-group gs ++ es) → walk i (each flat-group gs ++ es) ≡ unless bad-variable (wrong-variable in-reach seen (each group-variables gs))
+  groups-right : (gs : List VariableGroup) (i : ℕ) (seen : List Name) → own .from ≤ i → Before text tape own i seen → Spells text tape i (each flat-group gs)
+      → walk i (each flat-group gs) ≡ unless bad-variable (wrong-variable in-reach seen (each group-variables gs))
   unfolding each flat-group group-variables wrong-variable unless walked
-  groups-right [] es q i seen h l k = ap (walk i) (sym (append-nil es)) ∙ walk-run es [] i q (rw (append-nil es) k)
-  groups-right (g ∷ gs) es q i seen h l k =
-      let e = append-assoc (group-entries (g .names) (g .sort)) (each flat-group gs) es in
-      ap (walk i) e
-      ∙ group-right (g .names) (g .sort) (each flat-group gs ++ es) (each group-variables gs) i seen h l (subst (Spells text tape i) e k) (λ j seen′ x y z. groups-right gs es q j seen′ x y z)
+  groups-right [] i seen h l k = refl
+  groups-right (g ∷ gs) i seen h l k =
+      group-right (g .names) (g .sort) (each flat-group gs) (each group-variables gs) i seen h l k (λ j seen′ x y z. groups-right gs j seen′ x y z)
 
   -- ---- the module
 
-  abbrev front : List Entry
-  front =
-      entry 1 (m .name)
-      ∷ (each flat-parameter (m .parameters) ++ (flat-signature 5 6 (m .exports) ++ (each flat-import (m .imports) ++ flat-signature 7 8 (m .hidden))))
-
-  front-other : All (λ (r : ℕ). r ≡ 17 → ⊥) front
-  front-other = (
-    (λ q. omega arith),
-    all-append P (each flat-parameter (m .parameters)) (flat-signature 5 6 (m .exports) ++ (each flat-import (m .imports) ++ flat-signature 7 8 (m .hidden)))
-        (all-parameters P (λ q. omega arith) (λ q. omega arith) (λ q. omega arith) (λ q. omega arith) (λ q. omega arith) (m .parameters))
-        (all-append P (flat-signature 5 6 (m .exports)) (each flat-import (m .imports) ++ flat-signature 7 8 (m .hidden))
-        (all-signature P 5 6 (λ q. omega arith) (λ q. omega arith) (λ q. omega arith) (λ q. omega arith) (m .exports))
-        (all-append P (each flat-import (m .imports)) (flat-signature 7 8 (m .hidden)) (all-imports P (λ r h l q. omega arith) (m .imports))
-        (all-signature P 7 8 (λ q. omega arith) (λ q. omega arith) (λ q. omega arith) (λ q. omega arith) (m .hidden)))),
-  )
+  module-right : walk (own .from) (flat-module m) ≡ unless bad-variable (wrong-variable in-reach [] (variables-of m))
+  unfolding variables-of variable-at _>>_ pick
+  module-right =
+      let a = own .from in
+      let p = parts text tape a m (s .entries) in
+      let parameters = all-parameters P (λ q. omega arith) (λ q. omega arith) (λ q. omega arith) (λ q. omega arith) (λ q. omega arith) (m .parameters) in
+      let exports = all-signature P 5 6 (λ q. omega arith) (λ q. omega arith) (λ q. omega arith) (λ q. omega arith) (m .exports) in
+      let imports = all-imports P (λ r h l q. omega arith) (m .imports) in
+      let hidden = all-signature P 7 8 (λ q. omega arith) (λ q. omega arith) (λ q. omega arith) (λ q. omega arith) (m .hidden) in
+      let past = before-run text tape own in
+      let head = before-other text tape own a [] (omega arith) (λ q. let z = sym (p .head) ∙ q in omega arith) (before-none text tape own) in
+      let before-imports = past (exports-of m) (at-exports a m) [] (omega arith) exports (p .exports) (past (parameters-of m) (suc a) [] (omega arith) parameters (p .parameters) head) in
+      let before-groups = past (hidden-of m) (at-hidden a m) [] (omega arith) hidden (p .hidden) (past (imports-of m) (at-imports a m) [] (omega arith) imports (p .imports) before-imports) in
+      walk-module (check-walks (variable-at text tape w own b c)) a m
+      ∙ rw (
+        p .head,
+        walk-quiet (parameters-of m) (suc a) parameters (p .parameters),
+        walk-quiet (exports-of m) (at-exports a m) exports (p .exports),
+        walk-quiet (imports-of m) (at-imports a m) imports (p .imports),
+        walk-quiet (hidden-of m) (at-hidden a m) hidden (p .hidden),
+        groups-right (m .groups) (at-groups a m) [] (omega arith) before-groups (p .groups),
+        walk-quiet (equations-of m) (at-equations a m) (all-equations P (λ r h q. omega arith) (m .equations)) (p .equations),
+        then-fine,
+      )
     where
       P : ℕ → Type 0
       P r = r ≡ 17 → ⊥
-
-  module-parts : flat-module m ≡ front ++ (each flat-group (m .groups) ++ each flat-equation (m .equations))
-  unfolding flat-module
-  module-parts = simp append-assoc
-
-  module-right : walk (own .from) (flat-module m) ≡ unless bad-variable (wrong-variable in-reach [] (variables-of m))
-  unfolding variables-of
-  module-right =
-      let rest = each flat-group (m .groups) ++ each flat-equation (m .equations) in
-      let k : Spells text tape (own .from) (front ++ rest) = subst (Spells text tape (own .from)) module-parts (s .entries) in
-      let i = own .from + length front in
-      let seen = before-run text tape own front (own .from) [] (omega arith) front-other (spells-front text tape front rest (own .from) k) (before-none text tape own) in
-      ap (walk (own .from)) module-parts
-      ∙ walk-run front rest (own .from) front-other k
-      ∙ groups-right (m .groups) (each flat-equation (m .equations)) (all-equations (λ (r : ℕ). r ≡ 17 → ⊥) (λ r h q. omega arith) (m .equations)) i [] (omega arith) seen
-      (spells-behind text tape front rest (own .from) k)
 
   -- 12 by places and rows is the meaning's
   pub variables-told : walked (variable-at text tape w own b c) (own .from) (own .end - own .from) ≡ unless bad-variable (wrong-variable (constants (v .items ++ hs)) [] (variables-of m))

@@ -1,6 +1,5 @@
 -- The normal forms that are kept, and the modules evaluated so far that they stand for.
 use mathlib.Core.Path.{_≡_, sym, subst}
-use mathlib.Core.Logic.{inl, inr}
 use Prim.Native.Nat.{ℕ, _+_, _*_, _≤_}
 use mathlib.Core.List.{List}
 use native.Mathlib.Omega.{arith}
@@ -13,7 +12,7 @@ use Rattle.forms.specs.declared.Block.{Block}
 use Rattle.forms.specs.Memory.{part, Kept}
 use Rattle.forms.specs.Forms.{Stands}
 use Rattle.forms.specs.Blocks.{BlockLaid, Outside, Fits, MadeThere}
-use Rattle.forms.specs.Frames.{stands-kept}
+use Rattle.frames.specs.Changes.{outside, still-stands}
 use Rattle.layout.specs.Layout.{kept-start, table-start}
 use Rattle.keeping.specs.Keeping.{form-at, form-same}
 
@@ -31,53 +30,15 @@ pub record Between (low high : ℕ) (f : Form) : Type 0 where
   pub nodes-end : f .nodes + f .«node_count» ≤ high
 
 pub above-outside : (low high a e : ℕ) (f : Form) → high ≤ a → Between a e f → Outside low high f
-above-outside low high a e f h b = record {
-  parameters = inr (omega (arith, b .parameters));
-  visible = inr (omega (arith, b .visible));
-  hidden = inr (omega (arith, b .hidden));
-  equations = inr (omega (arith, b .equations));
-  nodes = inr (omega (arith, b .nodes));
-}
+above-outside low high a e f h b = outside (omega arith)
 
 pub below-outside : (low high a e : ℕ) (f : Form) → e ≤ low → Between a e f → Outside low high f
-below-outside low high a e f h b = record {
-  parameters = inl (omega (arith, b .parameters-end));
-  visible = inl (omega (arith, b .visible-end));
-  hidden = inl (omega (arith, b .hidden-end));
-  equations = inl (omega (arith, b .equations-end));
-  nodes = inl (omega (arith, b .nodes-end));
-}
+below-outside low high a e f h b = outside (omega arith)
 
 -- a form that was made in a block lies between its ends
 pub made-between : (size t : ℕ) (b : Block) (names rows hidden-rows sources : ℕ) (f : Form) → BlockLaid size t b names rows hidden-rows sources
     → 8 ≤ names → 512 ≤ rows → 512 ≤ hidden-rows → 256 ≤ b .«equation_room» → MadeThere b f → Between (b .low) (b .high) f
-made-between size t b names rows hidden-rows sources f l n r h e m =
-    let i = m .lies in
-    let x = m .fits in
-    record {
-      parameters = omega (arith, l .first, i .parameters);
-      visible = omega (arith, l .first, l .parameters, i .visible);
-      hidden = omega (arith, l .first, l .parameters, l .visible, i .hidden);
-      equations = omega (arith, l .first, l .parameters, l .visible, l .hidden, i .equations);
-      nodes = omega (arith, l .first, l .parameters, l .visible, l .hidden, l .equations, i .nodes);
-      parameters-end = omega (
-        arith,
-        l .parameters,
-        l .visible,
-        l .hidden,
-        l .equations,
-        l .nodes,
-        l .visible-notes,
-        l .hidden-notes,
-        l .order,
-        i .parameters,
-        x .parameters,
-      );
-      visible-end = omega (arith, l .visible, l .hidden, l .equations, l .nodes, l .visible-notes, l .hidden-notes, l .order, i .visible, x .items);
-      hidden-end = omega (arith, l .hidden, l .equations, l .nodes, l .visible-notes, l .hidden-notes, l .order, i .hidden, x .items);
-      equations-end = omega (arith, l .equations, l .nodes, l .visible-notes, l .hidden-notes, l .order, i .equations, x .equations);
-      nodes-end = omega (arith, l .nodes, l .visible-notes, l .hidden-notes, l .order, i .nodes, m .nodes);
-    }
+made-between size t b names rows hidden-rows sources f l n r h e m = omega arith
 
 -- ---- the table
 
@@ -85,10 +46,14 @@ made-between size t b names rows hidden-rows sources f l n r h e m =
 abbrev pub kept-form : List ℕ → ℕ → Form
 kept-form w k = form-at w (table-start + k * 16)
 
--- each kept form fits, and lies where kept forms lie
-pub record TableRight (w : List ℕ) : Type 0 where
-  pub between : (k : ℕ) → k ≤ module-limit → Between kept-start table-start (kept-form w k)
+-- each kept form fits, and ends below the cursor
+pub record TableBelow (w : List ℕ) (cursor : ℕ) : Type 0 where
+  pub between : (k : ℕ) → k ≤ module-limit → Between kept-start cursor (kept-form w k)
   pub fits : (k : ℕ) → k ≤ module-limit → Fits (kept-form w k)
+
+-- and lies where kept forms lie
+abbrev pub TableRight : List ℕ → Type 0
+TableRight w = TableBelow w table-start
 
 -- the number of a name among those that are declared
 abbrev pub number-of : List Name → Name → ℕ
@@ -103,9 +68,9 @@ pub record EnvStands (text tape w : List ℕ) (ds : List Name) (env : List Evalu
 form-stays : (low high : ℕ) (w w′ : List ℕ) (k : ℕ) → high ≤ table-start → Kept low high w w′ → kept-form w′ k ≡ kept-form w k
 form-stays low high w w′ k h c = form-same w w′ (table-start + k * 16) (λ i p q. c .above i (omega arith))
 
-pub table-stays : (low high : ℕ) (w w′ : List ℕ) → high ≤ table-start → Kept low high w w′ → TableRight w → TableRight w′
-table-stays low high w w′ h c r = record {
-  between = λ k l. subst (Between kept-start table-start) (sym (form-stays low high w w′ k h c)) (r .between k l);
+pub table-stays : (low high cursor : ℕ) (w w′ : List ℕ) → high ≤ table-start → Kept low high w w′ → TableBelow w cursor → TableBelow w′ cursor
+table-stays low high cursor w w′ h c r = record {
+  between = λ k l. subst (Between kept-start cursor) (sym (form-stays low high w w′ k h c)) (r .between k l);
   fits = λ k l. subst Fits (sym (form-stays low high w w′ k h c)) (r .fits k l);
 }
 
@@ -116,6 +81,5 @@ env-stays text t low high w w′ ds env a h l c few r s = record {
   stands = λ x.
       let k = number-of ds x in
       subst (λ (f : Form). Stands text (part w′ 0 t) w′ f (normal-of env x)) (sym (form-stays low high w w′ k (omega arith) c))
-      (stands-kept text t w w′ low high (kept-form w k) (normal-of env x) a c
-      (above-outside low high kept-start table-start (kept-form w k) h (r .between k (few x))) (s .stands x));
+      (still-stands a c (above-outside low high kept-start table-start (kept-form w k) h (r .between k (few x))) (s .stands x));
 }

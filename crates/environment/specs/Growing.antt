@@ -21,48 +21,19 @@ use Rattle.forms.specs.Frames.{Stays, stands-stays}
 use Rattle.modules.specs.ReachedLaws.{found-name}
 use Rattle.layout.specs.Layout.{kept-start, table-start}
 use Rattle.keeping.specs.Keeping.{form-same}
-use Rattle.environment.specs.Environment.{Between, kept-form, TableRight, number-of, EnvStands}
+use Rattle.environment.specs.Environment.{Between, kept-form, TableBelow, TableRight, number-of, EnvStands}
 
 -- where the table ends: a row for each module, and one for a name that no module has
 abbrev pub table-end : ℕ
 table-end = table-start + (module-limit + 1) * 16
 
--- each kept form fits, and ends below the cursor
-pub record TableBelow (w : List ℕ) (cursor : ℕ) : Type 0 where
-  pub between : (k : ℕ) → k ≤ module-limit → Between kept-start cursor (kept-form w k)
-  pub fits : (k : ℕ) → k ≤ module-limit → Fits (kept-form w k)
-
-pub between-wider : (low high high′ : ℕ) (f : Form) → high ≤ high′ → Between low high f → Between low high′ f
-between-wider low high high′ f h b = record {
-  parameters = b .parameters;
-  visible = b .visible;
-  hidden = b .hidden;
-  equations = b .equations;
-  nodes = b .nodes;
-  parameters-end = omega (arith, b .parameters-end);
-  visible-end = omega (arith, b .visible-end);
-  hidden-end = omega (arith, b .hidden-end);
-  equations-end = omega (arith, b .equations-end);
-  nodes-end = omega (arith, b .nodes-end);
-}
-
-between-later : (low low′ high : ℕ) (f : Form) → low ≤ low′ → Between low′ high f → Between low high f
-between-later low low′ high f h b = record {
-  parameters = omega (arith, b .parameters);
-  visible = omega (arith, b .visible);
-  hidden = omega (arith, b .hidden);
-  equations = omega (arith, b .equations);
-  nodes = omega (arith, b .nodes);
-  parameters-end = b .parameters-end;
-  visible-end = b .visible-end;
-  hidden-end = b .hidden-end;
-  equations-end = b .equations-end;
-  nodes-end = b .nodes-end;
-}
+-- what lies between two places lies between places around them
+between-around : (low high low′ high′ : ℕ) (f : Form) → low′ ≤ low → high ≤ high′ → Between low high f → Between low′ high′ f
+between-around low high low′ high′ f h l b = omega arith
 
 pub below-right : (w : List ℕ) (cursor : ℕ) → cursor ≤ table-start → TableBelow w cursor → TableRight w
 below-right w cursor h b = record {
-  between = λ k l. between-wider kept-start cursor table-start (kept-form w k) h (b .between k l);
+  between = λ k l. between-around kept-start cursor _ table-start (kept-form w k) (omega arith) h (b .between k l);
   fits = b .fits;
 }
 
@@ -100,8 +71,9 @@ module _ (from to k : ℕ) (w w′ : List ℕ) (start : kept-start ≤ from) (or
   table-more row below = record {
     between = λ j l. ⊎-elim
         (λ (e : j ≡ k). subst (λ (m : ℕ). Between kept-start to (kept-form w′ m)) (sym e)
-        (between-later kept-start from to (kept-form w′ k) start (row .between)))
-        (λ (h : j ≡ k → ⊥). subst (Between kept-start to) (sym (other-row j l h)) (between-wider kept-start from to (kept-form w j) order (below .between j l)))
+        (between-around from to kept-start to (kept-form w′ k) start (omega arith) (row .between)))
+        (λ (h : j ≡ k → ⊥). subst (Between kept-start to) (sym (other-row j l h))
+        (between-around kept-start from _ to (kept-form w j) (omega arith) order (below .between j l)))
         (same-number j k);
     fits = λ j l. ⊎-elim
         (λ (e : j ≡ k). subst (λ (m : ℕ). Fits (kept-form w′ m)) (sym e) (row .fits))

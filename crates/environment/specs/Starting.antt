@@ -13,8 +13,7 @@ use Rattle.forms.specs.Blocks.{Fits}
 use Rattle.forms.specs.Forms.{slots-at, items-at, visible-at, Stands}
 use Rattle.layout.specs.Layout.{kept-start, table-start}
 use Rattle.keeping.specs.Keeping.{nothing-at, Cleared}
-use Rattle.environment.specs.Environment.{Between, number-of, EnvStands}
-use Rattle.environment.specs.Growing.{TableBelow}
+use Rattle.environment.specs.Environment.{Between, TableBelow, number-of, EnvStands}
 
 nothing-stands : (text tape w : List ℕ) (b : ℕ) → Stands text tape w (nothing-at b) empty
 unfolding nothing-at empty nothing-visible nothing-hidden visible-at slots-at items-at sum
@@ -30,22 +29,11 @@ nothing-stands text tape w b = record {
 
 nothing-fits : (b : ℕ) → Fits (nothing-at b)
 unfolding nothing-at
-nothing-fits b = record { parameters = omega arith; items = omega arith; equations = omega arith }
+nothing-fits b = omega arith
 
 nothing-between : (b : ℕ) → Between b b (nothing-at b)
 unfolding nothing-at
-nothing-between b = record {
-  parameters = omega arith;
-  visible = omega arith;
-  hidden = omega arith;
-  equations = omega arith;
-  nodes = omega arith;
-  parameters-end = omega arith;
-  visible-end = omega arith;
-  hidden-end = omega arith;
-  equations-end = omega arith;
-  nodes-end = omega arith;
-}
+nothing-between b = omega arith
 
 module _ (w w′ : List ℕ) (cleared : Cleared table-start (module-limit + 1) kept-start w w′) where
   pub table-none : TableBelow w′ kept-start

@@ -32,7 +32,7 @@ use Rattle.modules.specs.Modules.{declared, named-in}
 use Rattle.declarations.specs.Scans.{walked}
 use Rattle.declarations.specs.Once.{once-at}
 use Rattle.uniting.specs.United.{empty-in}
-use Rattle.uniting.specs.Standing.{empty-lies, empty-stands}
+use Rattle.uniting.specs.Standing.{empty-stands}
 use Rattle.making.specs.Made.{makes-as, stops, goes-on}
 use Rattle.importing.specs.Spelling.{ImportsAt}
 use Rattle.importing.specs.Expressions.{ImportsRoom, ImportsMade, all-imported}
@@ -91,12 +91,7 @@ place-small w t h from end i c e =
 
 nothing-there : (b : Block) (f : Form) → f ≡ empty-in b → MadeThere b f
 unfolding empty-in
-nothing-there b f e =
-    rw e (record {
-      lies = empty-lies b;
-      fits = record { parameters = omega arith; items = omega arith; equations = omega arith };
-      nodes = omega arith;
-    })
+nothing-there b f e = rw e (omega arith)
 
 pub place-fits : (w : List ℕ) (t : ℕ) (h : Heads) (from end i : ℕ) → ImportedRoom w t h from end → i ≡ next-with 11 (part w 0 t) from (end - from) → Fits w32 i
 place-fits w t h from end i c e = omega (arith, place-small w t h from end i c e)

@@ -1,25 +1,22 @@
 -- Steps 3 and 4 but for the order of the listing: what a module imports, and its own declarations joined to it.
-use mathlib.Core.Path.{_≡_, refl, sym, ap, _∙_, subst}
-use Prim.Native.Nat.{ℕ, zero, suc, _+_, _-_, _≤_, _<_}
+use mathlib.Core.Path.{_≡_, sym, ap, subst}
+use Prim.Native.Nat.{ℕ, _-_, _≤_}
 use native.Mathlib.Omega.{arith}
 use native.Mathlib.Nat.{le-trans}
 use mathlib.Core.List.{List, [], _∷_, _++_}
 use lib.ListN.{length, length-append}
 use Rattle.meaning.specs.Lists.{each}
-use Rattle.meaning.specs.Names.{Name}
 use Rattle.meaning.specs.OrderLaws.{Every}
-use Rattle.meaning.specs.Syntax.{Clause, renamed-by, bound-by, Import, Module}
+use Rattle.meaning.specs.Syntax.{Clause, Import, Module}
 use Rattle.meaning.specs.Normal.{Normal}
-use Rattle.meaning.specs.Checks.{Outcome, fine, stop, _>>=_, Size}
+use Rattle.meaning.specs.Checks.{Outcome, _>>=_, Size}
 use Rattle.meaning.specs.Evaluate.{Evaluated, imported}
-use Rattle.limits.specs.Limits.{Limited}
 use Rattle.tape.specs.Tape.{flat-clause, flat-import, flat-module}
 use Rattle.forms.specs.declared.Culprit.{Culprit}
 use Rattle.forms.specs.declared.Form.{Form}
 use Rattle.forms.specs.declared.Made.{Made}
 use Rattle.forms.specs.declared.Made.the-variants.{Done, Refused}
 use Rattle.forms.specs.Memory.{part, Kept}
-use Rattle.forms.specs.FormLaws.{kept-then, tape-same}
 use Rattle.forms.specs.Blocks.{Makes, MadeIn}
 use Rattle.forms.specs.Verdicts.{culprit-of}
 use Rattle.layout.specs.Layout.{joining-block, second-block, tape-end, Laid}
@@ -29,13 +26,15 @@ use Rattle.making.specs.Made.{makes-as, refused-outcome, refused-makes, done-ou
 use Rattle.completing.specs.declared.Totals.{Totals}
 use Rattle.completing.specs.Room.{TotalsRight, StillRight, TotalsMeant}
 use Rattle.completing.specs.Completed.{joined-all, KeptDone, MakesIn, Given, CompleteRoom, Completed}
-use Rattle.own_equations.specs.Seen.{SeenAmong, SeenOut, AllSeen, imported-seen}
+use Rattle.laws.specs.Outcomes.{Gives}
+use Rattle.own_equations.specs.Seen.{SeenAmong, AllSeen, imported-seen}
 use Rattle.environment.specs.Environment.{EnvStands}
-use Rattle.declarations.specs.Spelled
 use Rattle.importing.specs.Spelling.{clause-entries}
 use Rattle.importing.specs.Expressions.{FewClauses}
 use Rattle.evaluating.specs.Steps.{ImportedRoom, Imported}
 use Rattle.evaluating.specs.Places.{ModuleAt, module-parts, ahead, rest, imports-there}
+use Rattle.frames.specs.Changes.{onward, tape-kept}
+use Rattle.declarations.specs.Spelled
 
 pub record CompletedRoom (w : List ℕ) (t : ℕ) (h : Heads) (from end : ℕ) (totals : Totals) : Type 0 where
   pub imports : ImportedRoom w t h from end
@@ -102,7 +101,7 @@ module _ (text : List ℕ) (t : ℕ) (w w₁ : List ℕ) (h : Heads) (k from end
 
   module _ (f : Form) (e : r₁ ≡ Done f) where
     tape-still : part w₁ 0 t ≡ part w 0 t
-    tape-still = tape-same w w₁ t (x .kept .size) (λ j p q. x .kept .below j (le-trans q (c .imports .ground .laid .joining .tape)))
+    tape-still = tape-kept (c .imports .ground .laid .joining .tape) (x .kept)
 
     pub complete-room : CompleteRoom (length w₁) t from end f totals
     unfolding tape-end
@@ -117,7 +116,7 @@ module _ (text : List ℕ) (t : ℕ) (w w₁ : List ℕ) (h : Heads) (k from end
 
     together : (r : Made) (w₂ : List ℕ) → Kept (joining-block .low) (second-block .high) w w₁ → KeptDone (joining-block .low) (second-block .high) w₁ w₂ r
         → KeptDone (joining-block .low) (second-block .high) w w₂ r
-    together (Done g) w₂ a b = kept-then (joining-block .low) (second-block .high) w w₁ w₂ a b
+    together (Done g) w₂ a b = onward a b
     together (Refused j y) w₂ a b = tt
 
     pub completed-all : (r : Made) (w₂ : List ℕ) → Completed text t w₁ k from end f totals r w₂ → CompletedAll text t w h k from end totals r w₂
@@ -128,7 +127,7 @@ module _ (text : List ℕ) (t : ℕ) (w w₁ : List ℕ) (h : Heads) (k from end
       made = λ m env total a v s q.
           let o = imported env (m .imports) in
           let z = done-outcome text (part w₁ 0 t) w₁ f o (subst (λ (u : Made). Makes text (part w₁ 0 t) w₁ u o) e (at-first m env a v)) in
-          let seen : AllSeen (z .normal) = subst SeenOut (z .outcome) (imported-seen env s (m .imports)) in
+          let seen : AllSeen (z .normal) = subst (Gives AllSeen) (z .outcome) (imported-seen env s (m .imports)) in
           let given : Given text t w₁ from end f m (z .normal) = record {
             imported = z .stands;
             entries = subst (λ (u : List ℕ). Spelled.Spells text u from (flat-module m)) (sym tape-still) (a .entries);

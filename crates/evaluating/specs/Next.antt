@@ -14,25 +14,23 @@ use Rattle.meaning.specs.Reached.{total-of, module-names}
 use Rattle.forms.specs.declared.Culprit.{Culprit}
 use Rattle.forms.specs.declared.Form.{Form}
 use Rattle.forms.specs.declared.Made.{Made}
-use Rattle.forms.specs.declared.Made.the-variants.{Done}
-use Rattle.forms.specs.declared.Made.the-variants.{Refused as NotMade}
+use Rattle.forms.specs.declared.Made.the-variants.{Done, Refused as NotMade}
 use Rattle.forms.specs.Memory.{part, Kept as KeptOutside}
 use Rattle.forms.specs.Forms.{Stands}
-use Rattle.forms.specs.FormLaws.{tape-same}
-use Rattle.forms.specs.Blocks.{Makes, Fits, MadeIn, MadeThere}
+use Rattle.forms.specs.Blocks.{Makes, MadeIn, MadeThere}
 use Rattle.forms.specs.Verdicts.{culprit-of}
 use Rattle.layout.specs.Layout.{joining-block, second-block, kept-start, table-start, Laid}
-use Rattle.keeping.specs.Keeping.{form-same}
 use Rattle.modules.specs.declared.Heads.{Heads}
 use Rattle.modules.specs.Modules.{declared}
 use Rattle.modules.specs.ModuleLaws.{declared-names}
 use Rattle.modules.specs.ReachedLaws.{names-distinct, names-number, name-by-number, drop-some}
 use Rattle.making.specs.Made.{refused-outcome, done-outcome, then-stops, then-goes-on}
-use Rattle.own_equations.specs.Seen.{SeenOut, evaluated-seen}
+use Rattle.own_equations.specs.Seen.{AllSeen, evaluated-seen}
 use Rattle.hidden_items.specs.Sound.{HiddenSound}
-use Rattle.hidden_items.specs.Evaluated.{Comes, evaluated-sound}
-use Rattle.environment.specs.Environment.{Between, kept-form, number-of, EnvStands, env-stays}
-use Rattle.environment.specs.Growing.{TableBelow, below-right}
+use Rattle.laws.specs.Outcomes.{Gives}
+use Rattle.hidden_items.specs.Evaluated.{evaluated-sound}
+use Rattle.environment.specs.Environment.{number-of, EnvStands, env-stays, TableBelow, table-stays}
+use Rattle.environment.specs.Growing.{below-right}
 use Rattle.importing.specs.Clausal.{Ground, number-within, kept-table}
 use Rattle.completing.specs.declared.Totals.{Totals}
 use Rattle.completing.specs.Room.{TotalsRight, StillRight, TotalsMeant, size-meant}
@@ -50,6 +48,7 @@ use Rattle.evaluating.specs.Stepping.{evaluated-as, StepMeant}
 use Rattle.evaluating.specs.Heads.{module-there}
 use Rattle.evaluating.specs.FirstSteps.{last-steps}
 use Rattle.evaluating.specs.LastSteps.{last-ordered, joined-distinct, ordered-size}
+use Rattle.frames.specs.Changes.{tape-kept}
 
 -- ---- steps 3 and 4: what they ask of the memory, and what comes of them
 
@@ -114,16 +113,6 @@ last-completed t w h k from end s totals e room = record {
   right = subst TotalsRight (sym e) (room .ready .right);
 }
 
--- kept forms lie behind the blocks
-below-stays : (low high c : ℕ) (w w′ : List ℕ) → high ≤ table-start → KeptOutside low high w w′ → TableBelow w c → TableBelow w′ c
-below-stays low high c w w′ h kept below = record {
-  between = λ j l. subst (Between kept-start c) (sym (same j)) (below .between j l);
-  fits = λ j l. subst Fits (sym (same j)) (below .fits j l);
-}
-  where
-    same : (j : ℕ) → kept-form w′ j ≡ kept-form w j
-    same j = form-same w w′ (table-start + j * 16) (λ i p q. kept .above i (omega arith))
-
 -- ---- the totals
 
 totals-next : (text tape w : List ℕ) (f : Form) (a : Normal) (env : List Evaluated) (totals r : Totals) (x : Name)
@@ -182,7 +171,7 @@ module _ (text : List ℕ) (t : ℕ) (w w₁ : List ℕ) (h : Heads) (k from end
       behind = omega (arith, laid .second-kept, kept-table (length w) t laid)
 
       below : TableBelow w₁ (s .cursor)
-      below = below-stays (joining-block .low) (second-block .high) (s .cursor) w w₁ behind kept (room .ready .below)
+      below = table-stays (joining-block .low) (second-block .high) (s .cursor) w w₁ behind kept (room .ready .below)
 
       length-still : length w′ ≡ length w
       length-still = y .stored .grown .size ∙ kept .size
@@ -212,7 +201,7 @@ module _ (text : List ℕ) (t : ℕ) (w w₁ : List ℕ) (h : Heads) (k from end
         names = declared-names text (part w 0 t) t ms h (sofar .told .spells)
 
         tape-then : part w₁ 0 t ≡ part w 0 t
-        tape-then = tape-same w w₁ t (kept .size) (λ i p l. kept .below i (omega (arith, laid .joining .tape)))
+        tape-then = tape-kept (laid .joining .tape) kept
 
         tape-still : part w′ 0 t ≡ part w 0 t
         tape-still = y .stored .tape ∙ tape-then
@@ -240,9 +229,9 @@ module _ (text : List ℕ) (t : ℕ) (w w₁ : List ℕ) (h : Heads) (k from end
             told = subst (λ (tape : List ℕ). Told text tape t h ms) (sym tape-still) (sofar .told);
             stands =
                 subst (λ (tape : List ℕ). EnvStands text (part w′ 0 t) w′ (declared text tape h) (evaluated-as m (in-order a) ∷ env)) (sym tape-still) env-next;
-            seen = (subst SeenOut outcome (evaluated-seen env (sofar .seen) (module-names ms) earlier k (total-of env) m), sofar .seen);
+            seen = (subst (Gives AllSeen) outcome (evaluated-seen env (sofar .seen) (module-names ms) earlier k (total-of env) m), sofar .seen);
             sound = (
-              subst (Comes HiddenSound) outcome (evaluated-sound (module-names ms) earlier k (total-of env) env m (sofar .sound)),
+              subst (Gives HiddenSound) outcome (evaluated-sound (module-names ms) earlier k (total-of env) env m (sofar .sound)),
               sofar .sound,
             );
             totals = totals-next text (part w₁ 0 t) w₁ f a env (s .totals) (r .totals) (m .name) (y .totals) stands (sofar .totals);

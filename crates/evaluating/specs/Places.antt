@@ -13,7 +13,8 @@ use Rattle.meaning.specs.Syntax.{Clause, renamed-by, bound-by, Import, Module}
 use Rattle.limits.specs.Limits.{PairsWithin, Limited}
 use Rattle.tape.specs.Tape.{Entry, entry, module-role, export-sort, export-function, hidden-sort, hidden-function, flat-parameter, flat-signature, flat-clause, flat-import, flat-group, flat-equation, flat-module}
 use Rattle.tables.specs.Entries.{role-at, next-with}
-use Rattle.declarations.specs.Spelled.{Spells, All, all-append, all-signature, all-parameters, all-groups, all-equations, spells-front, spells-behind}
+use Rattle.walks.specs.Flat.{All, all-append, all-signature, all-parameters, all-groups, all-equations}
+use Rattle.declarations.specs.Spelled.{Spells, spells-front, spells-behind}
 use Rattle.importing.specs.Spelling.{runs, FewPairs, ImportsAt}
 
 -- the entries from `from` up to `end` spell the module m, and behind them none of an import expression stands

@@ -1,5 +1,4 @@
 -- What holds between one module and the next: what the tape says, where kept forms lie, and which modules are evaluated.
-use mathlib.Core.Path.{_≡_}
 use Prim.Native.Nat.{ℕ, _+_, _-_, _*_, _≤_, _<_}
 use mathlib.Core.List.{List, []}
 use lib.ListN.{length, getD}
@@ -19,8 +18,7 @@ use Rattle.modules.specs.ModuleLaws.{Spells}
 use Rattle.completing.specs.Room.{TotalsRight, TotalsMeant}
 use Rattle.own_equations.specs.Seen.{SeenAmong}
 use Rattle.hidden_items.specs.Evaluated.{SoundEnvironment}
-use Rattle.environment.specs.Environment.{EnvStands}
-use Rattle.environment.specs.Growing.{TableBelow}
+use Rattle.environment.specs.Environment.{EnvStands, TableBelow}
 use Rattle.storing.specs.Places.{scratch-start, scratch-room}
 use Rattle.evaluating.specs.declared.states.State.{State}
 

@@ -7,18 +7,15 @@ use Rattle.meaning.specs.Laws.{by-cases}
 use Rattle.meaning.specs.Lists.{any, union}
 use Rattle.meaning.specs.Names.{Name}
 use Rattle.meaning.specs.Syntax.{Function, Variable, Module, variables-of}
-use Rattle.meaning.specs.Origins.{hidden-section, Declared, declared-sort, declared-function, declared-variable, FunctionType, Item, one-item}
-use Rattle.meaning.specs.Normal.{Hidden, Normal, nothing-hidden, empty, unite-hidden, unite, move-hidden-item, move-hidden, move}
+use Rattle.meaning.specs.Origins.{hidden-section, FunctionType, Item, one-item}
+use Rattle.meaning.specs.Normal.{Normal, nothing-hidden, empty, unite-hidden, unite, move-hidden-item, move-hidden, move}
 use Rattle.meaning.specs.Written.{hidden-in-order, in-order}
-use Rattle.meaning.specs.Own.{own-sort, own-function, own-section, own-variable, own-hidden-items}
+use Rattle.meaning.specs.Own.{own-sort, own-function, own-variable, own-hidden-items}
 use Rattle.meaning.specs.OrderLaws.{Every, Pairwise, Rearranged, rearranged-every, sorted-rearranged, pairwise-rearranged, any-none}
+use Rattle.laws.specs.EveryLaws.{every-all, every-append, every-map}
+use Rattle.laws.specs.OwnItems.{section-made, hidden-every}
+pub use Rattle.laws.specs.OwnItems.{declared-name}
 use Rattle.tables.specs.Decides.{items-decided}
-
--- the name under which an item was declared
-unfoldable pub declared-name : Declared → Name
-declared-name (declared-sort a) = a
-declared-name (declared-function f i o) = f
-declared-name (declared-variable v s) = v
 
 pub record HiddenItem (i : Item) : Type 0 where
   pub standing : i .standing ≡ hidden-section
@@ -42,18 +39,6 @@ different-symmetric a b h = go (one-item b a) refl
     go : (x : Bool) → one-item b a ≡ x → x ≡ false
     go true e = absurd (false≢true (sym h ∙ ap (one-item a) (items-decided .equal b a e) ∙ items-decided .self a))
     go false e = refl
-
-every-append : {A : Type 0} (P : A → Type 0) (xs ys : List A) → Every P xs → Every P ys → Every P (xs ++ ys)
-every-append P [] ys h k = k
-every-append P (x ∷ xs) ys h k = (h .0, every-append P xs ys (h .1) k)
-
-every-map : {A B : Type 0} (P : A → Type 0) (Q : B → Type 0) (f : A → B) → ((a : A) → P a → Q (f a)) → (xs : List A) → Every P xs → Every Q (map f xs)
-every-map P Q f g [] h = tt
-every-map P Q f g (x ∷ xs) h = (g x (h .0), every-map P Q f g xs (h .1))
-
-made : {A B : Type 0} (Q : B → Type 0) (f : A → B) → ((a : A) → Q (f a)) → (xs : List A) → Every Q (map f xs)
-made Q f g [] = tt
-made Q f g (x ∷ xs) = (g x, made Q f g xs)
 
 -- one more, that none is one with
 one-more : (xs : List Item) (y : Item) → Pairwise Different xs → Every (Different y) xs → Pairwise Different (xs ++ (y ∷ []))
@@ -126,12 +111,6 @@ module _ (m : Module) (seen : List Name) where
   variable-own v = record { standing = refl; name = refl }
 
   pub items-own : Every HiddenItem (own-hidden-items m seen)
-  unfolding own-hidden-items own-section
   items-own =
-      let sorts = map (own-sort m seen hidden-section) (m .hidden .sorts) in
-      let functions = map (own-function m seen hidden-section) (m .hidden .functions) in
-      let variables = map (own-variable m seen) (variables-of m) in
-      every-append HiddenItem (sorts ++ functions) variables
-      (every-append HiddenItem sorts functions (made HiddenItem (own-sort m seen hidden-section) sort-own (m .hidden .sorts))
-      (made HiddenItem (own-function m seen hidden-section) function-own (m .hidden .functions)))
-      (made HiddenItem (own-variable m seen) variable-own (variables-of m))
+      hidden-every HiddenItem m seen (section-made HiddenItem m seen hidden-section sort-own function-own (m .hidden))
+      (every-all _ variable-own (variables-of m))

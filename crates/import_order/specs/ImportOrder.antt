@@ -22,8 +22,7 @@ use Rattle.meaning.specs.Contract.{Call, call}
 use Rattle.promises.specs.Demand.{ReadAs, InTurn}
 use Rattle.promises.specs.PlainText.{read-plain}
 use Rattle.promises.specs.Counts.{refused-from-six}
-use Rattle.import_order.specs.Order.{OtherOrder}
-use Rattle.import_order.specs.Call.{EndsAlike, normalise-anyhow}
+use Rattle.import_order.specs.Order.{OtherOrder, EndsAlike, normalise-anyhow}
 
 -- ---- the statement
 
@@ -125,22 +124,12 @@ one-outcome r r′ (inr h) = record {
   modules = h .modules;
   evaluating = h .evaluating;
 }
-one-outcome r r′ (inl e) = record {
-  both = go (eqb (r .number) accepted) refl;
-  listings = ap listing e;
-  modules = ap (λ (x : Answer). x .modules) e;
-  evaluating = ap (λ (x : Answer). x .evaluating) e;
-}
+one-outcome r r′ (inl e) =
+    subst (SameOutcome r) e (record { both = go (eqb (r .number) accepted) refl; listings = refl; modules = refl; evaluating = refl })
   where
-    number : r′ .number ≡ r .number
-    number = ap (λ (x : Answer). x .number) (sym e)
-
-    go : (b : Bool) → eqb (r .number) accepted ≡ b → BothOrNeither (r .number) (r′ .number)
-    go true q = let z = eqb-true (r .number) accepted q in inl (z, number ∙ z)
-    go false q = inr (refused, λ h. refused (sym number ∙ h))
-      where
-        refused : r .number ≡ accepted → ⊥
-        refused h = false≢true (sym q ∙ eq-eqb (r .number) accepted h)
+    go : (b : Bool) → eqb (r .number) accepted ≡ b → BothOrNeither (r .number) (r .number)
+    go true q = let z = eqb-true (r .number) accepted q in inl (z, z)
+    go false q = let no : r .number ≡ accepted → ⊥ = λ h. false≢true (sym q ∙ eq-eqb (r .number) accepted h) in inr (no, no)
 
 pub import-order : ImportOrder
 import-order texts texts′ ms ms′ r asked memory output = one-outcome _ _ (answers-anyhow texts texts′ ms ms′ r asked memory output)

@@ -1,10 +1,7 @@
 -- lists as sets, and the union of normal forms told without order
 pub mod Sets
-pub mod Unions
 pub mod AnyOrder
 -- one module, and the whole of a call
-pub mod Unchanged
 pub mod Order
-pub mod Call
 pub mod ImportOrder
 pub mod OrderInstance

@@ -64,13 +64,11 @@ one-outcome = import-order in-one-order in-another _ _ reordered (bytes "M") mem
 unfoldable pub one-listing : List ℕ
 one-listing = bytes "module=M\nsort=S\norigin=[S,export,sort,S]\nsort=T\norigin=[B,export,sort,T]\nfunction=_+_:S#S->S\norigin=[S,export,function,_+_:S#S->S]\nfunction=a:X->S\norigin=[A,export,function,a:X->S]\nfunction=b:X->S\norigin=[A,export,function,a:X->S]\nfunction=t:T->S\norigin=[B,export,function,t:T->S]\nparameter=P\nparameter-sort=X\norigin=[A,parameter P,sort,X]\nparameter-function=p:X->S\norigin=[A,parameter P,function,p:X->S]\nvariable={1}:X\norigin=[A,hidden,variable,x:->X]\nequation=[e] a({1})=_+_(p({1}),p({1}))\nequation=[e] b({1})=_+_(p({1}),p({1}))\nend=M\n"
 
-pub one-listed : listing (answer memory-size program-output (bytes "M") in-one-order) ≡ one-listing
-unfolding all-opened in-one-order one-listing
-one-listed = refl
-
-pub another-listed : listing (answer memory-size program-output (bytes "M") in-another) ≡ one-listing
-unfolding all-opened in-another one-listing
-another-listed = refl
+pub another-listed :
+    (listing (answer memory-size program-output (bytes "M") in-one-order) ≡ one-listing)
+    × (listing (answer memory-size program-output (bytes "M") in-another) ≡ one-listing)
+unfolding all-opened in-one-order one-listing in-another
+another-listed = (refl, refl)
 
 -- ---- refused in both orders, and something else is told
 
@@ -78,37 +76,27 @@ unfoldable modules-before : List ℕ
 modules-before = bytes "module S begin exports begin sorts S functions _+_:S#S->S end end S module A begin parameters P begin sorts X functions p:X->S end P exports begin functions a:X->S end imports S variables x:->X equations [e] a(x)=p(x)+p(x) end A module B begin exports begin sorts T functions t:T->S end imports S end B module C begin exports begin sorts T end end C"
 
 -- another culprit
-first-culprit :
-    answer memory-size 0 (bytes "M") (two-texts modules-before (bytes "module M begin imports A { renamed by [q->r] }, B { renamed by [k->l] } end M"))
-    ≡ refusal bad-renaming 4 (bytes "M") (lone (bytes "q")) 0
-unfolding all-opened modules-before
-first-culprit = refl
-
 other-culprit :
-    answer memory-size 0 (bytes "M") (two-texts modules-before (bytes "module M begin imports B { renamed by [k->l] }, A { renamed by [q->r] } end M"))
-    ≡ refusal bad-renaming 4 (bytes "M") (lone (bytes "k")) 0
+    (answer memory-size 0 (bytes "M") (two-texts modules-before (bytes "module M begin imports A { renamed by [q->r] }, B { renamed by [k->l] } end M"))
+    ≡ refusal bad-renaming 4 (bytes "M") (lone (bytes "q")) 0)
+    × (answer memory-size 0 (bytes "M") (two-texts modules-before (bytes "module M begin imports B { renamed by [k->l] }, A { renamed by [q->r] } end M"))
+    ≡ refusal bad-renaming 4 (bytes "M") (lone (bytes "k")) 0)
 unfolding all-opened modules-before
-other-culprit = refl
+other-culprit = (refl, refl)
 
 -- another number
-first-number :
-    answer memory-size 0 (bytes "M") (two-texts modules-before (bytes "module M begin imports A { renamed by [X->Y] }, A, B, C end M"))
-    ≡ refusal bad-parameter 5 (bytes "M") (lone (bytes "P")) 0
-unfolding all-opened modules-before
-first-number = refl
-
 other-number :
-    answer memory-size 0 (bytes "M") (two-texts modules-before (bytes "module M begin imports B, C, A, A { renamed by [X->Y] } end M"))
-    ≡ refusal clashing 5 (bytes "M") (lone (bytes "T")) 0
+    (answer memory-size 0 (bytes "M") (two-texts modules-before (bytes "module M begin imports A { renamed by [X->Y] }, A, B, C end M"))
+    ≡ refusal bad-parameter 5 (bytes "M") (lone (bytes "P")) 0)
+    × (answer memory-size 0 (bytes "M") (two-texts modules-before (bytes "module M begin imports B, C, A, A { renamed by [X->Y] } end M"))
+    ≡ refusal clashing 5 (bytes "M") (lone (bytes "T")) 0)
 unfolding all-opened modules-before
-other-number = refl
+other-number = (refl, refl)
 
 -- ---- sixteen import expressions are read, seventeen are not
 
-sixteen-read : answer memory-size program-output (bytes "M") (two-texts [] (bytes "module A begin end A module M begin imports A, A, A, A, A, A, A, A, A, A, A, A, A, A, A, A end M")) .number ≡ accepted
+seventeen-unread :
+    (answer memory-size program-output (bytes "M") (two-texts [] (bytes "module A begin end A module M begin imports A, A, A, A, A, A, A, A, A, A, A, A, A, A, A, A end M")) .number ≡ accepted)
+    × (answer memory-size program-output (bytes "M") (two-texts [] (bytes "module A begin end A module M begin imports A, A, A, A, A, A, A, A, A, A, A, A, A, A, A, A, A end M")) .number ≡ over-size)
 unfolding all-opened
-sixteen-read = refl
-
-seventeen-unread : answer memory-size program-output (bytes "M") (two-texts [] (bytes "module A begin end A module M begin imports A, A, A, A, A, A, A, A, A, A, A, A, A, A, A, A, A end M")) .number ≡ over-size
-unfolding all-opened
-seventeen-unread = refl
+seventeen-unread = (refl, refl)

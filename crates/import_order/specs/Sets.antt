@@ -13,8 +13,9 @@ use Rattle.meaning.specs.Names.{Name, same, member}
 use Rattle.meaning.specs.Origins.{Item}
 use Rattle.meaning.specs.Checks.{least-at-odds}
 use Rattle.meaning.specs.OrderLaws.{Every, Pairwise, Rearranged, any-none, rearranged-length, rearranged-member}
-use Rattle.promises.specs.ListingLaws.{every-append}
-use Rattle.promises.specs.Sound.{any-found, any-passes, compatible, every-member, every-union}
+use Rattle.laws.specs.EveryLaws.{every-append, any-found, any-passes, every-member, every-union}
+pub use Rattle.laws.specs.EveryLaws.{every-of}
+use Rattle.promises.specs.Sound.{compatible}
 use Rattle.replacing.specs.Reordering.{least-at-odds-none}
 use Rattle.replacing.specs.VisibleAlike.{member-any}
 
@@ -36,12 +37,6 @@ set-itself xs = record { to = λ a m. m; from = λ a m. m }
 pub set-arranged : {A : Type 0} {xs ys : List A} → Rearranged xs ys → SameSet xs ys
 set-arranged d = record { to = λ a m. rearranged-member d m; from = λ a m. rearranged-member (Permᴰ·symm d) m }
 
-pub set-appended : {A : Type 0} {xs xs′ ys ys′ : List A} → SameSet xs xs′ → SameSet ys ys′ → SameSet (xs ++ ys) (xs′ ++ ys′)
-set-appended {A} {xs} {xs′} {ys} {ys′} s t = record {
-  to = λ a m. ⊎-elim (λ l. Memᴰ·append-left ys′ (s .to a l)) (λ l. Memᴰ·append-right xs′ (t .to a l)) (List·Memᴰ·append-cases xs m);
-  from = λ a m. ⊎-elim (λ l. Memᴰ·append-left ys (s .from a l)) (λ l. Memᴰ·append-right xs (t .from a l)) (List·Memᴰ·append-cases xs′ m);
-}
-
 each-among : {A B : Type 0} (f : A → List B) (xs ys : List A) → Among xs ys → Among (each f xs) (each f ys)
 unfolding each
 each-among f [] ys s b m = elim m [ ]
@@ -56,10 +51,6 @@ each-among {A} f (x ∷ xs) ys s b m =
 
 pub set-each : {A B : Type 0} (f : A → List B) {xs ys : List A} → SameSet xs ys → SameSet (each f xs) (each f ys)
 set-each f {xs} {ys} s = record { to = each-among f xs ys (s .to); from = each-among f ys xs (s .from) }
-
-pub every-of : {A : Type 0} (P : A → Type 0) (xs : List A) → ((x : A) → List·Memᴰ x xs → P x) → Every P xs
-every-of P [] h = tt
-every-of P (x ∷ xs) h = (h x (List·Memᴰ·head refl), every-of P xs (λ y m. h y (List·Memᴰ·tail m)))
 
 pub every-among : {A : Type 0} (P : A → Type 0) {xs ys : List A} → Among xs ys → Every P ys → Every P xs
 every-among P {xs} {ys} s h = every-of P xs (λ x m. every-member P ys h x (s x m))

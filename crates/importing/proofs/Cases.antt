@@ -95,28 +95,10 @@ pub starts-binding : (tape : List ℕ) (i role : ℕ) → role ≡ role-at tape 
 unfolding starts-clause pick
 starts-binding tape i role e h = rw (← e, ne-eqb role 12 h)
 
-pub ruleset cases = (
-  form-of-named,
-  run-below,
-  run-from,
-  walk-start,
-  walk-on,
-  walk-stop,
-  walk-end,
-  is-first-block,
-  is-second-block,
-  starts-renaming,
-  starts-binding,
-  bound-at,
-  clause-renames,
-  clause-binds,
-  turn-room,
-  turn-made,
-  tape-short,
-  end-positive,
-  clauses-start,
-  clauses-ended,
-  clauses-none,
-  clauses-stop,
-  needs,
-)
+pub ruleset walks = (form-of-named, run-below, run-from, walk-start, walk-on, walk-stop, walk-end)
+
+pub ruleset turns = (is-first-block, is-second-block, starts-renaming, starts-binding, bound-at, clause-renames, clause-binds, turn-room, turn-made)
+
+pub ruleset clauses = (tape-short, end-positive, clauses-start, clauses-ended, clauses-none, clauses-stop)
+
+pub ruleset cases = (walks, turns, clauses, needs)

@@ -1,7 +1,7 @@
 -- What the clauses of an import expression ask of the memory, and what comes of them (meaning/specs/Evaluate.antt, `clause`, `clauses`).
 use mathlib.Core.Path.{_≡_, refl, sym, ap, _∙_, subst}
 use mathlib.Core.Bool.{Bool, true, false, not, false≢true}
-use Prim.Native.Nat.{ℕ, zero, suc, _+_, _-_, _*_, _≤_, _<_}
+use Prim.Native.Nat.{ℕ, zero, suc, _+_, _-_, _≤_, _<_}
 use native.Mathlib.Omega.{arith}
 use native.Mathlib.Nat.{le-trans}
 use mathlib.Core.List.{List, [], _∷_}
@@ -26,9 +26,10 @@ use Rattle.forms.specs.declared.Made.{Made}
 use Rattle.forms.specs.declared.Made.the-variants.{Done, Refused}
 use Rattle.forms.specs.Memory.{part, Kept}
 use Rattle.forms.specs.Forms.{Stands}
-use Rattle.forms.specs.FormLaws.{kept-all, kept-wider, kept-then, tape-same}
+use Rattle.forms.specs.FormLaws.{kept-all}
 use Rattle.forms.specs.Blocks.{BlockLaid, Outside, Fits, Makes, MadeThere, MadeIn}
 use Rattle.forms.specs.Verdicts.{culprit-of}
+use Rattle.frames.specs.Changes.{onward, wider, tape-kept}
 use Rattle.translation.specs.Translation.{pairs-at}
 use Rattle.modules.specs.declared.Heads.{Heads}
 use Rattle.modules.specs.Modules.{declared}
@@ -136,6 +137,28 @@ number-within text tape h l x =
     let m = length-names text tape (h .places) 0 (h .count) in
     omega (arith, l, n, m)
 
+-- ---- what changes below the kept forms leaves them, and the modules evaluated so far
+
+pub kept-table : (size t : ℕ) → Laid size t → kept-start ≤ table-start
+kept-table size t l = omega (arith, l .kept-table)
+
+module _ (text : List ℕ) (t : ℕ) (w w′ : List ℕ) (h : Heads) (d : Ground w t h) (low high : ℕ) (behind : t ≤ low) (below : high ≤ kept-start)
+    (kept : Kept low high w w′) where
+  pub ground-stays : Ground w′ t h
+  ground-stays = record {
+    laid = subst (λ (n : ℕ). Laid n t) (sym (kept .size)) (d .laid);
+    tape = d .tape;
+    table = table-stays low high table-start w w′ (le-trans below (kept-table (length w) t (d .laid))) kept (d .table);
+    heads = d .heads;
+  }
+
+  pub evaluated-stay : (env : List Evaluated) → EnvStands text (part w 0 t) w (names-of text t w h) env
+      → EnvStands text (part w′ 0 t) w′ (names-of text t w′ h) env
+  evaluated-stay env v =
+      subst (λ (u : List ℕ). EnvStands text (part w′ 0 t) w′ (declared text u h) env) (sym (tape-kept behind kept))
+      (env-stays text t low high w w′ (names-of text t w h) env behind below (kept-table (length w) t (d .laid)) kept
+      (number-within text (part w 0 t) h (d .heads)) (d .table) v)
+
 -- ---- the form of a module that is named
 
 module _ (text : List ℕ) (t : ℕ) (w : List ℕ) (h : Heads) (d : Ground w t h) (i : ℕ) where
@@ -149,10 +172,7 @@ module _ (text : List ℕ) (t : ℕ) (w : List ℕ) (h : Heads) (d : Ground w t 
   named-fits = d .table .fits _ named-within
 
   pub named-nodes : form-named text t w h i .nodes + form-named text t w h i .«node_count» ≤ length w
-  named-nodes = le-trans (named-between .nodes-end) (table-within (d .laid .table))
-    where
-      table-within : table-start + (module-limit + 1) * 16 ≤ length w → table-start ≤ length w
-      table-within l = omega (arith, l)
+  named-nodes = omega (arith, named-between .nodes-end, d .laid .table)
 
 -- ---- a binding
 
@@ -233,20 +253,23 @@ module _ (text : List ℕ) (t : ℕ) (w w′ : List ℕ) (h : Heads) (i end : �
 
 -- ---- the blocks of clauses
 
-clause-block : (size t : ℕ) (b : Block) → BlockLaid size t b 16 1024 1024 2048 → b .«equation_room» ≡ 512 → BlockRoom size t b
-clause-block size t b l e = record {
-  names = 16;
-  rows = 1024;
-  hidden-rows = 1024;
-  sources = 2048;
+-- a block with room for two forms that fit
+pub block-room : {names rows hidden-rows sources : ℕ} (size t : ℕ) (b : Block) → BlockLaid size t b names rows hidden-rows sources
+    → (16 ≤ names) × (names ≤ 65536) × (1024 ≤ rows) × (rows ≤ 65536) × (1024 ≤ hidden-rows) × (hidden-rows ≤ 65536) × (2048 ≤ sources)
+    → b .«equation_room» ≡ 512 → BlockRoom size t b
+block-room {names} {rows} {hidden-rows} {sources} size t b l many e = record {
+  names = names;
+  rows = rows;
+  hidden-rows = hidden-rows;
+  sources = sources;
   laid = l;
-  names-room = omega arith;
-  few-names = omega arith;
-  rows-room = omega arith;
-  few-rows = omega arith;
-  hidden-room = omega arith;
-  few-hidden = omega arith;
-  sources-room = omega arith;
+  names-room = many .0;
+  few-names = many .1;
+  rows-room = many .2;
+  few-rows = many .3;
+  hidden-room = many .4;
+  few-hidden = many .5;
+  sources-room = many .6;
   equations-room = omega (arith, e);
 }
 
@@ -267,28 +290,10 @@ pub record TurnLaid (size t : ℕ) (b : Block) : Type 0 where
   pub last : b .high ≤ second-block .high
   pub below : b .high ≤ kept-start
 
-pub low-high : {names rows hidden-rows sources : ℕ} (size t : ℕ) (b : Block) → BlockLaid size t b names rows hidden-rows sources → b .low ≤ b .high
-low-high size t b l =
-    omega (arith, l .first, l .parameters, l .visible, l .hidden, l .equations, l .nodes, l .visible-notes, l .hidden-notes, l .order)
-
 pub turn-laid : (size t : ℕ) (first : Bool) → Laid size t → TurnLaid size t (turn-block first)
 unfolding turn-block pick
-turn-laid size t true l = record {
-  laid = l .first;
-  room = first-equations;
-  behind = l .joining-first;
-  first = omega arith;
-  last = le-trans (l .first-second) (low-high size t second-block (l .second));
-  below = le-trans (l .first-second) (le-trans (low-high size t second-block (l .second)) (l .second-kept));
-}
-turn-laid size t false l = record {
-  laid = l .second;
-  room = second-equations;
-  behind = le-trans (l .joining-first) (le-trans (low-high size t first-block (l .first)) (l .first-second));
-  first = le-trans (low-high size t first-block (l .first)) (l .first-second);
-  last = omega arith;
-  below = l .second-kept;
-}
+turn-laid size t true l = omega (arith, l, first-equations)
+turn-laid size t false l = omega (arith, l, second-equations)
 
 pub turn-room : (w : List ℕ) (t : ℕ) (h : Heads) (i : ℕ) (g : Form) (first : Bool) (b : Block) → b ≡ turn-block first
     → ClausesRoom w t h i g first → ClauseRoom w t h i g b
@@ -297,7 +302,7 @@ turn-room w t h i g first b e c =
     rw e (record {
       ground = c .ground;
       room = record {
-        room = clause-block (length w) t (turn-block first) (l .laid) (l .room);
+        room = block-room (length w) t (turn-block first) (l .laid) (omega arith) (l .room);
         outside = c .outside;
         fits = c .source .fits;
         nodes = c .source .nodes;
@@ -324,10 +329,7 @@ module _ (size t : ℕ) (first : Bool) (f : Form) (l : Laid size t) (m : MadeThe
   made-there : Between (turn-block first .low) (turn-block first .high) f
   made-there =
       let q = turn-laid size t first l in
-      made-between size t (turn-block first) 16 1024 1024 2048 f (q .laid) (omega arith) (omega arith) (omega arith) (wide (q .room)) m
-    where
-      wide : turn-block first .«equation_room» ≡ 512 → 256 ≤ turn-block first .«equation_room»
-      wide e = omega (arith, e)
+      made-between size t (turn-block first) 16 1024 1024 2048 f (q .laid) (omega arith) (omega arith) (omega arith) (omega (arith, q .room)) m
 
   pub made-source : Source size f
   made-source =
@@ -350,21 +352,13 @@ starts-within tape i e = go (leb (length tape) i) refl
     go true q = absurd (false≢true (ap (λ (r : ℕ). pick (eqb r 12) true (eqb r 13)) (sym (no-entry tape i (leb-true (length tape) i q))) ∙ e))
     go false q = leb-false (length tape) i q
 
-pub run-within : (least : ℕ) (tape : List ℕ) (c i : ℕ) → run-end least tape i c ≤ i + c
+pub run-bounds : (least : ℕ) (tape : List ℕ) (c i : ℕ) → (i ≤ run-end least tape i c) × (run-end least tape i c ≤ i + c)
 unfolding run-end pick
-run-within least tape zero i = omega arith
-run-within least tape (suc c) i = go (runs least (role-at tape i)) (run-within least tape c (suc i))
+run-bounds least tape zero i = omega arith
+run-bounds least tape (suc c) i = go (runs least (role-at tape i)) (run-bounds least tape c (suc i))
   where
-    go : (b : Bool) → run-end least tape (suc i) c ≤ suc i + c → pick b (run-end least tape (suc i) c) i ≤ i + suc c
-    go true h = omega arith
-    go false h = omega arith
-
-pub run-forward : (least : ℕ) (tape : List ℕ) (c i : ℕ) → i ≤ run-end least tape i c
-unfolding run-end pick
-run-forward least tape zero i = omega arith
-run-forward least tape (suc c) i = go (runs least (role-at tape i)) (run-forward least tape c (suc i))
-  where
-    go : (b : Bool) → suc i ≤ run-end least tape (suc i) c → i ≤ pick b (run-end least tape (suc i) c) i
+    go : (b : Bool) → (suc i ≤ run-end least tape (suc i) c) × (run-end least tape (suc i) c ≤ suc i + c)
+        → (i ≤ pick b (run-end least tape (suc i) c) i) × (pick b (run-end least tape (suc i) c) i ≤ i + suc c)
     go true h = omega arith
     go false h = omega arith
 
@@ -405,31 +399,20 @@ one-there text tape i c cs s =
 
 -- ---- places
 
-pub kept-table : (size t : ℕ) → Laid size t → kept-start ≤ table-start
-kept-table size t l = within _ (l .kept-table)
-  where
-    within : (room : ℕ) → kept-start + room ≤ table-start → kept-start ≤ table-start
-    within room k = omega (arith, k)
+pub short-tape : (w : List ℕ) (t : ℕ) → t ≤ tape-end → length (part w 0 t) ≤ 65536
+unfolding tape-end
+short-tape w t l = omega (arith, length-take (t - 0) (drop 0 w))
 
 pub tape-short : (w : List ℕ) (t : ℕ) (h : Heads) (i : ℕ) (g : Form) (first : Bool) → ClausesRoom w t h i g first → length (part w 0 t) ≤ 65536
-unfolding tape-end
-tape-short w t h i g first c =
-    let short : length (part w 0 t) ≤ t = omega (arith, length-take (t - 0) (drop 0 w)) in
-    omega (arith, short, c .ground .tape)
+tape-short w t h i g first c = short-tape w t (c .ground .tape)
 
 pub end-positive : (least : ℕ) (tape : List ℕ) (i c end : ℕ) → end ≡ run-end least tape (i + 1) c → 1 ≤ end
-end-positive least tape i c end e =
-    let far = run-forward least tape c (i + 1) in
-    omega (arith, e, far)
+end-positive least tape i c end e = omega (arith, run-bounds least tape c (i + 1))
 
--- the end of a clause on the tape is small
-pub end-small : (w : List ℕ) (t i end : ℕ) → end ≡ run-end 14 (part w 0 t) (i + 1) (length (part w 0 t) - (i + 1))
+-- the end of a run on the tape is small
+pub end-small : (least : ℕ) (w : List ℕ) (t i end : ℕ) → end ≡ run-end least (part w 0 t) (i + 1) (length (part w 0 t) - (i + 1))
     → i < length (part w 0 t) → t ≤ tape-end → end < 131072
-unfolding tape-end
-end-small w t i end e h l =
-    let far = run-within 14 (part w 0 t) (length (part w 0 t) - (i + 1)) (i + 1) in
-    let short : length (part w 0 t) ≤ t = omega (arith, length-take (t - 0) (drop 0 w)) in
-    omega (arith, e, far, short, h, l)
+end-small least w t i end e h l = omega (arith, run-bounds least (part w 0 t) (length (part w 0 t) - (i + 1)) (i + 1), short-tape w t l)
 
 module _ (text : List ℕ) (t : ℕ) (w : List ℕ) (h : Heads) (left i : ℕ) (g : Form) where
   -- there are no clauses, or none is looked at
@@ -470,9 +453,7 @@ module _ (text : List ℕ) (t : ℕ) (w : List ℕ) (h : Heads) (left i : ℕ) (
     laid = c .ground .laid
 
     wide : Kept (first-block .low) (second-block .high) w w₁
-    wide =
-        let q = turn-laid (length w) t first laid in
-        kept-wider (turn-block first .low) (turn-block first .high) (first-block .low) (second-block .high) w w₁ (q .first) (q .last) (x .kept)
+    wide = wider (omega (arith, turn-laid (length w) t first laid)) (x .kept)
 
     -- the first of the clauses
     at-first : (d : Clause) (cs : List Clause) (env : List Evaluated) (n : Normal) → ClausesAt text (part w 0 t) i (d ∷ cs)
@@ -499,59 +480,35 @@ module _ (text : List ℕ) (t : ℕ) (w : List ℕ) (h : Heads) (left i : ℕ) (
       there : MadeThere (turn-block first) f
       there = subst (MadeIn (turn-block first)) e (x .made-in)
 
-      size : length w₁ ≡ length w
-      size = x .kept .size
-
-      laid-still : Laid (length w₁) t
-      laid-still = subst (λ (n : ℕ). Laid n t) (sym size) laid
-
       block-laid : TurnLaid (length w) t (turn-block first)
       block-laid = turn-laid (length w) t first laid
 
-      tape-still : part w₁ 0 t ≡ part w 0 t
-      tape-still = tape-same w w₁ t size (λ j a b. x .kept .below j (le-trans b (block-laid .laid .tape)))
-
-      table-high : turn-block first .high ≤ table-start
-      table-high = le-trans (block-laid .below) (kept-table (length w) t laid)
-
       next-room : (next : Bool) → next ≡ not first → ClausesRoom w₁ t h end f next
-      next-room next e = rw e (record {
-        ground = record {
-          laid = laid-still;
-          tape = c .ground .tape;
-          table = table-stays (turn-block first .low) (turn-block first .high) w w₁ table-high (x .kept) (c .ground .table);
-          heads = c .ground .heads;
-        };
-        source = made-source (length w₁) t first f laid-still there;
-        outside = made-outside (length w₁) t first f laid-still there;
-        place = end-small w t i end at (starts-within (part w 0 t) i starts) (c .ground .tape);
-      })
+      next-room next e =
+          let ground = ground-stays text t w w₁ h (c .ground) _ _ (block-laid .laid .tape) (block-laid .below) (x .kept) in
+          rw e (record {
+            ground = ground;
+            source = made-source (length w₁) t first f (ground .laid) there;
+            outside = made-outside (length w₁) t first f (ground .laid) there;
+            place = end-small 14 w t i end at (starts-within (part w 0 t) i starts) (c .ground .tape);
+          })
 
       end-there : (d : Clause) (cs : List Clause) → ClausesAt text (part w 0 t) i (d ∷ cs) → end ≡ i + 1 + length (inner d)
       end-there d cs k = at ∙ clause-ends text (part w 0 t) i d (clause-there text (part w 0 t) i d cs k) (starts-within (part w 0 t) i starts)
 
       clauses-next : (d : Clause) (cs : List Clause) → ClausesAt text (part w 0 t) i (d ∷ cs) → ClausesAt text (part w₁ 0 t) end cs
       clauses-next d cs k =
-          subst (λ (u : List ℕ). ClausesAt text u end cs) (sym tape-still)
+          subst (λ (u : List ℕ). ClausesAt text u end cs) (sym (tape-kept (block-laid .laid .tape) (x .kept)))
           (subst (λ (j : ℕ). ClausesAt text (part w 0 t) j cs) (sym (end-there d cs k)) (clauses-behind text (part w 0 t) i d cs k))
-
-      env-next : (env : List Evaluated) → EnvStands text (part w 0 t) w (names-of text t w h) env → EnvStands text (part w₁ 0 t) w₁ (names-of text t w₁ h) env
-      env-next env v =
-          subst (λ (u : List ℕ). EnvStands text (part w₁ 0 t) w₁ (declared text u h) env) (sym tape-still)
-          (env-stays text t (turn-block first .low) (turn-block first .high) w w₁ (names-of text t w h) env (block-laid .laid .tape) (block-laid .below)
-          (kept-table (length w) t laid) (x .kept) (number-within text (part w 0 t) h (c .ground .heads)) (c .ground .table) v)
 
       clauses-more : (r₂ : Made) (w₂ : List ℕ) → ClausesMade text t w₁ h (left - 1) end f r₂ w₂ → ClausesMade text t w h left i g r₂ w₂
       unfolding clauses
       clauses-more r₂ w₂ y = record {
-        kept = kept-then (first-block .low) (second-block .high) w w₁ w₂ wide (y .kept);
-        source = subst (λ (n : ℕ). Sourced text t w₁ h n r₂) size (y .source);
+        kept = onward wide (y .kept);
+        source = subst (λ (n : ℕ). Sourced text t w₁ h n r₂) (x .kept .size) (y .source);
         made = go;
       }
         where
-          fewer : (k : ℕ) → suc k ≤ left → k ≤ left - 1
-          fewer k a = omega (arith, a)
-
           go : (cs : List Clause) (env : List Evaluated) (n : Normal) → ClausesAt text (part w 0 t) i cs → length cs ≤ left
               → EnvStands text (part w 0 t) w (names-of text t w h) env → Stands text (part w 0 t) w g n → Makes text (part w₂ 0 t) w₂ r₂ (clauses env cs n)
           go [] env n k l v s = absurd (false≢true (sym (none-there text (part w 0 t) i k) ∙ starts))
@@ -560,7 +517,8 @@ module _ (text : List ℕ) (t : ℕ) (w : List ℕ) (h : Heads) (left i : ℕ) (
               (subst (λ (z : Made). Makes text (part w₁ 0 t) w₁ z (clause env d n)) e (at-first d cs env n k v s)) in
               makes-as text (part w₂ 0 t) w₂ r₂ (clauses env cs (o .normal)) (clauses env (d ∷ cs) n)
               (then-goes-on (clause env d n) (λ (z : Normal). clauses env cs z) (o .normal) (o .outcome))
-              (y .made cs env (o .normal) (clauses-next d cs k) (fewer (length cs) l) (env-next env v) (o .stands))
+              (y .made cs env (o .normal) (clauses-next d cs k) (omega arith)
+              (evaluated-stay text t w w₁ h (c .ground) _ _ (block-laid .laid .tape) (block-laid .below) (x .kept) env v) (o .stands))
 
 -- ---- the loop: what is made from here on is what is made from the start
 

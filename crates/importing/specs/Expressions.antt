@@ -1,12 +1,12 @@
 -- The import expressions of a module, and their results united with what there is so far (meaning/specs/Evaluate.antt, `expressions`, `united`).
 use mathlib.Core.Path.{_≡_, refl, sym, ap, _∙_, subst}
 use mathlib.Core.Bool.{Bool, true, false, false≢true}
-use Prim.Native.Nat.{ℕ, suc, _+_, _-_, _≤_, _<_}
+use Prim.Native.Nat.{ℕ, _+_, _-_, _≤_, _<_}
 use native.Mathlib.Omega.{arith}
 use native.Mathlib.Nat.{le-trans}
 use mathlib.Core.List.{List, [], _∷_}
 use lib.Dec.{leb}
-use lib.ListN.{length, drop, length-take}
+use lib.ListN.{length}
 use borrow.Author.Tests.{leb-true, leb-false}
 use Rattle.meaning.specs.Lists.{pick, each}
 use Rattle.meaning.specs.Names.{Name}
@@ -24,20 +24,20 @@ use Rattle.forms.specs.declared.Made.{Made}
 use Rattle.forms.specs.declared.Made.the-variants.{Done, Refused}
 use Rattle.forms.specs.Memory.{part, Kept}
 use Rattle.forms.specs.Forms.{Stands}
-use Rattle.forms.specs.FormLaws.{kept-all, kept-wider, kept-then, tape-same}
+use Rattle.forms.specs.FormLaws.{kept-all}
 use Rattle.forms.specs.Blocks.{Makes, MadeThere, MadeIn}
 use Rattle.forms.specs.Verdicts.{culprit-of}
-use Rattle.forms.specs.Frames.{stands-kept}
+use Rattle.frames.specs.Changes.{onward, wider, tape-kept, still-stands}
 use Rattle.modules.specs.declared.Heads.{Heads}
 use Rattle.modules.specs.Modules.{declared}
-use Rattle.layout.specs.Layout.{block-at, joining-block, first-block, second-block, kept-start, table-start, tape-end, Laid}
+use Rattle.layout.specs.Layout.{block-at, joining-block, first-block, second-block, kept-start, table-start, Laid}
 use Rattle.making.specs.Made.{makes-as, refused-outcome, refused-makes, done-outcome, then-stops, then-goes-on}
 use Rattle.making.specs.Steps.{BlockRoom, JoinRoom, JoinedForm}
-use Rattle.environment.specs.Environment.{Between, above-outside, below-outside, made-between, kept-form, number-of, EnvStands, table-stays, env-stays}
+use Rattle.environment.specs.Environment.{Between, above-outside, below-outside, made-between, kept-form, number-of, EnvStands}
 use Rattle.importing.specs.Spelling.{runs, run-end, run-over, clauses-run, ClausesAt, ImportAt}
 use Rattle.importing.specs.Spelling.{ImportsAt, import-there, imports-behind, no-entry, spelled-within}
-use Rattle.importing.specs.Clausal.{Ground, Source, ClausesRoom, Sourced, ClausesMade, low-high, kept-table}
-use Rattle.importing.specs.Clausal.{turn-block, turn-laid, named-between, named-fits, named-nodes, number-within, run-within}
+use Rattle.importing.specs.Clausal.{Ground, Source, ClausesRoom, Sourced, ClausesMade, block-room, ground-stays, evaluated-stay}
+use Rattle.importing.specs.Clausal.{turn-block, turn-laid, named-between, named-fits, named-nodes, short-tape, end-small}
 
 -- ---- room
 
@@ -103,7 +103,7 @@ expression-room text t w h i g c e =
         fits = named-fits text t w h (c .ground) i;
         nodes = named-nodes text t w h (c .ground) i;
         joining = above-outside (joining-block .low) (joining-block .high) kept-start table-start f
-            (le-trans (l .behind) (le-trans (low-high (length w) t (turn-block true) (l .laid)) (l .below))) m;
+            (omega (arith, l)) m;
       };
       outside = above-outside (turn-block true .low) (turn-block true .high) kept-start table-start f (l .below) m;
       place = c .place;
@@ -128,21 +128,7 @@ unfolding joining-block block-at
 joining-equations = refl
 
 joining-room : (size t : ℕ) → Laid size t → BlockRoom size t joining-block
-joining-room size t l = record {
-  names = 32776;
-  rows = 33280;
-  hidden-rows = 1024;
-  sources = 33280;
-  laid = l .joining;
-  names-room = omega arith;
-  few-names = omega arith;
-  rows-room = omega arith;
-  few-rows = omega arith;
-  hidden-room = omega arith;
-  few-hidden = omega arith;
-  sources-room = omega arith;
-  equations-room = omega (arith, joining-equations);
-}
+joining-room size t l = block-room size t joining-block (l .joining) (omega arith) joining-equations
 
 joined-between : (size t : ℕ) (f : Form) → Laid size t → MadeThere joining-block f → Between (joining-block .low) (joining-block .high) f
 joined-between size t f l m =
@@ -231,16 +217,8 @@ none-imported text tape i s e =
     let z : i + 0 ≡ i = omega arith in
     false≢true (sym (ap (λ (j : ℕ). runs 11 (role-at tape j)) (sym z) ∙ s .after) ∙ ap (runs 11) e ∙ import-run)
 
-short-tape : (w : List ℕ) (t : ℕ) → t ≤ tape-end → length (part w 0 t) ≤ 65536
-unfolding tape-end
-short-tape w t l =
-    let short : length (part w 0 t) ≤ t = omega (arith, length-take (t - 0) (drop 0 w)) in
-    omega (arith, short, l)
-
 pub imports-tape : (w : List ℕ) (t : ℕ) (h : Heads) (i : ℕ) (so-far : Made) → ImportsRoom w t h i so-far → length (part w 0 t) ≤ 65536
-imports-tape w t h i so-far c =
-    let short = short-tape w t (c .ground .tape) in
-    omega (arith, short)
+imports-tape w t h i so-far c = short-tape w t (c .ground .tape)
 
 pub import-room : (w : List ℕ) (t : ℕ) (h : Heads) (i : ℕ) (so-far : Made) (role : ℕ) → role ≡ role-at (part w 0 t) i → role ≡ 11 → ImportsRoom w t h i so-far
     → ImportRoom w t h i
@@ -289,17 +267,15 @@ module _ (text : List ℕ) (t : ℕ) (w : List ℕ) (h : Heads) (i : ℕ) (so-fa
     laid = c .ground .laid
 
     joining-low : joining-block .low ≤ first-block .low
-    joining-low = le-trans (low-high (length w) t joining-block (laid .joining)) (laid .joining-first)
+    joining-low = omega (arith, laid)
 
     second-high : joining-block .high ≤ second-block .high
-    second-high =
-        le-trans (laid .joining-first) (le-trans (low-high (length w) t first-block (laid .first))
-        (le-trans (laid .first-second) (low-high (length w) t second-block (laid .second))))
+    second-high = omega (arith, laid)
 
     module _ (end : ℕ) (w₁ : List ℕ) (r : Made) (at : end ≡ run-end 12 (part w 0 t) (i + 1) (length (part w 0 t) - (i + 1)))
         (x : ExpressionMade text t w h i r w₁) where
       wide : Kept (joining-block .low) (second-block .high) w w₁
-      wide = kept-wider (first-block .low) (second-block .high) (joining-block .low) (second-block .high) w w₁ joining-low (omega arith) (x .kept)
+      wide = wider (omega (arith, joining-low)) (x .kept)
 
       imports-refused : (left j : ℕ) (y : Culprit) → r ≡ Refused j y → ImportsMade text t w h left i so-far (Refused j y) w₁
       unfolding expressions
@@ -320,7 +296,7 @@ module _ (text : List ℕ) (t : ℕ) (w : List ℕ) (h : Heads) (i : ℕ) (so-fa
       -- what there is so far is not touched by the expression
       so-far-stays : (q : Made) (o : Outcome Normal) → MadeIn joining-block q → Makes text (part w 0 t) w q o → Makes text (part w₁ 0 t) w₁ q o
       so-far-stays (Done f) (fine n) i m =
-          stands-kept text t w w₁ (first-block .low) (second-block .high) f n (laid .first .tape) (x .kept)
+          still-stands (laid .first .tape) (x .kept)
           (below-outside (first-block .low) (second-block .high) (joining-block .low) (joining-block .high) f (laid .joining-first)
           (joined-between (length w) t f laid i)) m
       so-far-stays (Done f) (stop k y) i m = absurd m
@@ -341,55 +317,30 @@ module _ (text : List ℕ) (t : ℕ) (w : List ℕ) (h : Heads) (i : ℕ) (so-fa
 
         module _ (u : Made) (w₂ : List ℕ) (y : UnionMade text t w₁ g so-far u w₂) where
           both : Kept (joining-block .low) (second-block .high) w w₂
-          both =
-              kept-then (joining-block .low) (second-block .high) w w₁ w₂ wide
-              (kept-wider (joining-block .low) (joining-block .high) (joining-block .low) (second-block .high) w₁ w₂ (omega arith) second-high (y .kept))
-
-          tape-still : part w₂ 0 t ≡ part w 0 t
-          tape-still = tape-same w w₂ t (both .size) (λ j a b. both .below j (le-trans b (laid .joining .tape)))
+          both = onward wide (wider (omega (arith, second-high)) (y .kept))
 
           next-imports : ImportsRoom w₂ t h end u
           next-imports = record {
-            ground = record {
-              laid = subst (λ (n : ℕ). Laid n t) (sym (both .size)) laid;
-              tape = c .ground .tape;
-              table = table-stays (joining-block .low) (second-block .high) w w₂ (le-trans (laid .second-kept) (kept-table (length w) t laid))
-                  both (c .ground .table);
-              heads = c .ground .heads;
-            };
+            ground = ground-stays text t w w₂ h (c .ground) _ _ (laid .joining .tape) (laid .second-kept) both;
             there = y .made-in;
-            place = small (run-within 12 (part w 0 t) (length (part w 0 t) - (i + 1)) (i + 1)) (short-tape w t (c .ground .tape)) there-is at;
+            place = end-small 12 w t i end at there-is (c .ground .tape);
           }
-            where
-              small : run-end 12 (part w 0 t) (i + 1) (length (part w 0 t) - (i + 1)) ≤ i + 1 + (length (part w 0 t) - (i + 1)) → length (part w 0 t) ≤ 65536
-                  → i < length (part w 0 t) → end ≡ run-end 12 (part w 0 t) (i + 1) (length (part w 0 t) - (i + 1)) → end < 131072
-              small far short here q = omega (arith, far, short, here, q)
 
           behind : (z : Import) (is : List Import) → ImportsAt text (part w 0 t) i (z ∷ is) → ImportsAt text (part w₂ 0 t) end is
           behind z is k =
               let ends = at ∙ clauses-end text (part w 0 t) i (z .clauses) (import-there text (part w 0 t) i z is k .clauses) there-is in
-              subst (λ (p : List ℕ). ImportsAt text p end is) (sym tape-still)
+              subst (λ (p : List ℕ). ImportsAt text p end is) (sym (tape-kept (laid .joining .tape) both))
               (subst (λ (j : ℕ). ImportsAt text (part w 0 t) j is) (sym ends) (imports-behind text (part w 0 t) i z is k))
-
-          env-next : (env : List Evaluated) → EnvStands text (part w 0 t) w (declared text (part w 0 t) h) env
-              → EnvStands text (part w₂ 0 t) w₂ (declared text (part w₂ 0 t) h) env
-          env-next env v =
-              subst (λ (p : List ℕ). EnvStands text (part w₂ 0 t) w₂ (declared text p h) env) (sym tape-still)
-              (env-stays text t (joining-block .low) (second-block .high) w w₂ (declared text (part w 0 t) h) env (laid .joining .tape) (laid .second-kept)
-              (kept-table (length w) t laid) both (number-within text (part w 0 t) h (c .ground .heads)) (c .ground .table) v)
 
           imports-more : (left : ℕ) (r₃ : Made) (w₃ : List ℕ) → ImportsMade text t w₂ h (left - 1) end u r₃ w₃
               → ImportsMade text t w h left i so-far r₃ w₃
           unfolding expressions
           imports-more left r₃ w₃ s = record {
-            kept = kept-then (joining-block .low) (second-block .high) w w₂ w₃ both (s .kept);
+            kept = onward both (s .kept);
             made-in = s .made-in;
             made = go;
           }
             where
-              fewer : (k : ℕ) → suc k ≤ left → k ≤ left - 1
-              fewer k a = omega (arith, a)
-
               go : (is : List Import) (env : List Evaluated) (o : Outcome Normal) → ImportsAt text (part w 0 t) i is → length is ≤ left → Every FewClauses is
                   → EnvStands text (part w 0 t) w (declared text (part w 0 t) h) env → Makes text (part w 0 t) w so-far o
                   → Makes text (part w₃ 0 t) w₃ r₃ (expressions env is >>= onto o)
@@ -404,7 +355,8 @@ module _ (text : List ℕ) (t : ℕ) (w : List ℕ) (h : Heads) (i : ℕ) (so-fa
                   (expressions env (z ∷ is) >>= onto o)
                   (ap (λ (q : Outcome (List Normal)). q >>= onto o) (then-goes-on one next (d .normal) (d .outcome))
                   ∙ onto-one (expressions env is) o (d .normal))
-                  (s .made is env (o >>= λ n. checked (unite n (d .normal))) (behind z is k) (fewer (length is) l) (f .1) (env-next env v) joined)
+                  (s .made is env (o >>= λ n. checked (unite n (d .normal))) (behind z is k) (omega arith) (f .1)
+                  (evaluated-stay text t w w₂ h (c .ground) _ _ (laid .joining .tape) (laid .second-kept) both env v) joined)
 
 -- ---- the loop: what is made from here on is what is made from the start
 

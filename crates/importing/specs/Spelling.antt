@@ -13,7 +13,8 @@ use Rattle.meaning.specs.OrderLaws.{Every}
 use Rattle.meaning.specs.Syntax.{Pair, Clause, renamed-by, bound-by, Import}
 use Rattle.tape.specs.Tape.{Entry, entry, flat-pair, flat-clause, flat-import}
 use Rattle.tables.specs.Entries.{role-at, name-at}
-use Rattle.declarations.specs.Spelled.{Spells, All, all-append, spells-front, spells-behind}
+use Rattle.walks.specs.Flat.{All, all-append}
+use Rattle.declarations.specs.Spelled.{Spells, spells-front, spells-behind}
 use Rattle.translation.specs.Translation.{pairs-from}
 
 -- ---- runs of entries: those of a clause behind its first have roles from 14 up to 16, those of an import expression from 12

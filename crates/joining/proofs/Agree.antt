@@ -277,28 +277,10 @@ module _ (text tape w : List ℕ) (visible hidden u v : ℕ) where
   unfolding node-in
   node-told a b r e f g = rw (← e, ← f) g
 
-pub ruleset agrees = (
-  sort-even,
-  sort-names,
-  sort-kind,
-  sort-home,
-  sort-told,
-  sorts-both,
-  sorts-left,
-  sorts-right,
-  sorts-neither,
-  functions-bits,
-  functions-shapes,
-  functions-names,
-  functions-origins,
-  plain-apart,
-  plain-told,
-  plain-function,
-  function-plain,
-  functions-told,
-  row-visible,
-  row-hidden,
-  node-equal,
-  node-told,
-  needs,
-)
+pub ruleset sorts = (sort-even, sort-names, sort-kind, sort-home, sort-told, sorts-both, sorts-left, sorts-right, sorts-neither)
+
+pub ruleset functions = (functions-bits, functions-shapes, functions-names, functions-origins, plain-apart, plain-told, plain-function, function-plain)
+
+pub ruleset nodes = (functions-told, row-visible, row-hidden, node-equal, node-told)
+
+pub ruleset agrees = (sorts, functions, nodes, needs)

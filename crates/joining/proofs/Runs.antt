@@ -111,20 +111,8 @@ module _ (w₀ : List ℕ) (visible hidden a b c : ℕ) where
     unfolding copied
     copy-end h = let l : left ≡ 0 = omega arith in sym (ap (copied w visible hidden i j) l) ∙ inv .comes
 
-pub ruleset runs = (
-  node-at-told,
-  run-start,
-  run-again,
-  run-other,
-  run-end,
-  row-small,
-  row-large,
-  renode-visible,
-  renode-hidden,
-  node-copied,
-  copy-start,
-  copy-again,
-  copy-sized,
-  copy-end,
-  needs,
-)
+pub ruleset rows = (node-at-told, run-start, run-again, run-other, run-end, row-small, row-large, renode-visible, renode-hidden)
+
+pub ruleset copies = (node-copied, copy-start, copy-again, copy-sized, copy-end)
+
+pub ruleset runs = (rows, copies, needs)

@@ -90,23 +90,7 @@ module _ (text : List ℕ) (t : ℕ) (w : List ℕ) (f : Form) (q : EquationRow)
     unfolding has-equation
     seek-end h = let l : n - i ≡ 0 = omega arith in ap (has-equation text t w f q i) (sym l) ∙ inv .comes
 
--- ---- `with_counts`, `settle`
-
-pub counted : (f : Form) (n m : ℕ)
-    → _≡_ {A = Form} (record {
-      parameters = f .parameters;
-      «parameter_count» = f .«parameter_count»;
-      visible = f .visible;
-      «visible_count» = f .«visible_count»;
-      hidden = f .hidden;
-      «hidden_count» = f .«hidden_count»;
-      equations = f .equations;
-      «equation_count» = n;
-      nodes = f .nodes;
-      «node_count» = m;
-    }) (with-counts f n m)
-unfolding with-counts
-counted f n m = refl
+-- ---- `settle`
 
 module _ (text : List ℕ) (t : ℕ) (w : List ℕ) (f : Form) (q : EquationRow) (b : Bool) (e : b ≡ has-equation text t w f q 0 (f .«equation_count»)) where
   pub settle-found : b ≡ true → out f w ≡ settled text t w f q
@@ -176,30 +160,10 @@ module _ (text : List ℕ) (t : ℕ) (w₀ : List ℕ) (g : Form) (n : ℕ) (o :
     unfolding joined
     join-end l = let c : n - k ≡ 0 = omega arith in sym (ap (λ (m : ℕ). joined text t w g k m o h) c) ∙ inv .comes
 
-pub ruleset turns = (
-  equation-read,
-  three-put,
-  equation-written,
-  one-home,
-  one-position,
-  one-count,
-  one-run,
-  row-told,
-  seek-start,
-  seek-again,
-  seek-found,
-  seek-end,
-  counted,
-  settle-found,
-  settle-new,
-  row-full,
-  nodes-full,
-  row-settled,
-  row-joined,
-  join-start,
-  join-sized,
-  join-tape,
-  join-again,
-  join-end,
-  needs,
-)
+pub ruleset equations = (equation-read, three-put, equation-written, one-home, one-position, one-count, one-run, row-told)
+
+pub ruleset settling = (seek-start, seek-again, seek-found, seek-end, settle-found, settle-new, row-full, nodes-full, row-settled, row-joined)
+
+pub ruleset joining = (join-start, join-sized, join-tape, join-again, join-end)
+
+pub ruleset turns = (equations, settling, joining, needs)

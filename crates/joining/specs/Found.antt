@@ -136,117 +136,132 @@ module _ (σ : Name → Name) (φ : Name → FunctionType → Name) where
   function-moved (function-shape t) = refl
   function-moved (variable-shape s) = refl
 
--- node v of g, and what it becomes through the notes
-module _ (σ : Name → Name) (φ : Name → FunctionType → Name) (text tape w : List ℕ) (o : Notes) (g f : Form) (v : ℕ) where
-  abbrev moved-word : ℕ
-  moved-word = renode w (o .visible) (o .hidden) v
+-- row i of the table at `source` in w went where the note in z tells, to one of the n rows at `base` in z: `move` makes that of it
+pub record Goes (text tape w z : List ℕ) (move : Node → Node) (visible : Bool) (o source base n i : ℕ) : Type 0 where
+  pub small : n ≤ 65536
+  pub inside : getD z (o + i) 0 < n
+  pub node : (k : ℕ) → node-of visible k (item-of text tape (row-at z (base + getD z (o + i) 0 * 16)))
+      ≡ move (node-of visible k (item-of text tape (row-at w (source + i * 16))))
+  pub sort : is-sort (item-of text tape (row-at z (base + getD z (o + i) 0 * 16)) .shape) ≡ is-sort (item-of text tape (row-at w (source + i * 16)) .shape)
+  pub function :
+      is-function (item-of text tape (row-at z (base + getD z (o + i) 0 * 16)) .shape) ≡ is-function (item-of text tape (row-at w (source + i * 16)) .shape)
 
-  abbrev Moved : Type 0
-  Moved = node-in text tape w (f .visible) (f .hidden) moved-word ≡ move-node σ φ (node-in text tape w (g .visible) (g .hidden) v)
+-- what is told of a node's word by the note that it went through
+record Passed (v moved note : ℕ) : Type 0 where
+  side : moved / 16 % 2 ≡ v / 16 % 2
+  arguments : moved % 16 ≡ v % 16
+  row : moved / 32 ≡ note
 
-  module _ (noted : VisibleNoted σ φ text tape w o g f) (side : v / 16 % 2 ≡ 0) (point : VisiblePoint text tape w g v) where
-    abbrev visible-note : ℕ
-    visible-note = getD w (o .visible + v / 32) 0
+-- node v of g in w, and what it becomes through the notes in z, of visible rows from vn on and of hidden ones from hn on: a node of f
+module _ (text tape w z : List ℕ) (move : Node → Node) (vn hn : ℕ) (g f : Form) (v : ℕ) where
+  abbrev moved : ℕ
+  moved = renode z vn hn v
 
-    visible-source : is-function (item-of text tape (row-at w (g .visible + v / 32 * 16)) .shape) ≡ true
-    visible-source = ap (λ (i : Item). is-function (i .shape)) (sym (item-visible text tape w g v side)) ∙ point .function
+  abbrev Gone : Type 0
+  Gone = node-in text tape z (f .visible) (f .hidden) moved ≡ move (node-in text tape w (g .visible) (g .hidden) v)
 
-    visible-points : pointable true (item-of text tape (row-at w (g .visible + v / 32 * 16)) .shape) ≡ true
-    unfolding pointable pick
-    visible-points = visible-source
+  carried : (p : Shape → Bool) (x y : Item) → node-item text tape w g v ≡ x → node-item text tape z f moved ≡ y → p (y .shape) ≡ p (x .shape)
+      → p (node-item text tape z f moved .shape) ≡ p (node-item text tape w g v .shape)
+  carried p x y a b e = ap (λ (i : Item). p (i .shape)) b ∙ e ∙ ap (λ (i : Item). p (i .shape)) (sym a)
 
-    visible-inside : visible-note < f .«visible_count»
-    visible-inside = noted .inside (v / 32) (point .inside) visible-points
-
-    visible-word : moved-word ≡ visible-note * 32 + v % 32
+  module _ (side : v / 16 % 2 ≡ 0) (went : Goes text tape w z move true vn (g .visible) (f .visible) (f .«visible_count») (v / 32)) where
+    visible-passed : Passed v moved (getD z (vn + v / 32) 0)
     unfolding renode renoded pick
-    visible-word =
+    visible-passed =
         let low : v % 32 < 16 = omega arith in
-        let small : visible-note < 65536 = omega (arith, visible-inside, noted .small) in
-        rw (lt-ltb (v % 32) 16 low, lt-ltb visible-note 65536 small)
+        let small : getD z (vn + v / 32) 0 < 65536 = omega (arith, went .inside, went .small) in
+        let word : moved ≡ getD z (vn + v / 32) 0 * 32 + v % 32 = rw (lt-ltb (v % 32) 16 low, lt-ltb (getD z (vn + v / 32) 0) 65536 small) in
+        omega (arith, word)
 
-    visible-moved : Moved
+    visible-gone : Gone
     unfolding node-in node-row pick
-    visible-moved =
-        let z : moved-word / 16 % 2 ≡ 0 = omega (arith, visible-word) in
-        let arguments : moved-word % 16 ≡ v % 16 = omega (arith, visible-word) in
-        let row : moved-word / 32 ≡ visible-note = omega (arith, visible-word) in
-        rw (z, arguments, row, side) (noted .node (v / 32) (point .inside) visible-points (v % 16))
+    visible-gone = let x = visible-passed in rw (x .side, x .arguments, x .row, side) (went .node (v % 16))
 
-    visible-pointed : Points text tape w f moved-word
-    visible-pointed =
-        let z : moved-word / 16 % 2 ≡ 0 = omega (arith, visible-word) in
-        let row : moved-word / 32 ≡ visible-note = omega (arith, visible-word) in
-        let shape = noted .shape (v / 32) (point .inside) visible-points in
+    visible-pointed : VisiblePoint text tape w g v → Points text tape z f moved
+    visible-pointed point =
+        let x = visible-passed in
+        let there = item-visible text tape z f moved (x .side ∙ side) ∙ ap (λ (r : ℕ). item-of text tape (row-at z (f .visible + r * 16))) (x .row) in
         record {
           visible = λ e. record {
-            inside = subst (λ (r : ℕ). r < f .«visible_count») (sym row) visible-inside;
-            function = ap (λ (i : Item). is-function (i .shape)) (item-visible text tape w f moved-word z)
-                ∙ ap (λ (r : ℕ). is-function (item-of text tape (row-at w (f .visible + r * 16)) .shape)) row
-                ∙ ap is-function shape ∙ function-moved σ φ _ ∙ visible-source;
+            inside = omega (arith, x .row, went .inside);
+            function = carried is-function _ _ (item-visible text tape w g v side) there (went .function) ∙ point .function;
           };
-          hidden = λ e. absurd (omega (arith, z, e));
+          hidden = λ e. absurd (omega (arith, x .side, side, e));
         }
 
-  module _ (noted : HiddenNoted σ φ text tape w o g f) (side : v / 16 % 2 ≡ 1) (point : HiddenPoint text tape w g v) where
-    abbrev hidden-note : ℕ
-    hidden-note = getD w (o .hidden + v / 32) 0
-
-    hidden-source : is-sort (item-of text tape (row-at w (g .hidden + v / 32 * 16)) .shape) ≡ false
-    hidden-source = ap (λ (i : Item). is-sort (i .shape)) (sym (item-hidden text tape w g v side)) ∙ point .no-sort
-
-    hidden-points : pointable false (item-of text tape (row-at w (g .hidden + v / 32 * 16)) .shape) ≡ true
-    unfolding pointable pick
-    hidden-points = ap not hidden-source
-
-    hidden-inside : hidden-note < f .«hidden_count»
-    hidden-inside = noted .inside (v / 32) (point .inside) hidden-points
-
-    hidden-word : moved-word ≡ hidden-note * 32 + v % 32
+  module _ (side : v / 16 % 2 ≡ 1) (went : Goes text tape w z move false hn (g .hidden) (f .hidden) (f .«hidden_count») (v / 32)) where
+    hidden-passed : Passed v moved (getD z (hn + v / 32) 0)
     unfolding renode renoded pick
-    hidden-word =
+    hidden-passed =
         let high : 16 ≤ v % 32 = omega arith in
-        let small : hidden-note < 65536 = omega (arith, hidden-inside, noted .small) in
-        rw (le-ltb (v % 32) 16 high, lt-ltb hidden-note 65536 small)
+        let small : getD z (hn + v / 32) 0 < 65536 = omega (arith, went .inside, went .small) in
+        let word : moved ≡ getD z (hn + v / 32) 0 * 32 + v % 32 = rw (le-ltb (v % 32) 16 high, lt-ltb (getD z (hn + v / 32) 0) 65536 small) in
+        omega (arith, word)
 
-    hidden-moved : Moved
+    hidden-gone : Gone
     unfolding node-in node-row pick
-    hidden-moved =
-        let z : moved-word / 16 % 2 ≡ 1 = omega (arith, hidden-word) in
-        let arguments : moved-word % 16 ≡ v % 16 = omega (arith, hidden-word) in
-        let row : moved-word / 32 ≡ hidden-note = omega (arith, hidden-word) in
-        rw (z, arguments, row, side) (noted .node (v / 32) (point .inside) hidden-points (v % 16))
+    hidden-gone = let x = hidden-passed in rw (x .side, x .arguments, x .row, side) (went .node (v % 16))
 
-    hidden-pointed : Points text tape w f moved-word
-    hidden-pointed =
-        let z : moved-word / 16 % 2 ≡ 1 = omega (arith, hidden-word) in
-        let arguments : moved-word % 16 ≡ v % 16 = omega (arith, hidden-word) in
-        let row : moved-word / 32 ≡ hidden-note = omega (arith, hidden-word) in
-        let shape : node-item text tape w f moved-word .shape ≡ move-shape σ φ (node-item text tape w g v .shape) =
-        ap (λ (i : Item). i .shape) (item-hidden text tape w f moved-word z) ∙ ap (λ (r : ℕ). item-of text tape (row-at w (f .hidden + r * 16)) .shape) row
-        ∙ noted .shape (v / 32) (point .inside) hidden-points ∙ ap (λ (i : Item). move-shape σ φ (i .shape)) (sym (item-hidden text tape w g v side)) in
+    hidden-pointed : HiddenPoint text tape w g v → Points text tape z f moved
+    hidden-pointed point =
+        let x = hidden-passed in
+        let here = item-hidden text tape w g v side in
+        let there = item-hidden text tape z f moved (x .side ∙ side) ∙ ap (λ (r : ℕ). item-of text tape (row-at z (f .hidden + r * 16))) (x .row) in
         record {
-          visible = λ e. absurd (omega (arith, z, e));
+          visible = λ e. absurd (omega (arith, x .side, side, e));
           hidden = λ e. record {
-            inside = subst (λ (r : ℕ). r < f .«hidden_count») (sym row) hidden-inside;
-            no-sort = ap is-sort shape ∙ sort-moved σ φ _ ∙ point .no-sort;
-            alone = λ h. arguments ∙ point .alone (sym (ap is-function shape ∙ function-moved σ φ _) ∙ h);
+            inside = omega (arith, x .row, went .inside);
+            no-sort = carried is-sort _ _ here there (went .sort) ∙ point .no-sort;
+            alone = λ h. x .arguments ∙ point .alone (sym (carried is-function _ _ here there (went .function)) ∙ h);
           };
         }
+
+  module _ (points : Points text tape w g v)
+      (seen : v / 16 % 2 ≡ 0 → Goes text tape w z move true vn (g .visible) (f .visible) (f .«visible_count») (v / 32))
+      (unseen : v / 16 % 2 ≡ 1 → Goes text tape w z move false hn (g .hidden) (f .hidden) (f .«hidden_count») (v / 32)) where
+    by-side : {C : Type 0} → (v / 16 % 2 ≡ 0 → C) → (v / 16 % 2 ≡ 1 → C) → C
+    by-side {C} a b = go (eqb (v / 16 % 2) 0) refl
+      where
+        go : (x : Bool) → eqb (v / 16 % 2) 0 ≡ x → C
+        go true e = a (eqb-true (v / 16 % 2) 0 e)
+        go false e = let n = eqb-false (v / 16 % 2) 0 e in b (omega arith)
+
+    pub node-goes : node-in text tape z (f .visible) (f .hidden) (renode z vn hn v) ≡ move (node-in text tape w (g .visible) (g .hidden) v)
+    node-goes = by-side (λ s. visible-gone s (seen s)) (λ s. hidden-gone s (unseen s))
+
+    pub points-go : Points text tape z f (renode z vn hn v)
+    points-go = by-side (λ s. visible-pointed s (seen s) (points .visible s)) (λ s. hidden-pointed s (unseen s) (points .hidden s))
+
+-- node v of g through notes that are right
+module _ (σ : Name → Name) (φ : Name → FunctionType → Name) (text tape w : List ℕ) (o : Notes) (g f : Form) (v : ℕ) where
+  goes : (shown : Bool) (at source c base n i : ℕ) → Noted σ φ text tape w shown at source c base n → i < c
+      → pointable shown (item-of text tape (row-at w (source + i * 16)) .shape) ≡ true → Goes text tape w w (move-node σ φ) shown at source base n i
+  goes shown at source c base n i x h p = record {
+    small = x .small;
+    inside = x .inside i h p;
+    node = x .node i h p;
+    sort = ap is-sort (x .shape i h p) ∙ sort-moved σ φ _;
+    function = ap is-function (x .shape i h p) ∙ function-moved σ φ _;
+  }
 
   module _ (visible : VisibleNoted σ φ text tape w o g f) (hidden : HiddenNoted σ φ text tape w o g f) (points : Points text tape w g v) where
+    seen : v / 16 % 2 ≡ 0 → Goes text tape w w (move-node σ φ) true (o .visible) (g .visible) (f .visible) (f .«visible_count») (v / 32)
+    unfolding pointable pick
+    seen s =
+        goes true _ _ _ _ _ (v / 32) visible (points .visible s .inside)
+        (ap (λ (i : Item). is-function (i .shape)) (sym (item-visible text tape w g v s)) ∙ points .visible s .function)
+
+    unseen : v / 16 % 2 ≡ 1 → Goes text tape w w (move-node σ φ) false (o .hidden) (g .hidden) (f .hidden) (f .«hidden_count») (v / 32)
+    unfolding pointable pick
+    unseen s =
+        goes false _ _ _ _ _ (v / 32) hidden (points .hidden s .inside)
+        (ap (λ (i : Item). not (is-sort (i .shape))) (sym (item-hidden text tape w g v s)) ∙ ap not (points .hidden s .no-sort))
+
     -- it is the node under new names
-    pub node-moved : Moved
-    node-moved = go (eqb (v / 16 % 2) 0) refl
-      where
-        go : (b : Bool) → eqb (v / 16 % 2) 0 ≡ b → Moved
-        go true e = let z = eqb-true (v / 16 % 2) 0 e in visible-moved visible z (points .visible z)
-        go false e = let n = eqb-false (v / 16 % 2) 0 e in let z : v / 16 % 2 ≡ 1 = omega arith in hidden-moved hidden z (points .hidden z)
+    pub node-moved : node-in text tape w (f .visible) (f .hidden) (renode w (o .visible) (o .hidden) v)
+        ≡ move-node σ φ (node-in text tape w (g .visible) (g .hidden) v)
+    node-moved = node-goes text tape w w (move-node σ φ) (o .visible) (o .hidden) g f v points seen unseen
 
     -- and points at a row of f
-    pub node-pointed : Points text tape w f moved-word
-    node-pointed = go (eqb (v / 16 % 2) 0) refl
-      where
-        go : (b : Bool) → eqb (v / 16 % 2) 0 ≡ b → Points text tape w f moved-word
-        go true e = let z = eqb-true (v / 16 % 2) 0 e in visible-pointed visible z (points .visible z)
-        go false e = let n = eqb-false (v / 16 % 2) 0 e in let z : v / 16 % 2 ≡ 1 = omega arith in hidden-pointed hidden z (points .hidden z)
+    pub node-pointed : Points text tape w f (renode w (o .visible) (o .hidden) v)
+    node-pointed = points-go text tape w w (move-node σ φ) (o .visible) (o .hidden) g f v points seen unseen

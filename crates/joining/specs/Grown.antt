@@ -1,6 +1,5 @@
 -- What absorbing keeps: the form stays in its place, its counts do not fall and keep to their room, and no word changes but rows and nodes behind the counts.
 use mathlib.Core.Path.{_≡_, refl, ap, _∙_}
-use mathlib.Core.Logic.{_⊎_, inl, inr, ⊎-elim}
 use mathlib.Core.Bool.{Bool, true, false}
 use mathlib.Core.List.{List}
 use Prim.Native.Nat.{ℕ, zero, suc, _+_, _*_, _≤_, _<_}
@@ -14,7 +13,8 @@ use Rattle.forms.specs.declared.Form.{Form}
 use Rattle.forms.specs.declared.EquationRow.{EquationRow}
 use Rattle.forms.specs.Memory.{Kept, KeptTwo}
 use Rattle.forms.specs.Forms.{equation-row-at}
-use Rattle.forms.specs.FormLaws.{kept-all, kept-wider, kept-then, kept-set, kept-sets, kept-is-two, kept-two-then, kept-two-swap}
+use Rattle.forms.specs.FormLaws.{kept-all, kept-set, kept-sets}
+use Rattle.frames.specs.Changes.{onward, wider, at-first, at-second, onward-two, wider-two}
 use Rattle.joining.specs.declared.Notes.{Notes}
 use Rattle.joining.specs.Joined.{renode, copied, has-equation, equation-words, with-counts, Out, out, settled, joined-row, joined}
 
@@ -23,9 +23,7 @@ unfolding copied
 copy-kept w v h a b zero = kept-all b (b + 0) w
 copy-kept w v h a b (suc c) =
     let w₁ = set w b (renode w v h (getD w a 0)) in
-    let k = kept-wider b (b + 1) b (b + suc c) w w₁ (omega arith) (omega arith) (kept-set w b (renode w v h (getD w a 0))) in
-    let l = kept-wider (suc b) (suc b + c) b (b + suc c) w₁ (copied w₁ v h (suc a) (suc b) c) (omega arith) (omega arith) (copy-kept w₁ v h (suc a) (suc b) c) in
-    kept-then b (b + suc c) w w₁ (copied w₁ v h (suc a) (suc b) c) k l
+    onward (wider (omega arith) (kept-set w b (renode w v h (getD w a 0)))) (wider (omega arith) (copy-kept w₁ v h (suc a) (suc b) c))
 
 -- the words that may change when f grows to its room
 abbrev pub Behind : Notes → Form → List ℕ → List ℕ → Type 0
@@ -50,28 +48,22 @@ module _ (o : Notes) where
     more-nodes = omega arith;
     few-equations = λ h. h;
     few-nodes = λ h. h;
-    kept = kept-is-two _ _ _ _ w w (kept-all _ _ w);
-  }
-
-  wider : (f g : Form) (w w′ : List ℕ) → g .equations ≡ f .equations → g .nodes ≡ f .nodes → f .«equation_count» ≤ g .«equation_count»
-      → f .«node_count» ≤ g .«node_count» → Behind o g w w′ → Behind o f w w′
-  wider f g w w′ e b h l k = record {
-    size = k .size;
-    kept = λ i p q. k .kept i (⊎-elim (λ x. inl (omega (arith, e, h))) (λ x. inr (omega (arith, e))) p)
-        (⊎-elim (λ x. inl (omega (arith, b, l))) (λ x. inr (omega (arith, b))) q);
+    kept = at-first (kept-all _ _ w);
   }
 
   grown-then : (f g h : Form) (w w₁ w₂ : List ℕ) → Grown o f w g w₁ → Grown o g w₁ h w₂ → Grown o f w h w₂
   unfolding with-counts
-  grown-then f g h w w₁ w₂ x y = record {
-    same = y .same ∙ ap (λ (z : Form). with-counts z (h .«equation_count») (h .«node_count»)) (x .same);
-    more-equations = omega (arith, x .more-equations, y .more-equations);
-    more-nodes = omega (arith, x .more-nodes, y .more-nodes);
-    few-equations = λ l. y .few-equations (x .few-equations l);
-    few-nodes = λ l. y .few-nodes (x .few-nodes l);
-    kept = kept-two-then _ _ _ _ w w₁ w₂ (x .kept)
-        (wider f g w₁ w₂ (ap (λ (z : Form). z .equations) (x .same)) (ap (λ (z : Form). z .nodes) (x .same)) (x .more-equations) (x .more-nodes) (y .kept));
-  }
+  grown-then f g h w w₁ w₂ x y =
+      let rows : g .equations ≡ f .equations = ap (λ (z : Form). z .equations) (x .same) in
+      let nodes : g .nodes ≡ f .nodes = ap (λ (z : Form). z .nodes) (x .same) in
+      record {
+        same = y .same ∙ ap (λ (z : Form). with-counts z (h .«equation_count») (h .«node_count»)) (x .same);
+        more-equations = omega (arith, x .more-equations, y .more-equations);
+        more-nodes = omega (arith, x .more-nodes, y .more-nodes);
+        few-equations = λ l. y .few-equations (x .few-equations l);
+        few-nodes = λ l. y .few-nodes (x .few-nodes l);
+        kept = onward-two (x .kept) (wider-two (omega (arith, rows, x .more-equations)) (omega (arith, nodes, x .more-nodes)) (y .kept));
+      }
 
   module _ (text : List ℕ) (t : ℕ) (f : Form) (q : EquationRow) (h : f .«equation_count» < o .«equation_room»)
       (fits : f .«node_count» + q .count ≤ o .«node_room») where
@@ -90,9 +82,7 @@ module _ (o : Notes) where
           more-nodes = omega arith;
           few-equations = λ l. omega arith;
           few-nodes = λ l. fits;
-          kept = kept-is-two _ _ _ _ w (more .work)
-              (kept-wider _ _ (f .equations + f .«equation_count» * 8) (f .equations + o .«equation_room» * 8) w (more .work) (omega arith) (omega arith)
-              (kept-sets (equation-words q (f .«node_count»)) w (f .equations + f .«equation_count» * 8)));
+          kept = at-first (wider (omega arith) (kept-sets (equation-words q (f .«node_count»)) w (f .equations + f .«equation_count» * 8)));
         }
 
   row-grown : (text : List ℕ) (t : ℕ) (w : List ℕ) (g : Form) (q : EquationRow) (f : Form)
@@ -110,15 +100,14 @@ module _ (o : Notes) where
       go true false d e =
           let l = ltb-false (o .«node_room») (f .«node_count» + q .count) e in
           let x = settled-grown text t f q (ltb-true (f .«equation_count») (o .«equation_room») d) l w₁ in
-          let k = kept-wider (f .nodes + f .«node_count») (f .nodes + f .«node_count» + q .count) (f .nodes + f .«node_count») (f .nodes + o .«node_room») w w₁ (omega arith) (omega arith)
-          (copy-kept w (o .visible) (o .hidden) (g .nodes + q .start) (f .nodes + f .«node_count») (q .count)) in
+          let copy = copy-kept w (o .visible) (o .hidden) (g .nodes + q .start) (f .nodes + f .«node_count») (q .count) in
           record {
             same = x .same;
             more-equations = x .more-equations;
             more-nodes = x .more-nodes;
             few-equations = x .few-equations;
             few-nodes = x .few-nodes;
-            kept = kept-two-then _ _ _ _ w w₁ (settled text t w₁ f q .work) (kept-two-swap _ _ _ _ w w₁ (kept-is-two _ _ _ _ w w₁ k)) (x .kept);
+            kept = onward-two (at-second (wider (omega (arith, l)) copy)) (x .kept);
           }
 
   -- all rows

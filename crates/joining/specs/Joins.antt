@@ -20,13 +20,14 @@ use Rattle.forms.specs.declared.Form.{Form}
 use Rattle.forms.specs.declared.EquationRow.{EquationRow}
 use Rattle.forms.specs.Memory.{part, Kept}
 use Rattle.forms.specs.Forms.{nodes-of, flat-equation, equation-row-at, EquationStands, EquationsStand, Pointing, Stands}
-use Rattle.forms.specs.FormLaws.{Apart, apart-within, kept-all, kept-wider, kept-then, kept-sets, kept-same, tape-same}
+use Rattle.forms.specs.FormLaws.{Apart, kept-all, kept-sets, kept-same}
 use Rattle.forms.specs.Blocks.{Outside}
 use Rattle.forms.specs.FullLists.{take-union}
-use Rattle.forms.specs.Frames.{Points, points-at, each-points, Stays, kept-stays, points-stay, node-stays, stands-kept}
+use Rattle.forms.specs.Frames.{Points, points-at, each-points, Stays, kept-stays, points-stay, node-stays}
+use Rattle.frames.specs.Changes.{onward, wider, apart-in, tape-kept, still-stands}
 use Rattle.joining.specs.declared.Notes.{Notes}
 use Rattle.joining.specs.Joined.{renode, copied, equation-words, with-counts, Out, out, settled, joined-row, joined}
-use Rattle.joining.specs.Grown.{copy-kept, joined-grown}
+use Rattle.joining.specs.Grown.{copy-kept}
 use Rattle.joining.specs.Found.{VisibleNoted, HiddenNoted, Copy, node-moved, node-pointed}
 use Rattle.joining.specs.Unions.{sum-within, every-after, take-union-then}
 use Rattle.joining.specs.More.{points-more, equations-after}
@@ -68,9 +69,6 @@ module _ (σ : Name → Name) (φ : Name → FunctionType → Name) (text : List
     abbrev tape-now : List ℕ
     tape-now = part w 0 t
 
-    tape-kept : (w′ : List ℕ) → Kept (f .equations) high w w′ → part w′ 0 t ≡ tape-now
-    tape-kept w′ k = tape-same w w′ t (k .size) (λ i h l. k .below i (omega (arith, joining .tape)))
-
     -- it goes on while only rows and nodes of f change, and f stands for something
     kept-joining : (w′ : List ℕ) (n m : ℕ) (to′ : Normal) → Kept (f .equations) high w w′ → n ≤ o .«equation_room»
         → Stands text (part w′ 0 t) w′ (with-counts f n m) to′ → Joining σ φ text t w′ o g (with-counts f n m) from to′
@@ -78,13 +76,13 @@ module _ (σ : Name → Name) (φ : Name → FunctionType → Name) (text : List
     kept-joining w′ n m to′ k l s =
         let low = f .equations in
         record {
-          source = stands-kept text t w w′ low high g from (joining .tape) k (joining .outside-source) (joining .source);
+          source = still-stands (joining .tape) k (joining .outside-source) (joining .source);
           target = s;
-          visible-noted = subst (λ (tape : List ℕ). VisibleNoted σ φ text tape w′ o g f) (sym (tape-kept w′ k))
+          visible-noted = subst (λ (tape : List ℕ). VisibleNoted σ φ text tape w′ o g f) (sym (tape-kept (joining .tape) k))
               (noted-stays σ φ text tape-now w w′ true (o .visible) (g .visible) (g .«visible_count») (f .visible) (f .«visible_count»)
               (kept-same low high _ _ w w′ (joining .outside-visible-notes) k) (kept-same low high _ _ w w′ (joining .outside-source .visible) k)
               (kept-same low high _ _ w w′ (joining .outside-visible) k) (joining .visible-noted));
-          hidden-noted = subst (λ (tape : List ℕ). HiddenNoted σ φ text tape w′ o g f) (sym (tape-kept w′ k))
+          hidden-noted = subst (λ (tape : List ℕ). HiddenNoted σ φ text tape w′ o g f) (sym (tape-kept (joining .tape) k))
               (noted-stays σ φ text tape-now w w′ false (o .hidden) (g .hidden) (g .«hidden_count») (f .hidden) (f .«hidden_count»)
               (kept-same low high _ _ w w′ (joining .outside-hidden-notes) k) (kept-same low high _ _ w w′ (joining .outside-source .hidden) k)
               (kept-same low high _ _ w w′ (joining .outside-hidden) k) (joining .hidden-noted));
@@ -107,9 +105,9 @@ module _ (σ : Name → Name) (φ : Name → FunctionType → Name) (text : List
         → Apart a e (f .nodes) (f .nodes + m) → Outside a e (with-counts f (f .«equation_count») m)
     unfolding with-counts
     outside-part a e m h l r p = record {
-      parameters = apart-within (f .equations) high a e _ _ h l (joining .outside-parameters);
-      visible = apart-within (f .equations) high a e _ _ h l (joining .outside-visible);
-      hidden = apart-within (f .equations) high a e _ _ h l (joining .outside-hidden);
+      parameters = apart-in (record { first = h; last = l }) (joining .outside-parameters);
+      visible = apart-in (record { first = h; last = l }) (joining .outside-visible);
+      hidden = apart-in (record { first = h; last = l }) (joining .outside-hidden);
       equations = inl r;
       nodes = p;
     }
@@ -136,8 +134,7 @@ module _ (σ : Name → Name) (φ : Name → FunctionType → Name) (text : List
             omega (arith, many, joining .target .node-count, joining .target .equation-count, source-count, small, free, joining .enough)
 
         copy-wide : (u : List ℕ) → Kept to-place (to-place + q .count) w u → Kept (f .equations) high w u
-        copy-wide u k =
-            kept-wider to-place (to-place + q .count) (f .equations) high w u (omega (arith, joining .rows)) (omega (arith, fits)) k
+        copy-wide u k = wider (omega (arith, joining .rows, fits)) k
 
         word-points : (i : ℕ) → i < q .count → Points text tape-now w g (getD w (from-place + i) 0)
         word-points i h =
@@ -160,7 +157,7 @@ module _ (σ : Name → Name) (φ : Name → FunctionType → Name) (text : List
         copied-kept = copy-kept w (o .visible) (o .hidden) from-place to-place (q .count)
 
         tape-copied : part copy-of 0 t ≡ tape-now
-        tape-copied = tape-kept copy-of (copy-wide copy-of copied-kept)
+        tape-copied = tape-kept (joining .tape) (copy-wide copy-of copied-kept)
 
         outside-copy : Outside to-place (to-place + q .count) f
         unfolding with-counts
@@ -170,8 +167,7 @@ module _ (σ : Name → Name) (φ : Name → FunctionType → Name) (text : List
 
         target-copied : Stands text (part copy-of 0 t) copy-of f to
         target-copied =
-            stands-kept text t w copy-of to-place (to-place + q .count) f to
-            (omega (arith, joining .tape, joining .rows)) copied-kept outside-copy (joining .target)
+            still-stands {t = t} (omega (arith, joining .tape, joining .rows)) copied-kept outside-copy (joining .target)
 
         word-pointed : (i : ℕ) → i < q .count → Points text tape-now w f (renode w (o .visible) (o .hidden) (getD w (from-place + i) 0))
         word-pointed i h =
@@ -226,9 +222,8 @@ module _ (σ : Name → Name) (φ : Name → FunctionType → Name) (text : List
             let b = f .equations + f .«equation_count» * 8 in
             let w₁ = copy-of in
             let w₂ = with-row copy-of f q in
-            let row = kept-wider b (b + 6) (f .equations) high w₁ w₂ (omega arith) (omega (arith, joining .rows, free))
-            (kept-sets (equation-words q (f .«node_count»)) w₁ b) in
-            let kept = kept-then (f .equations) high w w₁ w₂ (copy-wide w₁ copied-kept) row in
+            let row : Kept (f .equations) high w₁ w₂ = wider (omega (arith, joining .rows, free)) (kept-sets (equation-words q (f .«node_count»)) w₁ b) in
+            let kept = onward (copy-wide w₁ copied-kept) row in
             let count = run-count text (part w₁ 0 t) w₁ f to-place (q .count) y (copy-meant .fits) (copy-meant .nodes) in
             let grown = grown-stands text t w₁ f q y copy-meant to target-copied
             (stands .tag) (stands .conditions ∙ sym (length-map (e .conditions) (move-sides σ φ)))
@@ -239,7 +234,7 @@ module _ (σ : Name → Name) (φ : Name → FunctionType → Name) (text : List
             kept (omega (arith, free))
             (subst (λ (es : List ResolvedEquation). Stands text (part w₂ 0 t) w₂ (with-more f q) (with-equations to es))
             (sym (take-all (o .«equation_room») (ds ++ (y ∷ [])) (omega (arith, length-append ds (y ∷ []), joining .target .equation-count, free))))
-            (subst (λ (tape : List ℕ). Stands text tape w₂ (with-more f q) (with-equations to (ds ++ (y ∷ [])))) (tape-copied ∙ sym (tape-kept w₂ kept)) grown))
+            (subst (λ (tape : List ℕ). Stands text tape w₂ (with-more f q) (with-equations to (ds ++ (y ∷ [])))) (tape-copied ∙ sym (tape-kept (joining .tape) kept)) grown))
 
         -- a row that is there
         old-joining : Then to (out f copy-of) (take (o .«equation_room») (to .hidden .equations))
@@ -306,20 +301,10 @@ module _ (σ : Name → Name) (φ : Name → FunctionType → Name) (text : List
   united-all = take (o .«equation_room») (union one-equation (to .hidden .equations) (map (move-equation σ φ) (from .hidden .equations)))
 
   -- the source still stands, and the notes are still right
-  pub joined-joining : Joining σ φ text t (result .work) o g (result .form) from (with-equations to united-all)
+  joined-joining : Joining σ φ text t (result .work) o g (result .form) from (with-equations to united-all)
   joined-joining =
       subst (λ (c : ℕ). Joining σ φ text t (joined text t w g 0 c o f .work) o g (joined text t w g 0 c o f .form) from (with-equations to united-all))
       (sym (joining .source .equation-count)) (rows-joining σ φ text t o g from 0 [] (from .hidden .equations) refl refl w f to joining)
 
   pub joined-stands : Stands text (part (result .work) 0 t) (result .work) (result .form) (with-equations to united-all)
   joined-stands = joined-joining .target
-
-  -- only words of the rows and nodes of f changed
-  pub joined-kept : Kept (f .equations) (f .nodes + o .«node_room») w (result .work)
-  joined-kept =
-      let k = joined-grown o text t w g 0 (g .«equation_count») f .kept in
-      record {
-        size = k .size;
-        below = λ i h. k .kept i (inl (omega arith)) (inl (omega (arith, joining .rows)));
-        above = λ i h. k .kept i (inr (omega (arith, joining .rows))) (inr (omega arith));
-      }

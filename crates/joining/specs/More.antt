@@ -1,16 +1,16 @@
 -- A form with more nodes, and with a row more.
 use mathlib.Core.Path.{_≡_, sym, ap, _∙_, subst}
 use mathlib.Core.List.{List, [], _∷_, _++_}
-use Prim.Native.Nat.{ℕ, zero, suc, _+_, _*_, _≤_, _<_}
+use Prim.Native.Nat.{ℕ, suc, _+_, _*_, _≤_, _<_}
 use native.Mathlib.Omega.{arith}
-use lib.ListN.{length, getD, set, length-set}
-use lib.Seq.{sets, getD-set-same}
+use lib.ListN.{length, getD}
+use lib.Seq.{sets}
 use Rattle.meaning.specs.Origins.{ResolvedEquation}
 use Rattle.forms.specs.declared.Form.{Form}
 use Rattle.forms.specs.declared.EquationRow.{EquationRow}
 use Rattle.forms.specs.Forms.{nodes-of, node-item, equation-row-at, EquationStands, EquationsStand}
-use Rattle.forms.specs.FormLaws.{kept-sets}
 use Rattle.forms.specs.Frames.{Points}
+use Rattle.frames.specs.Changes.{stored}
 use Rattle.joining.specs.Joined.{equation-words, with-counts}
 
 -- ---- other counts
@@ -41,15 +41,6 @@ module _ (text tape w : List ℕ) (f : Form) (n m : ℕ) where
   equations-more b (e ∷ es) more s = (equation-more (equation-row-at w b) e more (s .0), equations-more (b + 8) es more (s .1))
 
 -- ---- a row more
-
-stored : (w : List ℕ) (b : ℕ) (vs : List ℕ) (i : ℕ) → i < length vs → b + length vs ≤ length w → getD (sets w b vs) (b + i) 0 ≡ getD vs i 0
-stored w b [] i h l = absurd (omega arith)
-stored w b (v ∷ vs) zero h l =
-    let z : b + 0 ≡ b = omega arith in
-    ap (λ (j : ℕ). getD (sets (set w b v) (suc b) vs) j 0) z ∙ kept-sets vs (set w b v) (suc b) .below b (omega arith) ∙ getD-set-same w b v 0 (omega arith)
-stored w b (v ∷ vs) (suc i) h l =
-    let z : b + suc i ≡ suc b + i = omega arith in
-    ap (λ (j : ℕ). getD (sets (set w b v) (suc b) vs) j 0) z ∙ stored (set w b v) (suc b) vs i (omega arith) (omega (arith, length-set w b v))
 
 -- a row that is written is read back
 pub row-back : (w : List ℕ) (b : ℕ) (q : EquationRow) (start : ℕ) → b + 6 ≤ length w

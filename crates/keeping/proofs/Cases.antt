@@ -1,16 +1,18 @@
 -- One law for each way through the code.
-use mathlib.Core.Path.{_≡_, refl, sym, ap, _∙_}
-use mathlib.Core.Logic.{_⊎_, inl, inr, ⊎-elim}
+use mathlib.Core.Path.{_≡_, _∙_}
+use mathlib.Core.Logic.{⊎-elim}
 use mathlib.Core.List.{List, [], _∷_}
-use Prim.Native.Nat.{ℕ, zero, suc, _+_, _*_, _≤_, _<_}
+use Prim.Native.Nat.{ℕ, suc, _+_, _*_, _≤_, _<_}
 use native.Mathlib.Omega.{arith}
+use native.Mathlib.Nat.{eq-or-lt-of-le}
 use native.Mathlib.Numerals.{add-one, add-two}
 use borrow.Author.Needs.{needs}
 use lib.ListN.{length, getD, set}
 use lib.Seq.{sets}
 use Rattle.forms.specs.declared.Form.{Form}
 use Rattle.forms.specs.Memory.{Kept}
-use Rattle.forms.specs.FormLaws.{kept-all, kept-wider, kept-then, kept-sets}
+use Rattle.forms.specs.FormLaws.{kept-all, kept-sets}
+use Rattle.frames.specs.Changes.{onward, wider}
 use Rattle.keeping.specs.Keeping.{form-at, form-words, nothing-at, Cleared, form-back, form-same}
 
 pub form-read : (w : List ℕ) (b p pn v vn h hn e en s sn : ℕ) → p ≡ getD w b 0 → pn ≡ getD w (b + 1) 0 → v ≡ getD w (b + 2) 0 → vn ≡ getD w (b + 3) 0
@@ -50,22 +52,6 @@ form-written w w₁ w₂ w₃ table k b f e c₁ c₂ c₃ =
     let a₈ : b + 8 ≡ suc (suc (suc (suc (suc (suc (suc (suc b))))))) = omega arith in
     rw (← e, c₃, c₂, c₁, a₄, a₈)
 
-pub has-nothing : (kept : ℕ) → record {
-  parameters = kept;
-  «parameter_count» = 0;
-  visible = kept;
-  «visible_count» = 0;
-  hidden = kept;
-  «hidden_count» = 0;
-  equations = kept;
-  «equation_count» = 0;
-  nodes = kept;
-  «node_count» = 0;
-}
-    ≡ nothing-at kept
-unfolding nothing-at
-has-nothing kept = refl
-
 -- ---- clearing
 
 -- k of n rows have nothing
@@ -83,12 +69,6 @@ cleared-none table n start w f room e = record {
   cleared = record { rows = λ k h. absurd (omega arith); kept = kept-all table (table + 0 * 16) w };
 }
 
-one-of : (j k : ℕ) → j < k + 1 → (j < k) ⊎ (j ≡ k)
-one-of zero zero h = inr refl
-one-of zero (suc k) h = inl (omega arith)
-one-of (suc j) zero h = absurd (omega arith)
-one-of (suc j) (suc k) h = ⊎-elim (λ l. inl (omega arith)) (λ l. inr (ap suc l)) (one-of j k (omega arith))
-
 pub cleared-one : (table n k start : ℕ) (w w₁ w₂ : List ℕ) (f : Form) → k < n → w₂ ≡ sets w₁ (table + k * 16) (form-words f)
     → Clearing table n start w w₁ k f → Clearing table n start w w₂ (k + 1) f
 unfolding form-words
@@ -103,12 +83,10 @@ cleared-one table n k start w w₁ w₂ f less put s =
       nothing = s .nothing;
       cleared = record {
         rows = λ j h. ⊎-elim
-            (λ (l : j < k). form-same w₁ w₂ (table + j * 16) (λ i p q. here .below i (omega arith)) ∙ c .rows j l)
             (λ (l : j ≡ k). rw (l, put) (form-back w₁ b f (omega (arith, size, s .room)) ∙ s .nothing))
-            (one-of j k h);
-        kept = kept-then table (table + (k + 1) * 16) w w₁ w₂
-            (kept-wider table (table + k * 16) table (table + (k + 1) * 16) w w₁ (omega arith) (omega arith) (c .kept))
-            (kept-wider b (b + 10) table (table + (k + 1) * 16) w₁ w₂ (omega arith) (omega arith) here);
+            (λ (l : j < k). form-same w₁ w₂ (table + j * 16) (λ i p q. here .below i (omega arith)) ∙ c .rows j l)
+            (eq-or-lt-of-le {n = j} {m = k} (omega arith));
+        kept = onward (wider (omega arith) (c .kept)) (wider (omega arith) here);
       };
     }
 
@@ -121,16 +99,8 @@ cleared-all table n start k w w₁ f h s =
 pub cleared-size : (table n start k : ℕ) (w w₁ : List ℕ) (f : Form) → Clearing table n start w w₁ k f → length w₁ ≡ length w
 cleared-size table n start k w w₁ f s = s .cleared .kept .size
 
-pub ruleset cases = (
-  form-read,
-  form-placed,
-  two-put,
-  four-put,
-  form-written,
-  has-nothing,
-  cleared-none,
-  cleared-one,
-  cleared-all,
-  cleared-size,
-  needs,
-)
+pub ruleset forms = (form-read, form-placed, two-put, four-put, form-written)
+
+pub ruleset clearing = (cleared-none, cleared-one, cleared-all, cleared-size)
+
+pub ruleset cases = (forms, clearing, needs)

@@ -1,13 +1,13 @@
 -- The table of kept normal forms: where each is, and that rows which are written are read back.
-use mathlib.Core.Path.{_≡_, refl, sym, ap, _∙_}
-use Prim.Native.Nat.{ℕ, zero, suc, _+_, _*_, _≤_, _<_}
+use mathlib.Core.Path.{_≡_, sym, ap, _∙_}
+use Prim.Native.Nat.{ℕ, _+_, _*_, _≤_, _<_}
 use mathlib.Core.List.{List, [], _∷_}
 use native.Mathlib.Omega.{arith}
-use lib.ListN.{length, getD, set, length-set}
-use lib.Seq.{sets, getD-set-same}
+use lib.ListN.{length, getD}
+use lib.Seq.{sets}
 use Rattle.forms.specs.declared.Form.{Form}
 use Rattle.forms.specs.Memory.{Same, Kept}
-use Rattle.forms.specs.FormLaws.{kept-sets}
+use Rattle.frames.specs.Changes.{stored}
 
 -- the form whose words begin at b
 unfoldable pub form-at : List ℕ → ℕ → Form
@@ -49,15 +49,6 @@ pub record Cleared (table n start : ℕ) (w w′ : List ℕ) : Type 0 where
   pub kept : Kept table (table + n * 16) w w′
 
 -- ---- a row that is written is read back, and others stay
-
-stored : (w : List ℕ) (b : ℕ) (vs : List ℕ) (i : ℕ) → i < length vs → b + length vs ≤ length w → getD (sets w b vs) (b + i) 0 ≡ getD vs i 0
-stored w b [] i h l = absurd (omega arith)
-stored w b (v ∷ vs) zero h l =
-    let z : b + 0 ≡ b = omega arith in
-    ap (λ (j : ℕ). getD (sets (set w b v) (suc b) vs) j 0) z ∙ kept-sets vs (set w b v) (suc b) .below b (omega arith) ∙ getD-set-same w b v 0 (omega arith)
-stored w b (v ∷ vs) (suc i) h l =
-    let z : b + suc i ≡ suc b + i = omega arith in
-    ap (λ (j : ℕ). getD (sets (set w b v) (suc b) vs) j 0) z ∙ stored (set w b v) (suc b) vs i (omega arith) (omega (arith, length-set w b v))
 
 pub form-back : (w : List ℕ) (b : ℕ) (f : Form) → b + 10 ≤ length w → form-at (sets w b (form-words f)) b ≡ f
 unfolding form-at form-words

@@ -1,8 +1,7 @@
 -- The layout of the working memory, in numbers: docs/MEMORY.md has it as a table. Every size follows from those of document 01.
-use mathlib.Core.Path.{_≡_}
 use Prim.Native.Nat.{ℕ, _+_, _*_, _≤_}
 use native.Mathlib.Omega.{arith}
-use Rattle.meaning.specs.Numbers.{text-size, module-limit, parameter-room, item-room, equation-room, item-total, equation-total, node-total, node-limit, memory-size}
+use Rattle.meaning.specs.Numbers.{module-limit, parameter-room, item-total, equation-total, node-total, memory-size}
 use Rattle.forms.specs.declared.Block.{Block}
 use Rattle.forms.specs.Blocks.{BlockLaid}
 
@@ -33,21 +32,7 @@ pub block-laid : (size t low names rows hidden-rows equations sources : ℕ) →
     → low + block-span names rows hidden-rows equations sources ≤ 1073741824
     → BlockLaid size t (block-at low names rows hidden-rows equations sources) names rows hidden-rows sources
 unfolding block-at
-block-laid size t low names rows hidden-rows equations sources h within small = record {
-  tape = h;
-  first = omega arith;
-  parameters = omega arith;
-  visible = omega arith;
-  hidden = omega arith;
-  equations = omega arith;
-  nodes = omega arith;
-  enough = omega arith;
-  visible-notes = omega arith;
-  hidden-notes = omega arith;
-  order = omega arith;
-  within = omega arith;
-  small = omega arith;
-}
+block-laid size t low names rows hidden-rows equations sources h within small = omega arith
 
 -- ---- the blocks
 

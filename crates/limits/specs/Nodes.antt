@@ -1,4 +1,4 @@
--- How many nodes an equation has as it is read, and that it has no more when it is typed.
+-- An equation has no more nodes when it is typed than as it is read.
 use mathlib.Core.Option.{Option, none, some}
 use mathlib.Core.List.{List, [], _∷_}
 use Prim.Native.Nat.{ℕ, _+_, _≤_}
@@ -12,21 +12,8 @@ use Rattle.meaning.specs.Normal.{is-called}
 use Rattle.meaning.specs.Checks.{Outcome, fine, stop, _>>=_, term-nodes, terms-nodes, sides-nodes, equation-nodes}
 use Rattle.meaning.specs.Typing.{Typed, TypedList, of-shape, found-with, no-arguments, takes, is-variable, joined-typed, equated, joined-sides, made-equation, applied, alone, with-arguments, typed, typed-list, typed-sides, typed-conditions, typed-equations}
 use Rattle.meaning.specs.OrderLaws.{Every}
-
--- a name is a node
-unfoldable mutual
-  pub source-nodes : Term → ℕ
-  source-nodes (node f ts) = 1 + all-source-nodes ts
-
-  pub all-source-nodes : Terms → ℕ
-  all-source-nodes no-terms = 0
-  all-source-nodes (t then ts) = source-nodes t + all-source-nodes ts
-
-unfoldable pub source-sides : Sides → ℕ
-source-sides s = source-nodes (s .left) + source-nodes (s .right)
-
-unfoldable pub source-equation : Equation → ℕ
-source-equation e = source-sides (e .conclusion) + sum source-sides (conditions-of e)
+use Rattle.laws.specs.Reading.{source-nodes, all-source-nodes, source-sides}
+unfoldable pub use Rattle.laws.specs.Reading.{source-equation}
 
 -- ---- typed, there are at most n nodes
 

@@ -3,7 +3,7 @@ use mathlib.Core.Path.{_≡_, refl, sym, ap, _∙_}
 use mathlib.Core.Logic.{inl}
 use mathlib.Core.Bool.{Bool, true, false, _&&_, false≢true}
 use mathlib.Core.List.{List, []}
-use Prim.Native.Nat.{ℕ, zero, suc, _+_, _*_, _≤_}
+use Prim.Native.Nat.{ℕ, zero, suc, _+_, _≤_}
 use native.Mathlib.Omega.{arith}
 use lib.Dec.{leb}
 use lib.ListN.{length}
@@ -21,10 +21,10 @@ use Rattle.forms.specs.declared.Verdict.{Verdict}
 use Rattle.forms.specs.declared.Verdict.the-variants.{Fine, Stop}
 use Rattle.forms.specs.Memory.{part, Kept}
 use Rattle.forms.specs.Forms.{slots-at, visible-at, Stands}
-use Rattle.forms.specs.FormLaws.{kept-wider, length-items}
-use Rattle.forms.specs.Frames.{stands-kept}
-use Rattle.forms.specs.Blocks.{BlockLaid, Lies, Outside, Makes, MadeIn}
+use Rattle.forms.specs.FormLaws.{length-items}
+use Rattle.forms.specs.Blocks.{BlockLaid, Lies, Fits, Makes, MadeIn}
 use Rattle.forms.specs.Verdicts.{culprit-of, nobody-of, told}
+use Rattle.frames.specs.Changes.{wider, outside, still-stands}
 use Rattle.checks.specs.Consistent.{nobody, Laid, Checked}
 use Rattle.making.specs.Made.{makes-as, stops, goes-on}
 
@@ -67,23 +67,23 @@ pub and-true : (a b : Bool) → (a && b) ≡ true → (a ≡ true) × (b ≡ tru
 and-true true b e = (refl, e)
 and-true false b e = absurd (false≢true e)
 
+pub enough-fits : (f : Form) → enough f ≡ true → Fits f
+unfolding enough
+enough-fits f e =
+    let last = and-true _ _ e in
+    let front = and-true _ _ (last .0) in
+    record {
+      parameters = leb-true (f .«parameter_count») parameter-room (front .0);
+      items = leb-true (f .«visible_count» + f .«hidden_count») item-room (front .1);
+      equations = leb-true (f .«equation_count») equation-room (last .1);
+    }
+
 fitting-in : (b : Block) (f : Form) → Lies b f → f .«node_count» ≤ b .«node_room» → MadeIn b (fitting f)
-unfolding fitting enough pick
+unfolding fitting pick
 fitting-in b f l nodes = go (enough f) refl
   where
     go : (c : Bool) → enough f ≡ c → MadeIn b (pick c (Done f) (Refused no-room nobody))
-    go true e =
-        let last = and-true _ _ e in
-        let front = and-true _ _ (last .0) in
-        record {
-          lies = l;
-          fits = record {
-            parameters = leb-true (f .«parameter_count») parameter-room (front .0);
-            items = leb-true (f .«visible_count» + f .«hidden_count») item-room (front .1);
-            equations = leb-true (f .«equation_count») equation-room (last .1);
-          };
-          nodes = nodes;
-        }
+    go true e = record { lies = l; fits = enough-fits f e; nodes = nodes }
     go false e = tt
 
 fitting-made : (text tape w : List ℕ) (f : Form) (n : Normal) → Stands text tape w f n → Makes text tape w (fitting f) (fits (enough f) >> fine n)
@@ -94,63 +94,20 @@ fitting-made text tape w f n s = go (enough f)
     go true = s
     go false = (refl, nobody-of text)
 
--- a form that lies in a block ends before its order table
-pub record Ends (f : Form) (at : ℕ) : Type 0 where
-  pub parameters : f .parameters + f .«parameter_count» * 2 ≤ at
-  pub visible : f .visible + f .«visible_count» * 16 ≤ at
-  pub hidden : f .hidden + f .«hidden_count» * 16 ≤ at
-  pub equations : f .equations + f .«equation_count» * 8 ≤ at
-  pub nodes : f .nodes + f .«node_count» ≤ at
-
-pub ends-outside : (f : Form) (low high : ℕ) → Ends f low → Outside low high f
-ends-outside f low high e = record {
-  parameters = inl (e .parameters);
-  visible = inl (e .visible);
-  hidden = inl (e .hidden);
-  equations = inl (e .equations);
-  nodes = inl (e .nodes);
-}
-
 module _ (size t : ℕ) (f : Form) (b : Block) (c : CheckRoom size t f b) where
-  pub before-order : Ends f (b .order)
-  before-order =
-      let l = c .laid in
-      let i = c .lies in
-      record {
-        parameters = omega (arith, l .parameters, l .visible, l .hidden, l .equations, l .nodes, l .visible-notes, l .hidden-notes, i .parameters, c .parameters);
-        visible = omega (arith, l .visible, l .hidden, l .equations, l .nodes, l .visible-notes, l .hidden-notes, i .visible, c .visible);
-        hidden = omega (arith, l .hidden, l .equations, l .nodes, l .visible-notes, l .hidden-notes, i .hidden, c .hidden);
-        equations = omega (arith, l .equations, l .nodes, l .visible-notes, l .hidden-notes, i .equations, c .equations);
-        nodes = omega (arith, l .nodes, l .visible-notes, l .hidden-notes, i .nodes, c .nodes);
-      }
-
   tape-order : t ≤ b .order
-  tape-order =
-      let l = c .laid in
-      omega (arith, l .tape, l .first, l .parameters, l .visible, l .hidden, l .equations, l .nodes, l .visible-notes, l .hidden-notes)
+  tape-order = omega arith
 
   pub order-laid : Laid size t (f .parameters) (f .«parameter_count») (f .visible) (f .«visible_count») (b .order)
   order-laid =
-      let l = c .laid in
-      record {
-        tape = tape-order;
-        parameters = inl (before-order .parameters);
-        rows = inl (before-order .visible);
-        place = omega (arith, before-order .visible, l .order, l .small);
-        room = omega (arith, c .parameters, c .visible, l .order, l .within);
-      }
+      record { tape = tape-order; parameters = inl (omega arith); rows = inl (omega arith); place = omega arith; room = omega arith }
 
   module _ (text w w′ : List ℕ) (v : Verdict) (k : Checked text w w′ t (f .parameters) (f .«parameter_count») (f .visible) (f .«visible_count») (b .order) v) where
     narrow : Kept (b .order) (b .high) w w′
-    narrow =
-        let l = c .laid in
-        kept-wider (b .order) (b .order + (f .«parameter_count» + f .«visible_count»)) (b .order) (b .high) w w′ (omega arith) (omega (arith, c .parameters, c .visible, l .order)) (k .kept)
+    narrow = wider (omega arith) (k .kept)
 
     block-kept : Kept (b .low) (b .high) w w′
-    block-kept =
-        let l = c .laid in
-        kept-wider (b .order) (b .high) (b .low) (b .high) w w′
-        (omega (arith, l .first, l .parameters, l .visible, l .hidden, l .equations, l .nodes, l .visible-notes, l .hidden-notes)) (omega arith) narrow
+    block-kept = wider (omega arith) narrow
 
     -- 15, 10, 11
     verdict-meant : (n : Normal) → Stands text (part w 0 t) w f n → consistent (n .visible) [] ≡ told text v
@@ -188,5 +145,5 @@ module _ (size t : ℕ) (f : Form) (b : Block) (c : CheckRoom size t f b) where
           made = λ n s.
               makes-as text (part w′ 0 t) w′ (fitting f) (fits (enough f) >> fine n) (checked n)
               (goes-on (consistent (n .visible) []) (room n >> fine n) (verdict-meant n s ∙ ap (told text) e) ∙ ap (λ (o : Check). o >> fine n) (room-meant n s))
-              (fitting-made text (part w′ 0 t) w′ f n (stands-kept text t w w′ (b .order) (b .high) f n tape-order narrow (ends-outside f (b .order) (b .high) before-order) s));
+              (fitting-made text (part w′ 0 t) w′ f n (still-stands tape-order narrow (outside (omega (arith, c))) s));
         })

@@ -79,13 +79,6 @@ module _ (text : List ℕ) (n : ℕ) (before : List Name) (t : List ℕ) (h : mi
 
 -- ---- from the one reading to the other
 
--- the model has read the modules ms, to the state s
-pub record Read (text : List ℕ) (ms : List Module) (s : State) (t : List ℕ) (o : Out) : Type 0 where
-  pub end : Place
-  pub answered : o .answer ≡ Done end
-  pub stands : state end ≡ s
-  pub says : Says text ms t end (o .tape)
-
 -- the grammar has read modules, to the place p, and the tape u says them
 pub record Meant (text t : List ℕ) (p : Place) (u : List ℕ) (r : Result (List Module)) : Type 0 where
   pub modules : List Module
@@ -93,19 +86,6 @@ pub record Meant (text t : List ℕ) (p : Place) (u : List ℕ) (r : Result (Lis
   pub says : Says text modules t p u
 
 module _ {text t : List ℕ} where
-  told-read : (ms : List Module) (s : State) (o : Out) (r : Result (List Module)) → Agree text t o r → r ≡ done ms s → Read text ms s t o
-  told-read ms s o r (both-read ns p u w) e =
-      let same : ns ≡ ms = cc in
-      record { end = p; answered = refl; stands = cc; says = rw same at w }
-  told-read ms s o r (both-refuse k q) e =
-      let never : false ≡ true = cc in
-      absurd (false≢true never)
-
-  told-refused : (k q : ℕ) (o : Out) (r : Result (List Module)) → Agree text t o r → r ≡ refused k q
-      → o ≡ out (Refused k q) (replicate (length t) 0)
-  told-refused k q o r (both-read ns p u w) e = cc
-  told-refused k q o r (both-refuse m n) e = cc
-
   means-read : (p : Place) (o : Out) (r : Result (List Module)) → Agree text t o r → o .answer ≡ Done p → Meant text t p (o .tape) r
   means-read p o r (both-read ns q u w) e =
       let same : q ≡ p = cc in
@@ -119,12 +99,6 @@ module _ {text t : List ℕ} where
   means-refused k q o r (both-refuse m n) e = cc
 
 module _ (text : List ℕ) (n : ℕ) (before : List Name) (t : List ℕ) (h : min (length text) text-size ≤ length t) where
-  pub read-done : (ms : List Module) (s : State) → Grammar.read text n before ≡ done ms s → Read text ms s t (Model.read text n before t)
-  read-done ms s e = told-read ms s _ _ (read-meant text n before t h) e
-
-  pub read-refused : (k q : ℕ) → Grammar.read text n before ≡ refused k q → Model.read text n before t ≡ out (Refused k q) (replicate (length t) 0)
-  read-refused k q e = told-refused k q _ _ (read-meant text n before t h) e
-
   pub done-meant : (p : Place) → Model.read text n before t .answer ≡ Done p → Meant text t p (Model.read text n before t .tape) (Grammar.read text n before)
   done-meant p e = means-read p _ _ (read-meant text n before t h) e
 

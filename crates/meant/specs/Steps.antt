@@ -17,7 +17,6 @@ use Rattle.meaning.specs.Numbers.{text-size, name-size, over-size, other-end}
 use Rattle.meaning.specs.Tokens.{token-at, ident, operator}
 use Rattle.meaning.specs.Grammar.{State, done, Parser, after, _>>=_, return, is, is-name}
 use Rattle.meaning.specs.Grammar
-use Rattle.meaning.specs.GrammarLaws.{at}
 use Rattle.names.specs.Word.{plain-form, in-form, token-of, name-of, name-slice, plain-name, no-name}
 use Rattle.names.proofs.Compared.{same-lengths}
 use Rattle.tokens.proofs.Bounds.{token-after, token-forward, token-within, token-filled}
@@ -216,7 +215,7 @@ module _ {text : List ℕ} where
     short-named : leb (p .token .end - p .token .start) name-size ≡ true → p .token .start < p .token .end
         → Matches text 0 0 (λ n s es. Named text (p .token) form role n s es) p t
         ((Model.as-entry role (word-in form (p .token)) >> Model.step text) p t)
-        (done (slice text (p .token .start) (p .token .end)) (at (token-at text (p .token .end)) (p .nodes)))
+        (done (slice text (p .token .start) (p .token .end)) (record { token = token-at text (p .token .end); nodes = p .nodes }))
     unfolding Model.written Model.step _>>_ onward pick
     short-named l g =
         let m : p .entries < length t = omega (arith, r .room, r .long, ends-within r) in

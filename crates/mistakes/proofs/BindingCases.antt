@@ -5,21 +5,20 @@ use mathlib.Core.Bool.{Bool, true, false, not, _&&_}
 use mathlib.Core.List.{List, []}
 use native.Mathlib.Omega.{arith}
 use native.Mathlib.Numerals.{add-one}
-use lib.Dec.{eqb, ltb, leb}
-use lib.ListN.{getD}
+use lib.Dec.{ltb, leb}
 use borrow.Author.Needs.{needs}
-use borrow.Author.Tests.{eq-eqb, ne-eqb, eqb-false, lt-ltb, le-ltb}
+use borrow.Author.Tests.{eq-eqb, ne-eqb, lt-ltb, le-ltb}
 use Rattle.meaning.specs.Lists.{pick, any, before}
 use Rattle.meaning.specs.Names.{Name, member}
 use Rattle.meaning.specs.Syntax.{Pair}
-use Rattle.meaning.specs.Origins.{Sort, FunctionType, Shape, sort-shape, function-shape, variable-shape, Item, in-parameter}
-use Rattle.meaning.specs.Normal.{names-in, sorts-among, sort-names, is-called, move-shape, move-item}
+use Rattle.meaning.specs.Origins.{Shape, function-shape, Item, in-parameter}
+use Rattle.meaning.specs.Normal.{names-in, sort-names, is-called, move-shape, move-item}
 use Rattle.meaning.specs.Checks.{Check, _>>_, needs as refused-unless}
 use Rattle.meaning.specs.Clauses.{kind-right, type-right, all-right, pair-right, pairs-right}
 use Rattle.names.specs.Word.{name-of}
 use Rattle.tables.specs.declared.Row.{Row}
 use Rattle.tables.specs.Entries.{word-at}
-use Rattle.tables.specs.Rows.{sort-of, type-of, shape-of, item-of}
+use Rattle.tables.specs.Rows.{type-of, shape-of, item-of}
 use Rattle.forms.specs.declared.Form.{Form}
 use Rattle.forms.specs.declared.Culprit.{Culprit}
 use Rattle.forms.specs.declared.Verdict.{Verdict}
@@ -32,9 +31,10 @@ use Rattle.translation.specs.Moved.{MovedRow}
 use Rattle.translation.specs.MovedLaws.{sort-name-bound, function-name-bound}
 use Rattle.clauses.specs.Pairs.{pair-count, given, pair-at}
 use Rattle.clauses.specs.PairWalks.{Walking, walk-start, walk-end, walk-here, walk-again}
-use Rattle.clauses.specs.Joined.{any-keep}
+use Rattle.walks.specs.Lists.{any-keep}
 use Rattle.clauses.specs.Searches.{function-called, like, named-any}
-use Rattle.clauses.specs.Walks.{found-below, none-below}
+use Rattle.walks.specs.Shapes.{shape-function, by-kind}
+use Rattle.walks.specs.Rows.{found-below, none-below}
 use Rattle.mistakes.specs.Unpaired.{formal-called}
 use Rattle.mistakes.specs.Fits.{mode-whole, sorts-fit, kind-there, function-there, kind-fits, type-fits, item-fits, misfit, all-fit, items-fit}
 
@@ -43,37 +43,14 @@ module _ (text tape w : List ℕ) (m : Mode) (actual : Form) where
   abbrev there : List Item
   there = items-at text tape w (actual .visible) (actual .«visible_count»)
 
-  -- ---- by kind
-
-  module _ (new k : ℕ) where
-    abbrev Kind : Bool → Type 0
-    Kind r = r ≡ kind-there text tape w actual (name-of text new) k
-
-    pub kind-sort : (r : Bool) → k ≡ 0 → r ≡ member (name-of text new) (names-in (sorts-among there)) → Kind r
-    unfolding kind-there pick
-    kind-sort r h e = rw (eq-eqb k 0 h) e
-
-    pub kind-variable : (k ≡ 0 → ⊥) → k ≡ 1 → Kind true
-    unfolding kind-there pick
-    kind-variable h l = rw (ne-eqb k 0 h, eq-eqb k 1 l)
-
-    pub kind-function : (r : Bool) → (k ≡ 0 → ⊥) → (k ≡ 1 → ⊥) → r ≡ any (function-called (name-of text new)) there → Kind r
-    unfolding kind-there pick
-    kind-function r h l e = rw (ne-eqb k 0 h, ne-eqb k 1 l) e
-
   -- the kind tells the shape
   kind-told : (new : Name) (x : Row)
       → kind-there text tape w actual new (x .kind) ≡ kind-fits text tape w m actual new (shape-of text tape (x .kind) (x .sorts))
-  unfolding kind-there kind-fits kind-right function-called sort-names visible-at shape-of pick
+  unfolding kind-there kind-fits kind-right function-called sort-names visible-at pick
   kind-told new x =
-      go (eqb (x .kind) 0) (eqb (x .kind) 1) (sort-of text tape (getD (x .sorts) 8 0)) (type-of text tape (x .kind - 2) (x .sorts))
-    where
-      go : (a b : Bool) (s : Sort) (t : FunctionType)
-          → pick a (member new (names-in (sorts-among there))) (pick b true (any (function-called new) there))
-          ≡ kind-fits text tape w m actual new (pick a sort-shape (pick b (variable-shape s) (function-shape t)))
-      go true b s t = refl
-      go false true s t = refl
-      go false false s t = refl
+      by-kind text tape (x .kind) (x .sorts) (λ (s : Shape). kind-there text tape w actual new (x .kind) ≡ kind-fits text tape w m actual new s)
+      (λ e. rw (eq-eqb (x .kind) 0 e)) (λ e. rw (ne-eqb (x .kind) 0 (λ q. omega arith), eq-eqb (x .kind) 1 e))
+      (λ h. rw (ne-eqb (x .kind) 0 (λ q. omega arith), ne-eqb (x .kind) 1 (λ q. omega arith)))
 
   -- ---- the moved shape among the rows of the actual module
 
@@ -100,20 +77,14 @@ module _ (text tape w : List ℕ) (m : Mode) (actual : Form) where
     Typed r = r ≡ type-fits text tape w m actual (name-of text new) shape
 
     pub type-plain : x .kind < 2 → Typed true
-    unfolding type-fits type-right shape-of pick
+    unfolding type-fits type-right
     type-plain h =
-        go (eqb (x .kind) 0) (eqb (x .kind) 1) (sort-of text tape (getD (x .sorts) 8 0)) (type-of text tape (x .kind - 2) (x .sorts)) refl refl
-      where
-        go : (a b : Bool) (s : Sort) (t : FunctionType) → eqb (x .kind) 0 ≡ a → eqb (x .kind) 1 ≡ b
-            → true ≡ type-fits text tape w m actual (name-of text new) (pick a sort-shape (pick b (variable-shape s) (function-shape t)))
-        go true b s t e f = refl
-        go false true s t e f = refl
-        go false false s t e f = absurd (omega (arith, h, eqb-false (x .kind) 0 e, eqb-false (x .kind) 1 f))
+        by-kind text tape (x .kind) (x .sorts) (λ (s : Shape). true ≡ type-fits text tape w m actual (name-of text new) s)
+        (λ e. refl) (λ e. refl) (λ l. absurd (omega (arith, h, l)))
 
     module _ (two : m .kind ≡ 2) (h : 2 ≤ x .kind) (b : Bool) (e : b ≡ sorts-fit text tape w m actual (type-of text tape (x .kind - 2) (x .sorts))) where
       function-kind : shape ≡ function-shape (type-of text tape (x .kind - 2) (x .sorts))
-      unfolding shape-of pick
-      function-kind = rw (ne-eqb (x .kind) 0 (λ q. omega arith), ne-eqb (x .kind) 1 (λ q. omega arith))
+      function-kind = shape-function text tape (x .kind) (x .sorts) h
 
       pub type-sorts : b ≡ false → Typed false
       unfolding type-fits type-right sorts-fit
@@ -137,26 +108,6 @@ module _ (text tape w : List ℕ) (m : Mode) (actual : Form) where
           → r ≡ item-fits text tape w m actual by-type (name-of text new) shape
       unfolding item-fits pick
       item-kinded h e = rw h (e ∙ kind-told (name-of text new) x)
-
-  -- ---- a formal item that does not fit
-
-  module _ (by-type : Bool) (old new : ℕ) (x : Row) (b : Bool)
-      (e : b ≡ formal-called (name-of text (m .parameter)) (name-of text old) (item-of text tape x)) where
-    abbrev Missing : Bool → Type 0
-    Missing r = r ≡ misfit text tape w m actual by-type (name-of text old) (name-of text new) (item-of text tape x)
-
-    pub misfit-other : b ≡ false → Missing false
-    unfolding misfit pick
-    misfit-other h = rw (← e, h)
-
-    module _ (h : b ≡ true) (c : Bool) (f : c ≡ item-fits text tape w m actual by-type (name-of text new) (shape-of text tape (x .kind) (x .sorts))) where
-      pub misfit-not : c ≡ true → Missing false
-      unfolding misfit item-of pick
-      misfit-not q = rw (← e, h, ← f, q)
-
-      pub misfit-here : c ≡ false → Missing true
-      unfolding misfit item-of pick
-      misfit-here q = rw (← e, h, ← f, q)
 
   -- ---- the formal items of a name
 
@@ -285,11 +236,9 @@ module _ (text tape w : List ℕ) (m : Mode) (actual : Form) where
     unfolding told pairs-right given _>>_
     pair-stops v number c q h e inv = sym (walk-here asked text tape (m .pairs) n k h inv ∙ rw (← e, q))
 
-pub ruleset kinds = (kind-sort, kind-variable, kind-function, needs)
-
 pub ruleset types = (moved-there, type-plain, type-sorts, type-function, needs)
 
-pub ruleset fits = (item-typed, item-kinded, misfit-other, misfit-not, misfit-here, needs)
+pub ruleset fits = (item-typed, item-kinded, needs)
 
 pub ruleset items = (none-left, kinds-wrong, types-wrong, items-right, needs)
 

@@ -7,9 +7,9 @@ use mathlib.Core.List.{List}
 use native.Mathlib.Omega.{arith}
 use borrow.Author.Needs.{needs}
 use Rattle.meaning.specs.Lists.{pick}
-use Rattle.meaning.specs.Names.{Name, same, not-after, lesser}
+use Rattle.meaning.specs.Names.{Name, not-after, lesser}
 use Rattle.meaning.specs.Syntax.{Pair}
-use Rattle.meaning.specs.Normal.{nothing-visible, is-called}
+use Rattle.meaning.specs.Normal.{nothing-visible}
 use Rattle.meaning.specs.Origins.{in-parameter}
 use Rattle.meaning.specs.Checks.{unless}
 use Rattle.meaning.specs.Clauses.{paired, unpaired}
@@ -24,22 +24,12 @@ use Rattle.translation.specs.Translation.{pairs-at, formals-at, mode-formals}
 use Rattle.clauses.specs.declared.Found.{Found}
 use Rattle.clauses.specs.declared.Found.the-variants.{At, Nothing}
 use Rattle.clauses.specs.Pairs.{found}
-use Rattle.clauses.specs.Walks.{find-start, find-end, find-again, find-here}
-use Rattle.mistakes.specs.Unpaired.{formal-called, is-none, is-unpaired, unpaired-from, unpaired-among, unpaired-told}
+use Rattle.walks.specs.Rows.{find-start, find-end, find-again, find-here}
+use Rattle.mistakes.specs.Unpaired.{is-none, is-unpaired, unpaired-from, unpaired-among, unpaired-told}
 
 -- ---- one row
 
 module _ (text tape : List ℕ) (p : ℕ) (x : Row) (b : Bool) (e : b ≡ in-parameter (name-of text p) (section-of text (x .standing))) where
-  module _ (a : ℕ) where
-    pub called-elsewhere : b ≡ false → false ≡ formal-called (name-of text p) (name-of text a) (item-of text tape x)
-    unfolding formal-called item-of pick
-    called-elsewhere h = rw (← e, h)
-
-    pub called-here : (r : Bool) → b ≡ true → r ≡ same (name-of text a) (name-of text (x .name))
-        → r ≡ formal-called (name-of text p) (name-of text a) (item-of text tape x)
-    unfolding formal-called item-of is-called pick
-    called-here r h f = rw (← e, h) f
-
   module _ (pairs : ℕ) where
     pub unpaired-elsewhere : b ≡ false → false ≡ is-unpaired (name-of text p) (pairs-at text tape pairs) (item-of text tape x)
     unfolding is-unpaired item-of pick
@@ -136,7 +126,7 @@ module _ (text : List ℕ) (asked : Option Name) (x : Found) (e : found text x �
 
 pub ruleset finds = (find-start, find-end, find-again, find-here, needs)
 
-pub ruleset items = (called-elsewhere, called-here, unpaired-elsewhere, unpaired-not, unpaired-here, needs)
+pub ruleset items = (unpaired-elsewhere, unpaired-not, unpaired-here, needs)
 
 pub ruleset least = (lesser-alone, lesser-first, lesser-second, least-stays, least-here, needs)
 

@@ -19,7 +19,7 @@ use Rattle.module_set.specs.ModuleSet.{nothing, added}
 use Rattle.modules.specs.declared.Heads.{Heads}
 use Rattle.modules.specs.Modules.{declared, named-in, named-set, gathered, reached-set}
 use Rattle.modules.specs.ModuleLaws.{Spells, heads-number, declared-names, named-modules}
-use Rattle.modules.specs.ReachedLaws.{names-distinct, names-number, named-below, named-member, closed, found-name, member-append, drop-some, or-false, or-other, chosen, Naming, reached-numbers}
+use Rattle.modules.specs.ReachedLaws.{names-distinct, names-number, named-below, named-member, member-append, drop-some, or-false, or-other, chosen, Naming, reached-numbers}
 
 -- ---- the asked module
 
@@ -95,14 +95,3 @@ module _ (text tape : List ℕ) (n : ℕ) (ms : List Module) (h : Heads) (s : Sp
         ∙ ap
         (λ (c : ℕ). chosen (gathered (named-set text tape h) (added (before (same asked) (module-names ms)) nothing) 0 c) 0 [] ms)
         (sym (heads-number text tape n ms h s))
-
-    -- after step 1, a module named by a reached one is reached
-    pub named-reached : (k i : ℕ) (m : Module) (ys : List Module) → drop i ms ≡ m ∷ ys → reached-set text tape h k i ≡ true
-        → (w : Name) → member w (named-by m) ≡ true → before (same w) (module-names ms) < i → reached-set text tape h k (before (same w) (module-names ms)) ≡ true
-    unfolding reached-set
-    named-reached k i m ys e r w q l =
-        let number = drop-some i ms ys m e in
-        let j = before (same w) (module-names ms) in
-        let name : getD (module-names ms) j [] ≡ w = found-name (module-names ms) w (omega (arith, number, names-number ms)) in
-        let named : named-set text tape h i j ≡ true = naming .tells i j m ys e l ∙ ap (λ (v : Name). member v (named-by m)) name ∙ q in
-        closed (named-set text tape h) (naming .below) (added k nothing) (h .count) i j (omega (arith, number, heads-number text tape n ms h s)) r named

@@ -1,35 +1,27 @@
 -- Which names are members, by the number of the first that is the same; and the names of modules checked one by one.
-use mathlib.Core.Path.{_≡_, refl}
+use mathlib.Core.Path.{_≡_, refl, _∙_}
 use Prim.Native.Nat.{ℕ, zero, suc, _<_, _≤_}
 use native.Mathlib.Omega.{arith}
 use mathlib.Core.Bool.{Bool, true, false}
 use mathlib.Core.List.{List, [], _∷_}
 use lib.ListN.{length, take}
-use Rattle.meaning.specs.Lists.{pick, before}
+use Rattle.meaning.specs.Lists.{pick, any, before}
 use Rattle.meaning.specs.Names.{Name, same, member}
 use Rattle.meaning.specs.Numbers.{named-absent, named-late}
 use Rattle.meaning.specs.Checks.{lone, Check, fine, stop, _>>_}
 use Rattle.meaning.specs.Evaluate.{missing, too-late, names-right}
+use Rattle.walks.specs.Lists.{found, none-found}
+
+any-member : (w : Name) (ds : List Name) → member w ds ≡ any (same w) ds
+unfolding any member
+any-member w [] = refl
+any-member w (x ∷ ds) = rw (any-member w ds)
 
 pub member-found : (w : Name) (ds : List Name) → before (same w) ds < length ds → member w ds ≡ true
-unfolding before member pick
-member-found w [] h = absurd (omega arith)
-member-found w (x ∷ ds) h = go (same w x) h (member-found w ds)
-  where
-    go : (b : Bool) → pick b 0 (suc (before (same w) ds)) < suc (length ds) → (before (same w) ds < length ds → member w ds ≡ true)
-        → pick b true (member w ds) ≡ true
-    go true h f = refl
-    go false h f = f (omega arith)
+member-found w ds h = any-member w ds ∙ found (same w) ds h
 
 pub member-absent : (w : Name) (ds : List Name) → length ds ≤ before (same w) ds → member w ds ≡ false
-unfolding before member pick
-member-absent w [] h = refl
-member-absent w (x ∷ ds) h = go (same w x) h (member-absent w ds)
-  where
-    go : (b : Bool) → suc (length ds) ≤ pick b 0 (suc (before (same w) ds)) → (length ds ≤ before (same w) ds → member w ds ≡ false)
-        → pick b true (member w ds) ≡ false
-    go true h f = absurd (omega arith)
-    go false h f = f (omega arith)
+member-absent w ds h = any-member w ds ∙ none-found (same w) ds h
 
 pub member-early : (w : Name) (ds : List Name) (k : ℕ) → before (same w) ds < k → before (same w) ds < length ds → member w (take k ds) ≡ true
 unfolding before member pick

@@ -13,9 +13,11 @@ use Rattle.meaning.specs.Evaluate.{named-by}
 use Rattle.meaning.specs.Reached.{module-names}
 use Rattle.tape.specs.Tape.{Entry, flat-module, flat-modules, spelled, entries}
 use Rattle.tables.specs.Entries.{role-at, name-at}
+use Rattle.walks.specs.Lists.{each-append}
+use Rattle.walks.specs.Flat.{behind-name, names-with}
 use Rattle.modules.specs.declared.Heads.{Heads}
 use Rattle.modules.specs.Modules.{is-module, names-module, places-from, HeadsOf, names-of, declared, picked, named-in}
-use Rattle.modules.specs.Roles.{names-with, each-append, flat-body, no-head-body, head-names, named-names}
+use Rattle.modules.specs.Roles.{no-head-body, head-names, named-names}
 
 -- ---- parts of lists
 
@@ -105,8 +107,8 @@ starts-none i (x ∷ es) e = go (is-module (x .role)) e (starts-none (suc i) es)
     go false e f = f e
 
 starts-module : (i : ℕ) (m : Module) → starts i (flat-module m) ≡ i ∷ []
-unfolding starts flat-module flat-body is-module pick
-starts-module i m = ap (λ (l : List ℕ). i ∷ l) (starts-none (suc i) (flat-body m) (no-head-body m))
+unfolding starts flat-module behind-name is-module pick
+starts-module i m = ap (λ (l : List ℕ). i ∷ l) (starts-none (suc i) (behind-name m) (no-head-body m))
 
 -- where each module begins, and behind them where the last one ends
 bounds : ℕ → List Module → List ℕ

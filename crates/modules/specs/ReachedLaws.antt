@@ -14,10 +14,11 @@ use Rattle.meaning.specs.Names.{Name, same, member}
 use Rattle.meaning.specs.OrderLaws.{same-self, same-equal}
 use Rattle.meaning.specs.Syntax.{Module}
 use Rattle.meaning.specs.Evaluate.{named-by}
-use Rattle.meaning.specs.Reached.{Placed, wanted, reached-among, reached, module-names}
+use Rattle.meaning.specs.Reached.{Placed, wanted, reached-among, module-names}
 use Rattle.meaning.specs.Distinct.{Fresh}
 use Rattle.module_set.specs.ModuleSet.{nothing, added, either}
 use Rattle.modules.specs.Modules.{with-named, turned, gathered}
+use Rattle.walks.specs.Lists.{found-passes}
 
 -- ---- truth values
 
@@ -25,11 +26,6 @@ pub or-false : (a : Bool) → pick a true false ≡ a
 unfolding pick
 or-false true = refl
 or-false false = refl
-
-or-true : (a : Bool) → pick a true true ≡ true
-unfolding pick
-or-true true = refl
-or-true false = refl
 
 or-three : (a b c : Bool) → pick (pick (pick a true false) true b) true c ≡ pick b true (pick a true c)
 unfolding pick
@@ -51,17 +47,6 @@ or-other false false = refl
 abbrev pub Distinct : List Name → Type 0
 Distinct ds = (j : ℕ) → j < length ds → before (same (getD ds j [])) ds ≡ j
 
--- the first that passes does
-first-passes : (p : Name → Bool) (ds : List Name) → before p ds < length ds → p (getD ds (before p ds) []) ≡ true
-unfolding before pick
-first-passes p [] h = absurd (omega arith)
-first-passes p (x ∷ ds) h = go (p x) refl h (first-passes p ds)
-  where
-    go : (b : Bool) → p x ≡ b → pick b 0 (suc (before p ds)) < suc (length ds) → (before p ds < length ds → p (getD ds (before p ds) []) ≡ true)
-        → p (getD (x ∷ ds) (pick b 0 (suc (before p ds))) []) ≡ true
-    go true e h f = e
-    go false e h f = f (omega arith)
-
 -- a name has number j where it is the name of number j
 module _ (ds : List Name) (d : Distinct ds) (j : ℕ) (l : j < length ds) where
   pub number-same : (w : Name) → eqb j (before (same w) ds) ≡ same (getD ds j []) w
@@ -75,13 +60,13 @@ module _ (ds : List Name) (d : Distinct ds) (j : ℕ) (l : j < length ds) where
           absurd (eqb-false j (before (same w) ds) f (sym (d j l) ∙ ap (λ (v : Name). before (same v) ds) same-name))
       go false e true f =
           let number : j ≡ before (same w) ds = eqb-true j (before (same w) ds) f in
-          let passes : same w (getD ds j []) ≡ true = rw number (first-passes (same w) ds (omega arith)) in
+          let passes : same w (getD ds j []) ≡ true = rw number (found-passes (same w) [] ds (omega arith)) in
           let name : w ≡ getD ds j [] = same-equal w (getD ds j []) passes in
           absurd (false≢true (sym e ∙ ap (same (getD ds j [])) name ∙ same-self (getD ds j [])))
 
 -- a name that is found has its number
 pub found-name : (ds : List Name) (w : Name) → before (same w) ds < length ds → getD ds (before (same w) ds) [] ≡ w
-found-name ds w l = sym (same-equal w (getD ds (before (same w) ds) []) (first-passes (same w) ds l))
+found-name ds w l = sym (same-equal w (getD ds (before (same w) ds) []) (found-passes (same w) [] ds l))
 
 -- two numbers have two names
 pub names-apart : (ds : List Name) → Distinct ds → (i j : ℕ) → i < length ds → j < length ds → (i ≡ j → ⊥) → same (getD ds i []) (getD ds j []) ≡ false
@@ -186,40 +171,6 @@ module _ (named : ℕ → ℕ → Bool) (below : (i j : ℕ) → i ≤ j → nam
       let y : suc c + e ≡ suc (c + e) = omega arith in
       let z : i + suc c ≡ suc i + c = omega arith in
       rw (y, z) (turned-behind (gathered named set (suc i) (c + e)) i (omega arith) ∙ settled c (suc i) e (omega arith))
-
-  -- what is gathered stays
-  grows : (c i e : ℕ) → gathered named set (i + c) e j ≡ true → gathered named set i (c + e) j ≡ true
-  unfolding gathered turned either pick
-  grows zero i e h =
-      let y : 0 + e ≡ e = omega arith in
-      let z : i + 0 ≡ i = omega arith in
-      rw y (rw z at h)
-  grows (suc c) i e h =
-      let y : suc c + e ≡ suc (c + e) = omega arith in
-      let z : i + suc c ≡ suc i + c = omega arith in
-      rw y (go (gathered named set (suc i) (c + e) i) (grows c (suc i) e (rw z at h)))
-    where
-      later : ℕ → Bool
-      later = gathered named set (suc i) (c + e)
-
-      go : (b : Bool) → later j ≡ true → pick b (either later (named i)) later j ≡ true
-      go true f = rw f
-      go false f = f
-
--- what a gathered number names is gathered
-pub closed : (named : ℕ → ℕ → Bool) → ((i j : ℕ) → i ≤ j → named i j ≡ false) → (set : ℕ → Bool) (n k j : ℕ) → k < n
-    → gathered named set 0 n k ≡ true → named k j ≡ true → gathered named set 0 n j ≡ true
-unfolding gathered turned either pick
-closed named below set n k j h e f =
-    let c = n - suc k in
-    let y : n ≡ suc k + c = omega arith in
-    let z : 0 + suc k ≡ suc k = omega arith in
-    let w : 0 + k ≡ k = omega arith in
-    let x : n ≡ k + suc c = omega arith in
-    let in-turn : gathered named set (suc k) c k ≡ true =
-    sym (ap (λ (m : ℕ). gathered named set 0 m k) y ∙ settled named below set k (suc k) 0 c (omega arith) ∙ ap (λ (m : ℕ). gathered named set m c k) z) ∙ e in
-    let there : gathered named set (0 + k) (suc c) j ≡ true = rw (w, in-turn, f) (or-true (gathered named set (suc k) c j)) in
-    ap (λ (m : ℕ). gathered named set 0 m j) x ∙ grows named below set j k 0 (suc c) there
 
 -- ---- modules by number
 

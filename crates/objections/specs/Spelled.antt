@@ -14,14 +14,15 @@ use Rattle.meaning.specs.Syntax.{Module}
 use Rattle.meaning.specs.Evaluate.{named-by, missing, too-late}
 use Rattle.meaning.specs.Reached.{Placed, module-names}
 use Rattle.tape.specs.Tape.{Entry, entry, flat-signature, flat-parameter, flat-import, flat-group, flat-equation, flat-module, flat-modules, spelled, entries}
-use Rattle.tape_told.specs.Parts.{Ends}
-use Rattle.tape_told.specs.Told.{signature-passes, parameters-pass, imports-pass, head-ends, exports-end, imports-end}
+use Rattle.walks.specs.Flat.{all-signature, all-parameters, each-import}
+use Rattle.tape_told.specs.Parts.{Passing, Ends}
+use Rattle.tape_told.specs.Told.{head-ends, exports-end, imports-end}
 use Rattle.tables.specs.Entries.{name-at}
 use Rattle.alike.specs.Alike.{entries-from, between, declaring, section-role, run-size, the-parameters, the-exports, the-imports}
 use Rattle.alike.specs.AlikeLaws.{entries-part, first-entries, last-entries, OfSection, BehindSection, run-length}
 use Rattle.modules.specs.declared.Heads.{Heads}
 use Rattle.modules.specs.Modules.{declared, named-in}
-use Rattle.modules.specs.Roles.{each-append}
+use Rattle.walks.specs.Lists.{each-append}
 use Rattle.modules.specs.ModuleLaws.{Spells, heads-number, declared-names, begin, end}
 use Rattle.modules.specs.Members.{member-found, member-absent, member-early, member-late}
 use Rattle.modules.specs.ReachedLaws.{names-number, drop-some}
@@ -147,7 +148,7 @@ module _ (text tape : List ℕ) (t : ℕ) (ms : List Module) (h : Heads) (s : Sp
 
   parameters-of : OfSection the-parameters (each flat-parameter (m .parameters))
   unfolding section-role declaring between pick
-  parameters-of = parameters-pass (section-role the-parameters) refl refl refl refl refl (m .parameters)
+  parameters-of = all-parameters (Passing (section-role the-parameters)) refl refl refl refl refl (m .parameters)
 
   parameters-end : BehindSection the-parameters after-parameters
   unfolding section-role declaring between pick
@@ -155,7 +156,7 @@ module _ (text tape : List ℕ) (t : ℕ) (ms : List Module) (h : Heads) (s : Sp
 
   exports-of : OfSection the-exports (flat-signature 5 6 (m .exports))
   unfolding section-role declaring between pick
-  exports-of = signature-passes (section-role the-exports) 5 6 refl refl refl refl (m .exports)
+  exports-of = all-signature (Passing (section-role the-exports)) 5 6 refl refl refl refl (m .exports)
 
   exports-behind : BehindSection the-exports after-exports
   unfolding section-role declaring between pick
@@ -163,7 +164,7 @@ module _ (text tape : List ℕ) (t : ℕ) (ms : List Module) (h : Heads) (s : Sp
 
   imports-of : OfSection the-imports (each flat-import (m .imports))
   unfolding section-role declaring between pick
-  imports-of = imports-pass (section-role the-imports) refl refl refl refl refl refl (m .imports)
+  imports-of = each-import (Passing (section-role the-imports)) refl refl refl refl refl refl (m .imports)
 
   imports-behind : BehindSection the-imports after-imports
   unfolding section-role declaring between pick

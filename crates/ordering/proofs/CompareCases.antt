@@ -256,35 +256,12 @@ module _ (table : Table) where
     unfolding row-order
     of-equations v b n e h = rw e h
 
-pub ruleset cases = (
-  word-export,
-  word-hidden,
-  word-parameter,
-  rank-sort,
-  rank-variable,
-  rank-function,
-  names-level,
-  names-decided,
-  kinds-level,
-  kinds-decided,
-  standing-level,
-  standing-decided,
-  origins-level,
-  origins-decided,
-  hidden-level,
-  hidden-decided,
-  positions-level,
-  positions-decided,
-  homes-level,
-  homes-decided,
-  visible-read,
-  sorts-read,
-  hidden-read,
-  equations-read,
-  hidden-small,
-  of-visible,
-  of-sorts,
-  of-hidden,
-  of-equations,
-  needs,
-)
+pub ruleset words = (word-export, word-hidden, word-parameter, rank-sort, rank-variable, rank-function)
+
+pub ruleset levels = (names-level, kinds-level, standing-level, origins-level, hidden-level, positions-level, homes-level)
+
+pub ruleset decisions = (names-decided, kinds-decided, standing-decided, origins-decided, hidden-decided, positions-decided, homes-decided)
+
+pub ruleset readings = (visible-read, sorts-read, hidden-read, equations-read, hidden-small, of-visible, of-sorts, of-hidden, of-equations)
+
+pub ruleset cases = (words, levels, decisions, readings, needs)

@@ -7,14 +7,15 @@ use Prim.Native.Nat.{ℕ, _+_, _*_, _^_, _≤_, _<_}
 use native.Mathlib.Nat.{mul-le-mul-left, mul-le-mul-right}
 use native.Mathlib.Omega.{arith}
 use lib.Dec.{eqb}
-use lib.ListN.{length, getD, set, length-set}
+use lib.ListN.{length, getD, set}
 use lib.Seq.{getD-set-same, getD-set-other}
 use mir.Syntax.{w64}
 use mir.Val.{Fits}
 use borrow.Author.Needs.{needs}
 use borrow.Author.Tests.{eqb-true, eqb-false}
 use Rattle.forms.specs.Memory.{part, Kept}
-use Rattle.forms.specs.FormLaws.{Apart, kept-all, kept-wider, kept-then, kept-same, kept-is-two, kept-two-then, kept-two-swap, words-from-same}
+use Rattle.forms.specs.FormLaws.{Apart, kept-all, kept-same, words-from-same}
+use Rattle.frames.specs.Changes.{onward, wider, written, at-first, at-second, onward-two, wider-two}
 use Rattle.order.specs.Sorting.{lt-or-ge}
 use Rattle.ordering.specs.declared.Table.{Table}
 use Rattle.ordering.specs.Tables.{RowsOrdered}
@@ -63,11 +64,7 @@ module _ (a b s : ℕ) (w₀ : List ℕ) where
         let other : (i : ℕ) → (i ≡ b + j → ⊥) → getD u i 0 ≡ getD w i 0 = λ i m. ap (λ (x : List ℕ). getD x i 0) eu ∙ getD-set-other w (b + j) i v 0 m in
         record {
           within = omega arith;
-          kept = record {
-            size = ap length eu ∙ length-set w (b + j) v ∙ inv .kept .size;
-            below = λ i m. other i (omega arith) ∙ inv .kept .below i m;
-            above = λ i m. other i (omega arith) ∙ inv .kept .above i m;
-          };
+          kept = onward (inv .kept) (written v eu (omega arith));
           words = λ i m. ⊎-elim
               (λ q. other (b + i) (omega arith) ∙ inv .words i q)
               (λ q. let e : i ≡ j = omega arith in rw e (ap (λ (x : List ℕ). getD x (b + j) 0) eu ∙ getD-set-same w (b + j) v 0 inside ∙ source))
@@ -133,8 +130,7 @@ module _ (from n order m to s : ℕ) (w₀ : List ℕ) where
           kept-same to (to + m * s) from (from + n * s) w₀ w (room .apart) (inv .kept) (from + r * s + j) (omega arith) (omega arith) in
           record {
             within = omega arith;
-            kept = kept-then to (to + m * s) w₀ w u (inv .kept)
-                (kept-wider (to + i * s) (to + i * s + s) to (to + m * s) w u (omega arith) (omega arith) (copied .kept));
+            kept = onward (inv .kept) (wider (omega (arith, here)) (copied .kept));
             rows = λ k j h z q. ⊎-elim
                 (λ before. let below : k * s + s ≤ i * s = row-within k i s before in
                 copied .kept .below (to + k * s + j) (omega arith) ∙ inv .rows k j before z q)
@@ -156,11 +152,7 @@ module _ (order m notes n i : ℕ) (w : List ℕ) (room : NoteRoom (length w) or
       let inside : notes + r < length w = omega (arith, room .room) in
       let other : (k : ℕ) → (k ≡ notes + r → ⊥) → getD u k 0 ≡ getD w k 0 = λ k q. ap (λ (x : List ℕ). getD x k 0) eu ∙ getD-set-other w (notes + r) k i 0 q in
       record {
-        kept = record {
-          size = ap length eu ∙ length-set w (notes + r) i;
-          below = λ k q. other k (omega arith);
-          above = λ k q. other k (omega arith);
-        };
+        kept = written i eu (omega arith);
         others = λ k l q. other (notes + k) (λ e. q (let x : k ≡ r = omega arith in x ∙ er));
         here = λ l. ap (λ (k : ℕ). getD u (notes + k) 0) (sym er) ∙ ap (λ (x : List ℕ). getD x (notes + r) 0) eu ∙ getD-set-same w (notes + r) i 0 inside;
       }
@@ -189,23 +181,21 @@ module _ (order m notes n : ℕ) (w₀ : List ℕ) where
     note-room room = record { room = omega (arith, room .room, inv .kept .size); table = room .table }
 
     pub note-again : (u : List ℕ) → NoteRoom (length w₀) order m notes n → i < m → NotePut order notes n i w u → Noting order m notes n w₀ u (i + 1)
-    note-again u room l put =
-        let stays : (k : ℕ) → getD w (order + k) 0 ≡ getD w₀ (order + k) 0 = λ k. inv .kept .above (order + k) (omega (arith, room .table)) in
-        record {
-          within = omega arith;
-          kept = kept-then notes (notes + n) w₀ w u (inv .kept) (put .kept);
-          noted = λ k h q. go k h q (eqb (getD w₀ (order + k) 0) (getD w₀ (order + i) 0)) refl;
-        }
+    note-again u room l put = record {
+      within = omega arith;
+      kept = onward (inv .kept) (put .kept);
+      noted = λ k h q. go k h q (eqb (getD w₀ (order + k) 0) (getD w₀ (order + i) 0)) refl;
+    }
       where
-        stays′ : (k : ℕ) → getD w (order + k) 0 ≡ getD w₀ (order + k) 0
-        stays′ k = inv .kept .above (order + k) (omega (arith, room .table))
+        stays : (k : ℕ) → getD w (order + k) 0 ≡ getD w₀ (order + k) 0
+        stays k = inv .kept .above (order + k) (omega (arith, room .table))
 
         go : (k : ℕ) → k < i + 1 → getD w₀ (order + k) 0 < n → (b : Bool) → eqb (getD w₀ (order + k) 0) (getD w₀ (order + i) 0) ≡ b
             → PlaceNoted w₀ u order (i + 1) notes (getD w₀ (order + k) 0)
         go k h q true e =
             let same : getD w₀ (order + k) 0 ≡ getD w₀ (order + i) 0 = eqb-true _ _ e in
-            let small : getD w (order + i) 0 < n = omega (arith, same, stays′ i) in
-            let note : getD u (notes + getD w₀ (order + k) 0) 0 ≡ i = ap (λ (x : ℕ). getD u (notes + x) 0) (same ∙ sym (stays′ i)) ∙ put .here small in
+            let small : getD w (order + i) 0 < n = omega (arith, same, stays i) in
+            let note : getD u (notes + getD w₀ (order + k) 0) 0 ≡ i = ap (λ (x : ℕ). getD u (notes + x) 0) (same ∙ sym (stays i)) ∙ put .here small in
             record { inside = omega (arith, note); there = ap (λ (x : ℕ). getD w₀ (order + x) 0) note ∙ sym same }
         go k h q false e =
             let apart = eqb-false (getD w₀ (order + k) 0) (getD w₀ (order + i) 0) e in
@@ -213,7 +203,7 @@ module _ (order m notes n : ℕ) (w₀ : List ℕ) where
             (lt-or-ge k i) in
             let old = inv .noted k before q in
             let note : getD u (notes + getD w₀ (order + k) 0) 0 ≡ getD w (notes + getD w₀ (order + k) 0) 0 =
-            put .others (getD w₀ (order + k) 0) q (λ z. apart (z ∙ stays′ i)) in
+            put .others (getD w₀ (order + k) 0) q (λ z. apart (z ∙ stays i)) in
             record { inside = omega (arith, note, old .inside); there = ap (λ (x : ℕ). getD w₀ (order + x) 0) note ∙ old .there }
 
     pub note-end : m ≤ i → NotesPut order m notes n w₀ w
@@ -260,10 +250,7 @@ module _ (text : List ℕ) (t : ℕ) (table : Table) (from n order to s m : ℕ)
           rows = λ i j h l. copied .rows i j h (sort-numbers .below i h) l ∙ source i j h l ∙ ap (λ (x : ℕ). getD w (from + x * s + j) 0) (sym (number i));
           below = λ i h. rw (number i) (sort-numbers .below i h);
         };
-        kept = kept-two-then to (to + n * s) order (order + n) w u w′
-            (kept-two-swap order (order + n) to (to + n * s) w u (kept-is-two order (order + n) to (to + n * s) w u (ordered .kept)))
-            (kept-is-two to (to + n * s) order (order + n) u w′
-            (kept-wider to (to + m * s) to (to + n * s) u w′ (omega arith) (omega (arith, fewer)) (copied .kept)));
+        kept = onward-two (at-second (ordered .kept)) (at-first (wider (omega (arith, fewer)) (copied .kept)));
       }
 
 -- ---- `put_table`
@@ -295,41 +282,16 @@ module _ (text : List ℕ) (t : ℕ) (table : Table) (from n order to notes m : 
         noted = λ i h.
             let p = put .noted i h (a .below i h) in
             rw (number i) (record { inside = p .inside; there = number _ ∙ p .there });
-        kept = kept-two-then to (to + n * 16) notes (order + n) w u w′
-            (record { size = sorted .kept .size; kept = λ i h l. sorted .kept .kept i h (⊎-elim (λ q. inl (omega (arith, room .before))) (λ q. inr q) l) })
-            (kept-two-swap notes (order + n) to (to + n * 16) u w′
-            (kept-is-two notes (order + n) to (to + n * 16) u w′
-            (kept-wider notes (notes + n) notes (order + n) u w′ (omega arith) (omega (arith, room .before)) (put .kept))));
+        kept = onward-two (wider-two (omega arith) (omega (arith, room .before)) (sorted .kept))
+            (at-second (wider (omega (arith, room .before)) (put .kept)));
       }
 
-pub ruleset cases = (
-  noted-sorting,
-  noted-notes,
-  noted-done,
-  word-put,
-  stride-fits,
-  place-fits,
-  word-fits,
-  room-width,
-  copy-start,
-  copy-again,
-  copy-end,
-  numbered-room,
-  numbered-copied,
-  numbered-none,
-  begin,
-  begun-room,
-  begun-again,
-  begun-end,
-  note-put,
-  note-none,
-  note-start,
-  note-room,
-  note-again,
-  note-end,
-  sort-tape,
-  sort-table,
-  sort-room,
-  sorted-done,
-  needs,
-)
+pub ruleset copies = (word-put, stride-fits, place-fits, word-fits, room-width, copy-start, copy-again, copy-end)
+
+pub ruleset rows = (numbered-room, numbered-copied, numbered-none, begin, begun-room, begun-again, begun-end)
+
+pub ruleset notes = (note-put, note-none, note-start, note-room, note-again, note-end)
+
+pub ruleset tables = (sort-tape, sort-table, sort-room, sorted-done, noted-sorting, noted-notes, noted-done)
+
+pub ruleset cases = (tables, copies, rows, notes, needs)

@@ -1,6 +1,6 @@
 -- What the code that copies a form in order asks, one law for each way through it.
 use mathlib.Core.Path.{_≡_, refl, sym, ap, subst, _∙_}
-use mathlib.Core.Logic.{⊎-elim, inl, inr}
+use mathlib.Core.Logic.{inl}
 use mathlib.Core.List.{List}
 use Prim.Native.Nat.{ℕ, _+_, _≤_}
 use native.Mathlib.Omega.{arith}
@@ -11,12 +11,12 @@ use Rattle.forms.specs.Memory.{part}
 use Rattle.forms.specs.Forms.{items-at}
 use Rattle.forms.specs.declared.Form.{Form}
 use Rattle.joining.specs.Joined.{copied}
+use Rattle.frames.specs.Changes.{apart-in}
 use Rattle.order.specs.Order.{NamesApart}
 use Rattle.ordering.specs.declared.Table.the-variants.{Visible, Sorts, Hidden, Equations}
 use Rattle.ordering.specs.Orders.{Small}
 use Rattle.ordering.specs.Copying.{SortRoom, TableSorted, NotedRoom, TableNoted}
 use Rattle.ordering.specs.Kept.{ParametersPut, ItemsPut, sorts-in-order, KeepRoom, order-place, ItemsKept, EquationsKept, items-kept, visible-put, sorts-then-items, parameters-room, parameters-put}
-use Rattle.ordering.specs.Nodes.{kept-form}
 use Rattle.ordering.specs.Keeps.{keeps-all}
 
 -- ---- `put_parameters`
@@ -55,8 +55,7 @@ module _ (size t : ℕ) (f k : Form) (p order : ℕ) (room : KeepRoom size t f k
     table = omega (arith, room .room);
     source = omega (arith, room .parameters-before, room .notes);
     target = omega (arith, room .parameters, room .visible, room .hidden, room .equations, room .nodes, room .notes);
-    apart = ⊎-elim (λ q. inl (omega arith)) (λ q. inr (omega (arith, room .parameters, room .visible, room .hidden, room .equations)))
-        (room .outside .parameters);
+    apart = apart-in (omega (arith, room)) (room .outside .parameters);
   }
 
   visible-here : NotedRoom size t (f .visible) (f .«visible_count») order (k .visible) p
@@ -67,8 +66,7 @@ module _ (size t : ℕ) (f k : Form) (p order : ℕ) (room : KeepRoom size t f k
       table = omega (arith, room .room);
       source = omega (arith, room .visible-before, room .notes);
       target = omega (arith, room .visible, room .hidden, room .equations, room .nodes, room .notes);
-      apart = ⊎-elim (λ q. inl (omega (arith, room .parameters))) (λ q. inr (omega (arith, room .visible, room .hidden, room .equations)))
-          (room .outside .visible);
+      apart = apart-in (omega (arith, room)) (room .outside .visible);
     };
     source = room .visible-before;
     target = omega (arith, room .visible, room .hidden, room .equations, room .nodes);
@@ -83,8 +81,7 @@ module _ (size t : ℕ) (f k : Form) (p order : ℕ) (room : KeepRoom size t f k
       table = omega (arith, room .room);
       source = omega (arith, room .hidden-before, room .notes);
       target = omega (arith, room .hidden, room .equations, room .nodes, room .notes);
-      apart = ⊎-elim (λ q. inl (omega (arith, room .parameters, room .visible))) (λ q. inr (omega (arith, room .hidden, room .equations)))
-          (room .outside .hidden);
+      apart = apart-in (omega (arith, room)) (room .outside .hidden);
     };
     source = omega (arith, room .hidden-before);
     target = omega (arith, room .hidden, room .equations, room .nodes);
@@ -98,8 +95,7 @@ module _ (size t : ℕ) (f k : Form) (p order : ℕ) (room : KeepRoom size t f k
     table = omega (arith, room .room);
     source = omega (arith, room .equations-before, room .notes);
     target = omega (arith, room .equations, room .nodes, room .notes);
-    apart = ⊎-elim (λ q. inl (omega (arith, room .parameters, room .visible, room .hidden))) (λ q. inr (omega (arith, room .equations)))
-        (room .outside .equations);
+    apart = apart-in (omega (arith, room)) (room .outside .equations);
   }
 
   pub keep-tape : t ≤ k .hidden
@@ -150,28 +146,11 @@ pub items-done : (text : List ℕ) (t : ℕ) (f k : Form) (p order h : ℕ) (w u
 items-done text t f k p order h w u₁ u₂ w′ room e parameters visible hidden =
     items-kept text t f k p order w u₁ u₂ w′ room parameters visible (rw (← e) hidden)
 
--- ---- `order_place`, `kept_form`, `keep_in_order`
+-- ---- `order_place`, `keep_in_order`
 
 pub place-told : (f : Form) (p : ℕ) → p + (f .«visible_count» + f .«hidden_count») ≡ order-place f p
 unfolding order-place
 place-told f p = refl
-
-pub form-told : (f k r : Form) → r .parameters ≡ k .parameters → r .«parameter_count» ≡ f .«parameter_count» → r .visible ≡ k .visible
-    → r .«visible_count» ≡ f .«visible_count» → r .hidden ≡ k .hidden → r .«hidden_count» ≡ f .«hidden_count» → r .equations ≡ k .equations
-    → r .«equation_count» ≡ f .«equation_count» → r .nodes ≡ k .nodes → r .«node_count» ≡ f .«node_count» → r ≡ kept-form f k
-unfolding kept-form
-form-told f k r e₁ e₂ e₃ e₄ e₅ e₆ e₇ e₈ e₉ e₀ = λ i. record {
-  parameters = e₁ i;
-  «parameter_count» = e₂ i;
-  visible = e₃ i;
-  «visible_count» = e₄ i;
-  hidden = e₅ i;
-  «hidden_count» = e₆ i;
-  equations = e₇ i;
-  «equation_count» = e₈ i;
-  nodes = e₉ i;
-  «node_count» = e₀ i;
-}
 
 module _ (w : List ℕ) (t : ℕ) (f k : Form) (p : ℕ) (room : KeepRoom (length w) t f k p (order-place f p)) where
   pub place-small : p + (f .«visible_count» + f .«hidden_count») ≤ 1073741824
@@ -182,19 +161,10 @@ module _ (w : List ℕ) (t : ℕ) (f k : Form) (p : ℕ) (room : KeepRoom (lengt
   room-here u order e l =
       subst (λ (o : ℕ). KeepRoom (length u) t f k p o) (sym e) (subst (λ (size : ℕ). KeepRoom size t f k p (order-place f p)) (sym l) room)
 
-pub ruleset whole = (place-told, form-told, place-small, room-here, keeps-all, needs)
+pub ruleset whole = (place-told, place-small, room-here, keeps-all, needs)
 
 pub ruleset keeps = (keep-parameters, keep-visible, keep-hidden, keep-equations, keep-tape, keep-few, keep-notes, equations-kept, items-done, needs)
 
-pub ruleset cases = (
-  parameters-table,
-  parameters-apart,
-  parameters-room,
-  parameters-put,
-  visible-done,
-  sorting-room,
-  hidden-room,
-  hidden-few,
-  sorts-then-items,
-  needs,
-)
+pub ruleset puts = (parameters-table, parameters-apart, parameters-room, parameters-put, visible-done, sorting-room, hidden-room, hidden-few)
+
+pub ruleset cases = (puts, sorts-then-items, needs)

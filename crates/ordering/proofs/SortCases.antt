@@ -132,24 +132,10 @@ module _ (text : List ℕ) (t : ℕ) (w₀ : List ℕ) (table : Table) (p n : �
           kept = inv .kept;
         }
 
-pub ruleset cases = (
-  listed-visible,
-  listed-sorts,
-  listed-hidden,
-  listed-equations,
-  before-told,
-  narrow-start,
-  narrow-up,
-  narrow-down,
-  narrow-end,
-  room-below,
-  row-put,
-  row-passed,
-  begin,
-  begun-few,
-  begun-rows,
-  begun-room,
-  begun-again,
-  begun-end,
-  needs,
-)
+pub ruleset listings = (listed-visible, listed-sorts, listed-hidden, listed-equations, before-told)
+
+pub ruleset narrowings = (narrow-start, narrow-up, narrow-down, narrow-end, room-below)
+
+pub ruleset turns = (row-put, row-passed, begin, begun-few, begun-rows, begun-room, begun-again, begun-end)
+
+pub ruleset cases = (listings, narrowings, turns, needs)

@@ -12,7 +12,6 @@ use borrow.Author.Needs.{needs}
 use borrow.Author.Tests.{eq-eqb, ne-eqb, ltb-true, ltb-false}
 use Rattle.meaning.specs.Lists.{pick}
 use Rattle.meaning.specs.Names.{same, bytes-not-after}
-use Rattle.meaning.specs.Origins.{Item}
 use Rattle.meaning.specs.Written.{origin-text, shape-text}
 use Rattle.meaning.specs.OrderLaws.{same-equal}
 use Rattle.runs.specs.Orders.{bytes-compared}
@@ -241,21 +240,8 @@ module _ (text tape w : List ℕ) (c : ℕ) where
       let second = shape-size text tape (items-at text tape w b n) (s .kind) (s .sorts) k in
       bytes-told _ _ c (whole-compared _ _ first second e)
 
-pub ruleset cases = (
-  origin-put,
-  shape-put,
-  shape-countable,
-  part-written,
-  part-fits,
-  parts-level,
-  parts-differ,
-  parts-last,
-  level-start,
-  level-end,
-  level-on,
-  level-decided,
-  origins-compared,
-  types-told,
-  bytes-told,
-  needs,
-)
+pub ruleset parts = (origin-put, shape-put, shape-countable, part-written, part-fits, parts-level, parts-differ, parts-last)
+
+pub ruleset levels = (level-start, level-end, level-on, level-decided, origins-compared, types-told, bytes-told)
+
+pub ruleset cases = (parts, levels, needs)

@@ -22,12 +22,13 @@ use Rattle.forms.specs.declared.Form.{Form}
 use Rattle.forms.specs.declared.EquationRow.{EquationRow}
 use Rattle.forms.specs.Memory.{part, Same, Kept, KeptTwo}
 use Rattle.forms.specs.Forms.{slots-at, items-at, visible-at, equation-row-at, EquationStands, EquationsStand, Pointing, Stands}
-use Rattle.forms.specs.FormLaws.{Apart, slots-same, items-same, row-same, equation-row-same, kept-same, kept-two-same, tape-same}
+use Rattle.forms.specs.FormLaws.{Apart, slots-same, items-same, row-same, equation-row-same, kept-same}
 use Rattle.forms.specs.Frames.{points-at, Stays, points-stay}
+use Rattle.frames.specs.Changes.{wider, apart-in, at-first, onward-two, wider-two, tape-kept-two}
 use Rattle.order.specs.Order.{upto}
 use Rattle.order.specs.Sorting.{placed-alike, every-weaker, below-upto}
 use Rattle.order.specs.Ordered.{row-item, map-more}
-use Rattle.joining.specs.Joined.{renode, copied}
+use Rattle.joining.specs.Joined.{renode}
 use Rattle.joining.specs.Grown.{copy-kept}
 use Rattle.joining.specs.Copies.{Steady, word-copied}
 use Rattle.joining.specs.Pointed.{renode-stays}
@@ -36,7 +37,7 @@ use Rattle.ordering.specs.declared.Table.{Table}
 use Rattle.ordering.specs.declared.Table.the-variants.{Equations}
 use Rattle.ordering.specs.Orders.{line-size, row-place, row-order, is-listed}
 use Rattle.ordering.specs.Arranged.{low-word, first-word, all-numbers}
-use Rattle.ordering.specs.Kept.{ItemNoted, sorts-in-order, KeepRoom, scratch-end, order-place, ItemsKept, EquationsKept, renumbered}
+use Rattle.ordering.specs.Kept.{ItemNoted, sorts-in-order, KeepRoom, scratch-end, order-place, ItemsKept, EquationsKept, renumbered, source-stays}
 use Rattle.ordering.specs.Nodes.{kept-form, Distinct, pointing-kept, equation-kept, line-kept}
 use Rattle.ordering.specs.Lines.{line-short}
 
@@ -51,7 +52,7 @@ module _ {A : Type 0} (P : A → Type 0) (le le′ : A → A → Bool) (agree : 
       sorted-alike (place-in le x done) xs (rearranged-every P (placed-rearranged le x done) (h .0, d)) (h .1)
       ∙ ap (λ (ys : List A). sorted-onto le′ ys xs) (placed-alike le′ le x done (every-weaker P (λ y. le y x ≡ le′ y x) (λ y q. agree y x q (h .0)) done d))
 
-sum-rearranged : {A : Type 0} (f : A → ℕ) {xs ys : List A} → Rearranged xs ys → sum f xs ≡ sum f ys
+pub sum-rearranged : {A : Type 0} (f : A → ℕ) {xs ys : List A} → Rearranged xs ys → sum f xs ≡ sum f ys
 unfolding sum
 sum-rearranged f List·Permᴰ·nil = refl
 sum-rearranged f (List·Permᴰ·cons e d) = ap₂ (λ (m n : ℕ). m + n) (ap f e) (sum-rearranged f d)
@@ -157,36 +158,23 @@ module _ (text : List ℕ) (t : ℕ) (f k : Form) (p order : ℕ) (w u w′ : Li
   copy-stays : Kept (k .nodes + 0) (k .nodes + 0 + f .«node_count») u x
   copy-stays = copy-kept u p hidden-notes (f .nodes + 0) (k .nodes + 0) (f .«node_count»)
 
-  source-stays : (b e : ℕ) → Apart (k .parameters) last b e → e ≤ p → Same b e w u
-  source-stays b e apart h =
-      kept-two-same (k .parameters) (k .equations) p (scratch-end f order) b e w u
-      (⊎-elim (λ q. inl q) (λ q. inr (omega (arith, room .equations))) apart) (inl h) (items .kept)
-
   source-stay : Stays w u f
   source-stay = record {
     size = items .kept .size;
-    visible = source-stays (f .visible) (f .visible + f .«visible_count» * 16) (room .outside .visible) (room .visible-before);
-    hidden = source-stays (f .hidden) (f .hidden + f .«hidden_count» * 16) (room .outside .hidden) (room .hidden-before);
-    nodes = source-stays (f .nodes) (f .nodes + f .«node_count») (room .outside .nodes) (room .nodes-before);
+    visible = source-stays room (items .kept) (f .visible) (f .visible + f .«visible_count» * 16) (room .outside .visible) (room .visible-before);
+    hidden = source-stays room (items .kept) (f .hidden) (f .hidden + f .«hidden_count» * 16) (room .outside .hidden) (room .hidden-before);
+    nodes = source-stays room (items .kept) (f .nodes) (f .nodes + f .«node_count») (room .outside .nodes) (room .nodes-before);
   }
 
   source-copied : (b e : ℕ) → Apart (k .parameters) last b e → e ≤ p → Same b e w x
   source-copied b e apart h i l m =
       kept-same (k .nodes + 0) (k .nodes + 0 + f .«node_count») b e u x
-      (⊎-elim (λ q. inl (omega (arith, room .parameters, room .visible, room .hidden, room .equations))) (λ q. inr (omega arith)) apart) copy-stays i l m
-      ∙ source-stays b e apart h i l m
+      (apart-in (omega (arith, room)) apart) copy-stays i l m ∙ source-stays room (items .kept) b e apart h i l m
 
   pub form-kept : KeptTwo (k .parameters) last p (scratch-end f order) w w′
-  form-kept = record {
-    size = equations .sorted .kept .size ∙ copy-stays .size ∙ items .kept .size;
-    kept = λ i a b.
-        equations .sorted .kept .kept i
-        (⊎-elim (λ q. inl (omega (arith, room .parameters, room .visible, room .hidden))) (λ q. inr (omega (arith, room .equations))) a)
-        (⊎-elim (λ q. inl (omega (arith, room .notes))) (λ q. inr (omega arith)) b)
-        ∙ ⊎-elim (λ q. copy-stays .below i (omega (arith, room .parameters, room .visible, room .hidden, room .equations)))
-        (λ q. copy-stays .above i (omega arith)) a
-        ∙ items .kept .kept i (⊎-elim (λ q. inl q) (λ q. inr (omega (arith, room .equations))) a) b;
-  }
+  form-kept =
+      onward-two (onward-two (wider-two (omega (arith, room)) (omega arith) (items .kept)) (at-first (wider (omega (arith, room)) copy-stays)))
+      (wider-two (omega (arith, room)) (omega (arith, room)) (equations .sorted .kept))
 
   module _ (n : Normal) (stands : Stands text (part w 0 t) w f n) (distinct : Distinct (n .hidden .items)) where
     abbrev ordered : List Item
@@ -236,8 +224,7 @@ module _ (text : List ℕ) (t : ℕ) (f k : Form) (p order : ℕ) (w u w′ : Li
       steady y kept j h l =
           let word : getD y j 0 ≡ getD u j 0 =
           kept-same (k .nodes + 0) (k .nodes + 0 + f .«node_count») (f .nodes) (f .nodes + f .«node_count») u y
-          (⊎-elim (λ q. inl (omega (arith, room .parameters, room .visible, room .hidden, room .equations))) (λ q. inr (omega arith))
-          (room .outside .nodes)) kept j (omega arith) (omega arith) in
+          (apart-in (omega (arith, room)) (room .outside .nodes)) kept j (omega arith) (omega arith) in
           let note : (i : ℕ) → p ≤ i → getD y i 0 ≡ getD u i 0 = λ i q. kept .above i (omega (arith, room .nodes)) in
           rw (word, note (p + getD u j 0 / 32) (omega arith), note (hidden-notes + getD u j 0 / 32) (omega arith))
 
@@ -247,7 +234,7 @@ module _ (text : List ℕ) (t : ℕ) (f k : Form) (p order : ℕ) (w u w′ : Li
           let b : f .nodes + 0 + i ≡ f .nodes + i = omega arith in
           let v = getD w (f .nodes + i) 0 in
           let source : getD u (f .nodes + i) 0 ≡ v =
-          source-stays (f .nodes) (f .nodes + f .«node_count») (room .outside .nodes) (room .nodes-before) (f .nodes + i) (omega arith) (omega arith) in
+          source-stays room (items .kept) (f .nodes) (f .nodes + f .«node_count») (room .outside .nodes) (room .nodes-before) (f .nodes + i) (omega arith) (omega arith) in
           near (k .nodes + i) (omega (arith, room .nodes, room .notes)) (inr (omega arith))
           ∙ ap (λ (j : ℕ). getD x j 0) a
           ∙ word-copied u p hidden-notes (f .nodes + 0) (f .nodes + 0 + f .«node_count») (k .nodes + 0) (k .nodes + 0 + f .«node_count») steady u
@@ -399,9 +386,7 @@ module _ (text : List ℕ) (t : ℕ) (f k : Form) (p order : ℕ) (w u w′ : Li
     -- the tape stays too
     pub in-order-stands : Stands text (part w′ 0 t) w′ (kept-form f k) (in-order n)
     in-order-stands =
-        let tapes : part w′ 0 t ≡ part w 0 t =
-        tape-same w w′ t (form-kept .size) (λ i h l. form-kept .kept i (inl (omega (arith, room .tape)))
-        (inl (omega (arith, room .tape, room .parameters, room .visible, room .hidden, room .equations, room .nodes)))) in
+        let tapes = tape-kept-two (room .tape) (omega (arith, room)) form-kept in
         subst (λ (y : List ℕ). Stands text y w′ (kept-form f k) (in-order n)) (sym tapes) stands-there
 
 -- what was kept from w to w′: nothing changes but the places of k and what is behind p, and r stands there for the normal form in order of

@@ -1,6 +1,6 @@
 -- What comes of copying the parts of a form in order.
 use mathlib.Core.Path.{_≡_, refl, sym, ap, ap₂, _∙_}
-use mathlib.Core.Logic.{⊎-elim, inl, inr}
+use mathlib.Core.Logic.{inl, inr}
 use mathlib.Core.Bool.{Bool, true}
 use mathlib.Core.List.{List}
 use Prim.Native.Nat.{ℕ, _+_, _*_, _≤_, _<_}
@@ -16,8 +16,9 @@ use Rattle.tables.specs.Rows.{item-of, row-at}
 use Rattle.forms.specs.declared.Form.{Form}
 use Rattle.forms.specs.Memory.{part, Same, KeptTwo}
 use Rattle.forms.specs.Forms.{slot-at, slots-at, items-at}
-use Rattle.forms.specs.FormLaws.{Apart, kept-is-two, kept-two-same, kept-two-swap, kept-two-then, slots-same, items-same, row-same, tape-same}
+use Rattle.forms.specs.FormLaws.{Apart, kept-two-same, slots-same, items-same, row-same}
 use Rattle.forms.specs.Blocks.{Outside}
+use Rattle.frames.specs.Changes.{apart-in, at-first, at-second, onward-two, wider-two, tape-kept-two}
 use Rattle.order.specs.Order.{PutInOrder}
 use Rattle.order.specs.Sorting.{below-order, every-word}
 use Rattle.order.specs.Ordered.{row-item, ordered-slots}
@@ -62,9 +63,7 @@ module _ (text : List ℕ) (from n order to : ℕ) (w u : List ℕ) (room : Sort
         slot-moved text u w′ (from + getD u (order + i) 0 * 2) (to + i * 2) (λ j l. copied .rows i j h (parameter-numbers .below i h) l))
         ∙ ordered-slots text u from order n (ordered .ordered)
         ∙ ap (by-name (λ (q : Slot). q .name)) (slots-same w u text from n (λ i h l. ordered .kept .below i (omega (arith, room .source))));
-    kept = kept-two-then to (to + n * 2) order (order + n) w u w′
-        (kept-two-swap order (order + n) to (to + n * 2) w u (kept-is-two order (order + n) to (to + n * 2) w u (ordered .kept)))
-        (kept-is-two to (to + n * 2) order (order + n) u w′ (copied .kept));
+    kept = onward-two (at-second (ordered .kept)) (at-first (copied .kept));
   }
 
 -- ---- items
@@ -128,8 +127,7 @@ sorts-then-items text t from n order to notes c m w u w′ room ht sorts put =
     let source : from + n * 16 ≤ order = room .sorting .source in
     let few : c ≤ n = sorts .arranged .few in
     let target : to + n * 16 ≤ order = room .sorting .target in
-    let tapes : part u 0 t ≡ part w 0 t =
-    tape-same w u t (sorts .kept .size) (λ i h l. sorts .kept .kept i (inl (omega arith)) (inl (omega (arith, room .sorting .tape)))) in
+    let tapes = tape-kept-two ht (room .sorting .tape) (sorts .kept) in
     let stays = kept-two-same to (to + n * 16) order (order + n) from (from + n * 16) w u (room .sorting .apart) (inl source) (sorts .kept) in
     let items : items-at text (part w 0 t) u from n ≡ items-at text (part w 0 t) w from n = items-same w u text (part w 0 t) from n stays in
     let ordered : items-at text (part w 0 t) (part u 0 order) to c ≡ by-bytes (λ (i : Item). origin-text (i .origin))
@@ -149,9 +147,7 @@ sorts-then-items text t from n order to notes c m w u w′ room ht sorts put =
             same = ap (λ (tape : List ℕ). row-item text tape w′ to (getD w′ (notes + r) 0)) (sym tapes) ∙ p .same
                 ∙ ap (λ (tape : List ℕ). row-item text tape u from r) tapes ∙ row r h;
           };
-      kept = kept-two-then to (to + n * 16) notes (order + n) w u w′
-          (record { size = sorts .kept .size; kept = λ i h l. sorts .kept .kept i h (⊎-elim (λ q. inl (omega (arith, room .before))) (λ q. inr q) l) })
-          (put .kept);
+      kept = onward-two (wider-two (omega arith) (omega (arith, room .before)) (sorts .kept)) (put .kept);
     }
 
 -- a part copied between memories that agree with w and w′ on what it reads and on what it writes
@@ -222,65 +218,34 @@ pub record ItemsKept (text : List ℕ) (t : ℕ) (f k : Form) (p order : ℕ) (w
   pub hidden-noted : (r : ℕ) → r < f .«hidden_count» → ItemNoted text t (f .hidden) (f .«hidden_count») (k .hidden) (p + f .«visible_count») w w′ r
   pub kept : KeptTwo (k .parameters) (k .equations) p (scratch-end f order) w w′
 
--- frames of the three steps
-kept-two-wider : (a e b f a′ e′ b′ f′ : ℕ) (w w′ : List ℕ) → a′ ≤ a → e ≤ e′ → b′ ≤ b → f ≤ f′ → KeptTwo a e b f w w′ → KeptTwo a′ e′ b′ f′ w w′
-kept-two-wider a e b f a′ e′ b′ f′ w w′ h₁ h₂ h₃ h₄ k = record {
-  size = k .size;
-  kept = λ i p q.
-      k .kept i (⊎-elim (λ x. inl (omega arith)) (λ x. inr (omega arith)) p) (⊎-elim (λ x. inl (omega arith)) (λ x. inr (omega arith)) q);
-}
+-- what stays while the items are copied: the parts of f, and the tape
+module _ {t : ℕ} {f k : Form} {p order : ℕ} {w x : List ℕ} (room : KeepRoom (length w) t f k p order)
+    (kept : KeptTwo (k .parameters) (k .equations) p (scratch-end f order) w x) where
+  pub source-stays : (b e : ℕ) → Apart (k .parameters) (k .nodes + f .«node_count») b e → e ≤ p → Same b e w x
+  source-stays b e apart h =
+      kept-two-same (k .parameters) (k .equations) p (scratch-end f order) b e w x (apart-in (omega (arith, room .equations)) apart) (inl h) kept
 
--- a part of the form lies apart from the places of k between a and e
-part-apart : (low high a e b f : ℕ) → low ≤ a → e ≤ high → Apart low high b f → Apart a e b f
-part-apart low high a e b f h l (inl q) = inl (omega arith)
-part-apart low high a e b f h l (inr q) = inr (omega arith)
+  tape-stays : part x 0 t ≡ part w 0 t
+  tape-stays = tape-kept-two (room .tape) (omega (arith, room)) kept
 
 module _ (text : List ℕ) (t : ℕ) (f k : Form) (p order : ℕ) (w u₁ u₂ w′ : List ℕ) (room : KeepRoom (length w) t f k p order)
     (parameters : ParametersPut text (f .parameters) (f .«parameter_count») order (k .parameters) w u₁)
     (visible : ItemsPut text t visible-order (f .visible) (f .«visible_count») order (k .visible) p u₁ u₂)
     (hidden : ItemsPut text t (hidden-order (sorts-in-order (items-at text (part u₂ 0 t) u₂ (f .hidden) (f .«hidden_count»)))) (f .hidden)
     (f .«hidden_count») order (k .hidden) (p + f .«visible_count») u₂ w′) where
-  abbrev end : ℕ
-  end = scratch-end f order
+  first : KeptTwo (k .parameters) (k .equations) p (scratch-end f order) w u₁
+  first = wider-two (omega (arith, room)) (omega (arith, room)) (parameters .kept)
 
-  first : KeptTwo (k .parameters) (k .equations) p end w u₁
-  first =
-      kept-two-wider (k .parameters) (k .parameters + f .«parameter_count» * 2) order (order + f .«parameter_count») (k .parameters) (k .equations) p end w u₁
-      (omega arith) (omega (arith, room .parameters, room .visible, room .hidden)) (omega (arith, room .notes)) (omega arith) (parameters .kept)
-
-  second : KeptTwo (k .parameters) (k .equations) p end u₁ u₂
-  second =
-      kept-two-wider (k .visible) (k .visible + f .«visible_count» * 16) p (order + f .«visible_count») (k .parameters) (k .equations) p end u₁ u₂
-      (omega (arith, room .parameters)) (omega (arith, room .visible, room .hidden)) (omega arith) (omega arith) (visible .kept)
-
-  third : KeptTwo (k .parameters) (k .equations) p end u₂ w′
-  third =
-      kept-two-wider (k .hidden) (k .hidden + f .«hidden_count» * 16) (p + f .«visible_count») (order + f .«hidden_count») (k .parameters)
-      (k .equations) p end u₂ w′
-      (omega (arith, room .parameters, room .visible)) (omega (arith, room .hidden)) (omega arith) (omega arith) (hidden .kept)
-
-  both : KeptTwo (k .parameters) (k .equations) p end w u₂
-  both = kept-two-then (k .parameters) (k .equations) p end w u₁ u₂ first second
-
-  source-stays : (b e : ℕ) (x : List ℕ) → KeptTwo (k .parameters) (k .equations) p end w x → Apart (k .parameters) (k .nodes + f .«node_count») b e → e ≤ p
-      → Same b e w x
-  source-stays b e x kept apart h =
-      kept-two-same (k .parameters) (k .equations) p end b e w x
-      (part-apart (k .parameters) (k .nodes + f .«node_count») (k .parameters) (k .equations) b e (omega arith) (omega (arith, room .equations)) apart)
-      (inl h) kept
-
-  tape-stays : (x : List ℕ) → KeptTwo (k .parameters) (k .equations) p end w x → part x 0 t ≡ part w 0 t
-  tape-stays x kept =
-      tape-same w x t (kept .size) (λ i h l. kept .kept i (inl (omega (arith, room .tape)))
-      (inl (omega (arith, room .tape, room .parameters, room .visible, room .hidden, room .equations, room .nodes))))
+  both : KeptTwo (k .parameters) (k .equations) p (scratch-end f order) w u₂
+  both = onward-two first (wider-two (omega (arith, room)) (omega (arith, room)) (visible .kept))
 
   pub items-kept : ItemsKept text t f k p order w w′
   items-kept =
       let ends : k .hidden ≤ p = omega (arith, room .hidden, room .equations, room .nodes) in
-      let tapes₁ = tape-stays u₁ first in
-      let tapes₂ = tape-stays u₂ both in
-      let hidden-source = source-stays (f .hidden) (f .hidden + f .«hidden_count» * 16) u₂ both (room .outside .hidden) (room .hidden-before) in
-      let visible-source = source-stays (f .visible) (f .visible + f .«visible_count» * 16) u₁ first (room .outside .visible) (room .visible-before) in
+      let tapes₁ = tape-stays room first in
+      let tapes₂ = tape-stays room both in
+      let hidden-source = source-stays room both (f .hidden) (f .hidden + f .«hidden_count» * 16) (room .outside .hidden) (room .hidden-before) in
+      let visible-source = source-stays room first (f .visible) (f .visible + f .«visible_count» * 16) (room .outside .visible) (room .visible-before) in
       let parameters-stay : Same (k .parameters) (k .parameters + f .«parameter_count» * 2) u₁ w′ =
       λ i h l. hidden .kept .kept i (inl (omega (arith, room .parameters, room .visible))) (inl (omega (arith, room .parameters, room .visible)))
       ∙ visible .kept .kept i (inl (omega (arith, room .parameters))) (inl (omega (arith, room .parameters, room .visible))) in
@@ -304,7 +269,7 @@ module _ (text : List ℕ) (t : ℕ) (f k : Form) (p order : ℕ) (w u₁ u₂ w
             ∙ ap (λ (le : Item → Item → Bool). sorted le (items-at text (part w 0 t) w (f .hidden) (f .«hidden_count»))) same-order;
         hidden-noted = moved-noted text t _ (f .hidden) (f .«hidden_count») order (k .hidden) (p + f .«visible_count») w u₂ w′ w′ hidden tapes₂ hidden-source
             (λ i h l. refl) (λ i h l. refl);
-        kept = kept-two-then (k .parameters) (k .equations) p end w u₂ w′ both third;
+        kept = onward-two both (wider-two (omega (arith, room)) (omega (arith, room)) (hidden .kept));
       }
 
 -- ---- equations

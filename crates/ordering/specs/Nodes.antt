@@ -6,8 +6,7 @@ use Prim.Native.Nat.{ℕ, zero, suc, _+_, _*_, _/_, _%_, _≤_, _<_}
 use native.Mathlib.Omega.{arith}
 use lib.Dec.{eqb}
 use lib.ListN.{length, getD, take, drop, length-take, length-drop}
-use borrow.Author.Tests.{eqb-true, eqb-false, lt-ltb, le-ltb}
-use Rattle.meaning.specs.Lists.{pick}
+use borrow.Author.Tests.{eqb-true, eqb-false}
 use Rattle.meaning.specs.Origins.{same-origin, same-shape, Shape, sort-shape, function-shape, variable-shape, is-sort, is-function, Item, ResolvedEquation}
 use Rattle.meaning.specs.Written.{equation-text}
 use Rattle.meaning.specs.OrderLaws.{Every, Pairwise}
@@ -16,11 +15,11 @@ use Rattle.tables.specs.Decides.{origins-decided, shapes-decided}
 use Rattle.forms.specs.declared.Form.{Form}
 use Rattle.forms.specs.declared.EquationRow.{EquationRow}
 use Rattle.forms.specs.Memory.{part}
-use Rattle.forms.specs.Forms.{items-at, node-row, node-of, node-in, nodes-of, node-item, EquationStands, HiddenPoint, Pointing}
+use Rattle.forms.specs.Forms.{items-at, node-of, node-in, nodes-of, node-item, EquationStands, HiddenPoint, Pointing}
 use Rattle.forms.specs.Frames.{run-word, Points, points-at, each-points}
 use Rattle.order.specs.Ordered.{row-item}
-use Rattle.joining.specs.Joined.{renoded, renode}
-use Rattle.joining.specs.Found.{item-visible, item-hidden}
+use Rattle.joining.specs.Joined.{renode}
+use Rattle.joining.specs.Found.{item-visible, item-hidden, Goes, node-goes, points-go}
 use Rattle.joining.specs.Copies.{map-two}
 use Rattle.printing.specs.Terms.{equation-at}
 use Rattle.printing.specs.Meant.{Told, equation-meant}
@@ -51,96 +50,29 @@ module _ (text : List ℕ) (t : ℕ) (f k : Form) (vn hn : ℕ) (w z : List ℕ)
   abbrev tape : List ℕ
   tape = part w 0 t
 
+  gone : (shown : Bool) (o source base n i : ℕ) → n ≤ 65536 → ItemNoted text t source n base o w z i → Goes text tape w z (λ x. x) shown o source base n i
+  gone shown o source base n i few went = record {
+    small = few;
+    inside = went .inside;
+    node = λ a. ap (node-of shown a) (went .same);
+    sort = ap (λ (x : Item). is-sort (x .shape)) (went .same);
+    function = ap (λ (x : Item). is-function (x .shape)) (went .same);
+  }
+
   module _ (v : ℕ) (points : Points text (part w 0 t) w f v) where
-    abbrev moved : ℕ
-    moved = renode z vn hn v
+    seen : v / 16 % 2 ≡ 0 → Goes text tape w z (λ x. x) true vn (f .visible) (k .visible) (f .«visible_count») (v / 32)
+    seen s = gone true vn (f .visible) (k .visible) (f .«visible_count») (v / 32) visible-few (visible (v / 32) (points .visible s .inside))
 
-    module _ (side : v / 16 % 2 ≡ 0) where
-      abbrev visible-note : ℕ
-      visible-note = getD z (vn + v / 32) 0
+    unseen : v / 16 % 2 ≡ 1 → Goes text tape w z (λ x. x) false hn (f .hidden) (k .hidden) (f .«hidden_count») (v / 32)
+    unseen s = gone false hn (f .hidden) (k .hidden) (f .«hidden_count») (v / 32) hidden-few (hidden (v / 32) (points .hidden s .inside))
 
-      visible-word : moved ≡ visible-note * 32 + v % 32
-      unfolding renode renoded pick
-      visible-word =
-          let low : v % 32 < 16 = omega arith in
-          let small : visible-note < 65536 = omega (arith, visible (v / 32) (points .visible side .inside) .inside) in
-          rw (lt-ltb (v % 32) 16 low, lt-ltb visible-note 65536 small)
+    pub node-kept : node-in text tape z (k .visible) (k .hidden) (renode z vn hn v) ≡ node-in text tape w (f .visible) (f .hidden) v
+    unfolding kept-form
+    node-kept = node-goes text tape w z (λ x. x) vn hn f (kept-form f k) v points seen unseen
 
-      visible-node : node-in text tape z (k .visible) (k .hidden) moved ≡ node-in text tape w (f .visible) (f .hidden) v
-      unfolding node-in node-row pick
-      visible-node =
-          let s : moved / 16 % 2 ≡ 0 = omega (arith, visible-word) in
-          let arguments : moved % 16 ≡ v % 16 = omega (arith, visible-word) in
-          let row : moved / 32 ≡ visible-note = omega (arith, visible-word) in
-          rw (s, arguments, row, side) (ap (node-of true (v % 16)) (visible (v / 32) (points .visible side .inside) .same))
-
-      visible-points : Points text tape z (kept-form f k) moved
-      unfolding kept-form
-      visible-points =
-          let s : moved / 16 % 2 ≡ 0 = omega (arith, visible-word) in
-          let row : moved / 32 ≡ visible-note = omega (arith, visible-word) in
-          let went = visible (v / 32) (points .visible side .inside) in
-          record {
-            visible = λ e. record {
-              inside = omega (arith, row, went .inside);
-              function = ap (λ (i : Item). is-function (i .shape))
-                  (item-visible text tape z (kept-form f k) moved s ∙ ap (row-item text tape z (k .visible)) row ∙ went .same ∙ sym
-                  (item-visible text tape w f v side))
-                  ∙ points .visible side .function;
-            };
-            hidden = λ e. absurd (omega (arith, s, e));
-          }
-
-    module _ (side : v / 16 % 2 ≡ 1) where
-      abbrev hidden-note : ℕ
-      hidden-note = getD z (hn + v / 32) 0
-
-      hidden-word : moved ≡ hidden-note * 32 + v % 32
-      unfolding renode renoded pick
-      hidden-word =
-          let low : 16 ≤ v % 32 = omega arith in
-          let small : hidden-note < 65536 = omega (arith, hidden (v / 32) (points .hidden side .inside) .inside) in
-          rw (le-ltb (v % 32) 16 low, lt-ltb hidden-note 65536 small)
-
-      hidden-node : node-in text tape z (k .visible) (k .hidden) moved ≡ node-in text tape w (f .visible) (f .hidden) v
-      unfolding node-in node-row pick
-      hidden-node =
-          let s : moved / 16 % 2 ≡ 1 = omega (arith, hidden-word) in
-          let arguments : moved % 16 ≡ v % 16 = omega (arith, hidden-word) in
-          let row : moved / 32 ≡ hidden-note = omega (arith, hidden-word) in
-          rw (s, arguments, row, side) (ap (node-of false (v % 16)) (hidden (v / 32) (points .hidden side .inside) .same))
-
-      hidden-points : Points text tape z (kept-form f k) moved
-      unfolding kept-form
-      hidden-points =
-          let s : moved / 16 % 2 ≡ 1 = omega (arith, hidden-word) in
-          let arguments : moved % 16 ≡ v % 16 = omega (arith, hidden-word) in
-          let row : moved / 32 ≡ hidden-note = omega (arith, hidden-word) in
-          let went = hidden (v / 32) (points .hidden side .inside) in
-          let item : node-item text tape w f v ≡ node-item text tape z (kept-form f k) moved =
-          item-hidden text tape w f v side ∙ sym (went .same) ∙ ap (row-item text tape z (k .hidden)) (sym row) ∙ sym
-          (item-hidden text tape z (kept-form f k) moved s) in
-          record {
-            visible = λ e. absurd (omega (arith, s, e));
-            hidden = λ e. record {
-              inside = omega (arith, row, went .inside);
-              no-sort = ap (λ (i : Item). is-sort (i .shape)) (sym item) ∙ points .hidden side .no-sort;
-              alone = λ q. arguments ∙ points .hidden side .alone (ap (λ (i : Item). is-function (i .shape)) item ∙ q);
-            };
-          }
-
-    by-side : {C : Type 0} → (v / 16 % 2 ≡ 0 → C) → (v / 16 % 2 ≡ 1 → C) → C
-    by-side {C} a b = go (eqb (v / 16 % 2) 0) refl
-      where
-        go : (x : Bool) → eqb (v / 16 % 2) 0 ≡ x → C
-        go true e = a (eqb-true (v / 16 % 2) 0 e)
-        go false e = let n = eqb-false (v / 16 % 2) 0 e in b (omega arith)
-
-    pub node-kept : node-in text tape z (k .visible) (k .hidden) moved ≡ node-in text tape w (f .visible) (f .hidden) v
-    node-kept = by-side visible-node hidden-node
-
-    pub points-kept : Points text tape z (kept-form f k) moved
-    points-kept = by-side visible-points hidden-points
+    pub points-kept : Points text tape z (kept-form f k) (renode z vn hn v)
+    unfolding kept-form
+    points-kept = points-go text tape w z (λ x. x) vn hn f (kept-form f k) v points seen unseen
 
   -- ---- equations and all nodes, where the nodes of k in z are those of f in w through the notes
 

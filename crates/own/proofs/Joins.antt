@@ -14,7 +14,8 @@ use Rattle.tables.specs.Rows.{item-of}
 use Rattle.forms.specs.Memory.{part, Same, Kept}
 use Rattle.forms.specs.Forms.{items-at}
 use Rattle.forms.specs.FormLaws.{kept-all, kept-wider, kept-then, kept-same, tape-same, length-items}
-use Rattle.absorb.specs.ListLaws.{found, none-found, union-then}
+use Rattle.walks.specs.Lists.{found, none-found}
+use Rattle.absorb.specs.ListLaws.{union-then}
 use Rattle.absorb.specs.Absorb.{Placed}
 use Rattle.absorb.specs.Turns.{Space}
 use Rattle.declarations.specs.Sorts.{Ready}

@@ -6,6 +6,7 @@ use Prim.Native.Nat.{ℕ, suc, _+_, _-_, _<_, _≤_}
 use native.Mathlib.Omega.{arith}
 use lib.Dec.{eqb}
 use lib.ListN.{length}
+use borrow.Author.Tests.{ne-eqb}
 use Rattle.meaning.specs.Lists.{pick, each}
 use Rattle.meaning.specs.Names.{Name}
 use Rattle.meaning.specs.Syntax.{Parameter, Module}
@@ -13,10 +14,10 @@ use Rattle.meaning.specs.Normal.{Slot, Visible}
 use Rattle.meaning.specs.Own.{own-slot}
 use Rattle.meaning.specs.Evaluate.{seen-sorts}
 use Rattle.names.specs.Word.{name-of}
-use Rattle.tape.specs.Tape.{Entry, flat-signature, flat-parameter, flat-import, flat-group, flat-equation, flat-module}
+use Rattle.tape.specs.Tape.{Entry, flat-signature, flat-parameter, flat-module}
 use Rattle.tables.specs.Entries.{home-at}
-use Rattle.declarations.specs.Spelled.{Spells, Above, names-with, names-append, names-above, home-there}
-use Rattle.declarations.specs.Spelled.{all-append, all-signature, all-imports, all-groups, all-equations}
+use Rattle.walks.specs.Flat.{behind-parameters, all-signature, all-behind-parameters, names-with, names-append, names-none}
+use Rattle.declarations.specs.Spelled.{Spells, is-role, home-there}
 use Rattle.declarations.specs.DeclarationLaws.{Stands}
 use Rattle.declarations.specs.declared.Own.{Own}
 use Rattle.own.specs.Parameters.{declared-slot, declared-slots}
@@ -27,52 +28,35 @@ of-module home a = record { name = a; home = home }
 
 slots-spelled : (text tape : List ℕ) (home : Name) (es : List Entry) (i : ℕ) → Spells text tape i es
     → ((d : ℕ) → i ≤ d → d < i + length es → name-of text (home-at tape d) ≡ home)
-    → declared-slots text tape i (length es) ≡ map (of-module home) (names-with 2 es)
+    → declared-slots text tape i (length es) ≡ map (of-module home) (names-with (is-role 2) es)
 unfolding declared-slots declared-slot names-with pick
 slots-spelled text tape home [] i h k = refl
 slots-spelled text tape home (e ∷ es) i h k =
     rw (h .0, h .1, k i (omega arith) (omega arith), slots-spelled text tape home es (suc i) (h .2) (λ d l n. k d (omega arith) (omega arith)))
     (go (eqb (e .role) 2))
   where
-    go : (b : Bool) → pick b (of-module home (e .name) ∷ map (of-module home) (names-with 2 es)) (map (of-module home) (names-with 2 es))
-        ≡ map (of-module home) (pick b (e .name ∷ names-with 2 es) (names-with 2 es))
+    go : (b : Bool) → pick b (of-module home (e .name) ∷ map (of-module home) (names-with (is-role 2) es)) (map (of-module home) (names-with (is-role 2) es))
+        ≡ map (of-module home) (pick b (e .name ∷ names-with (is-role 2) es) (names-with (is-role 2) es))
     go true = refl
     go false = refl
 
-names-parameters : (ps : List Parameter) → names-with 2 (each flat-parameter ps) ≡ map (λ (p : Parameter). p .name) ps
+names-parameters : (ps : List Parameter) → names-with (is-role 2) (each flat-parameter ps) ≡ map (λ (p : Parameter). p .name) ps
 unfolding each flat-parameter names-with pick
 names-parameters [] = refl
 names-parameters (p ∷ ps) =
-    names-append 2 (flat-parameter p) (each flat-parameter ps)
+    names-append (is-role 2) (flat-parameter p) (each flat-parameter ps)
     ∙ ap₂ (λ (x y : List Name). x ++ y)
     (ap (λ (x : List Name). p .name ∷ x)
-    (names-above 2 3 (omega arith) (flat-signature 3 4 (p .signature))
-    (all-signature (λ (r : ℕ). 3 ≤ r) 3 4 (omega arith) (omega arith) (omega arith) (omega arith) (p .signature))))
+    (names-none (is-role 2) (flat-signature 3 4 (p .signature)) (all-signature (λ (r : ℕ). is-role 2 r ≡ false) 3 4 refl refl refl refl (p .signature))))
     (names-parameters ps)
 
-module _ (m : Module) where
-  abbrev behind-parameters : List Entry
-  behind-parameters =
-      flat-signature 5 6 (m .exports)
-      ++ (each flat-import (m .imports) ++ (flat-signature 7 8 (m .hidden) ++ (each flat-group (m .groups) ++ each flat-equation (m .equations))))
-
-  behind-above : Above 3 behind-parameters
-  behind-above =
-      all-append P (flat-signature 5 6 (m .exports)) _ (all-signature P 5 6 (omega arith) (omega arith) (omega arith) (omega arith) (m .exports))
-      (all-append P (each flat-import (m .imports)) _ (all-imports P (λ r h l. omega arith) (m .imports))
-      (all-append P (flat-signature 7 8 (m .hidden)) _ (all-signature P 7 8 (omega arith) (omega arith) (omega arith) (omega arith) (m .hidden))
-      (all-append P (each flat-group (m .groups)) (each flat-equation (m .equations)) (all-groups P (omega arith) (omega arith) (m .groups))
-      (all-equations P (λ r h. omega arith) (m .equations)))))
-    where
-      P : ℕ → Type 0
-      P r = 3 ≤ r
-
-  names-module : names-with 2 (flat-module m) ≡ map (λ (p : Parameter). p .name) (m .parameters)
-  unfolding flat-module names-with pick
-  names-module =
-      names-append 2 (each flat-parameter (m .parameters)) behind-parameters
-      ∙ ap₂ (λ (x y : List Name). x ++ y) (names-parameters (m .parameters)) (names-above 2 3 (omega arith) behind-parameters behind-above)
-      ∙ append-nil (map (λ (p : Parameter). p .name) (m .parameters))
+names-module : (m : Module) → names-with (is-role 2) (flat-module m) ≡ map (λ (p : Parameter). p .name) (m .parameters)
+unfolding flat-module names-with pick
+names-module m =
+    names-append (is-role 2) (each flat-parameter (m .parameters)) (behind-parameters m)
+    ∙ ap₂ (λ (x y : List Name). x ++ y) (names-parameters (m .parameters))
+    (names-none (is-role 2) (behind-parameters m) (all-behind-parameters (λ (r : ℕ). is-role 2 r ≡ false) (λ r h. ne-eqb r 2 (λ q. omega arith)) m))
+    ∙ append-nil (map (λ (p : Parameter). p .name) (m .parameters))
 
 slots-named : (m : Module) (seen : List Name) (ps : List Parameter) → map (of-module (m .name)) (map (λ (p : Parameter). p .name) ps) ≡ map (own-slot m seen) ps
 unfolding own-slot

@@ -1,6 +1,6 @@
 -- A module's own form in memory, as the code makes it, and that it stands for what the meaning makes of the module's equations.
 use mathlib.Core.Path.{_≡_, refl, ap, _∙_}
-use mathlib.Core.List.{List, _++_, map}
+use mathlib.Core.List.{List}
 use Prim.Native.Nat.{ℕ, _+_, _-_, _≤_}
 use native.Mathlib.Omega.{arith}
 use lib.ListN.{length, length-append}
@@ -11,9 +11,10 @@ use Rattle.meaning.specs.Origins.{hidden-section, ResolvedEquation}
 use Rattle.meaning.specs.OrderLaws.{Every}
 use Rattle.meaning.specs.Normal.{Visible, Normal}
 use Rattle.meaning.specs.Checks.{fine, _>>=_}
-use Rattle.meaning.specs.Own.{own-sort, own-function, own-section, own-variable, own-hidden-items}
+use Rattle.meaning.specs.Own.{own-sort, own-function, own-variable, own-hidden-items}
 use Rattle.meaning.specs.Evaluate.{own-equations}
-use Rattle.limits.specs.EveryLaws.{every-append, every-made}
+use Rattle.laws.specs.EveryLaws.{every-all}
+use Rattle.laws.specs.OwnItems.{section-made, hidden-every}
 use Rattle.limits.specs.Limits.{NodesWithin}
 use Rattle.tape.specs.Tape.{tag-role, flat-equation, flat-module}
 use Rattle.tables.specs.Entries.{next-with}
@@ -43,15 +44,9 @@ own-at text t f home from end w =
 -- ---- M's own hidden items stand hidden
 
 own-unseen : (m : Module) (seen : List Name) → Every Unseen (own-hidden-items m seen)
-unfolding own-hidden-items own-section own-sort own-function own-variable visibly
+unfolding own-sort own-function own-variable visibly
 own-unseen m seen =
-    let sorts = map (own-sort m seen hidden-section) (m .hidden .sorts) in
-    let functions = map (own-function m seen hidden-section) (m .hidden .functions) in
-    every-append Unseen (sorts ++ functions) (map (own-variable m seen) (variables-of m))
-    (every-append Unseen sorts functions
-    (every-made Unseen (own-sort m seen hidden-section) (λ a. refl) (m .hidden .sorts))
-    (every-made Unseen (own-function m seen hidden-section) (λ a. refl) (m .hidden .functions)))
-    (every-made Unseen (own-variable m seen) (λ a. refl) (variables-of m))
+    hidden-every Unseen m seen (section-made Unseen m seen hidden-section (λ a. refl) (λ f. refl) (m .hidden)) (every-all _ (λ v. refl) (variables-of m))
 
 -- ---- the form
 

@@ -1,5 +1,5 @@
 -- Where a module's equations begin among its entries: at the first tag.
-use mathlib.Core.Path.{_≡_, refl, sym, ap, _∙_}
+use mathlib.Core.Path.{_≡_, refl, ap, _∙_}
 use mathlib.Core.List.{List, [], _∷_, _++_, append-assoc}
 use Prim.Native.Nat.{ℕ, suc, _+_, _-_, _*_, _<_, _≤_}
 use native.Mathlib.Omega.{arith}
@@ -9,12 +9,13 @@ use Rattle.meaning.specs.Lists.{pick, each}
 use Rattle.meaning.specs.Syntax.{Equation, Module}
 use Rattle.tape.specs.Tape.{Entry, entry, module-role, export-sort, export-function, hidden-sort, hidden-function, tag-role, condition-role, conclusion-role, flat-signature, flat-parameter, flat-import, flat-group, flat-term, flat-sides, flat-equation, flat-module, flat-modules, entries}
 use Rattle.tables.specs.Entries.{next-with}
-use Rattle.declarations.specs.Spelled.{Spells, All, all-append, all-signature, all-parameters, all-imports, all-groups, spells-front, spells-behind, entries-spelled}
+use Rattle.walks.specs.Flat.{All, all-append, all-signature, all-parameters, all-imports, all-groups}
+use Rattle.declarations.specs.Spelled.{Spells, spells-front, spells-behind, entries-spelled}
 use Rattle.typing.specs.declared.Known.{Known}
 use Rattle.typing.specs.Typing.{tape-in}
 use Rattle.typing.specs.Meant as typer
 use Rattle.typing.specs.Meant.{begins}
-use Rattle.typing.specs.Equated.{each-append}
+use Rattle.walks.specs.Lists.{each-append}
 
 -- a module's entries in front of its equations
 unfoldable pub in-front : Module → List Entry
@@ -26,18 +27,7 @@ in-front m =
 
 pub module-split : (m : Module) → flat-module m ≡ in-front m ++ each flat-equation (m .equations)
 unfolding flat-module in-front
-module-split m =
-    let a = each flat-parameter (m .parameters) in
-    let b = flat-signature export-sort export-function (m .exports) in
-    let c = each flat-import (m .imports) in
-    let d = flat-signature hidden-sort hidden-function (m .hidden) in
-    let g = each flat-group (m .groups) in
-    let q = each flat-equation (m .equations) in
-    let e₁ = append-assoc d g q in
-    let e₂ = append-assoc c (d ++ g) q ∙ ap (λ (r : List Entry). c ++ r) e₁ in
-    let e₃ = append-assoc b (c ++ (d ++ g)) q ∙ ap (λ (r : List Entry). b ++ r) e₂ in
-    let e₄ = append-assoc a (b ++ (c ++ (d ++ g))) q ∙ ap (λ (r : List Entry). a ++ r) e₃ in
-    ap (λ (r : List Entry). entry module-role (m .name) ∷ r) (sym e₄)
+module-split m = simp append-assoc
 
 -- no tag stands among them
 front-low : (m : Module) → All (λ (r : ℕ). r < 19) (in-front m)

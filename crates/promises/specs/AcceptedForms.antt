@@ -8,13 +8,15 @@ use Rattle.meaning.specs.Lists.{pick, keep, any, none-in, each}
 use Rattle.meaning.specs.Names.{Name, same}
 use Rattle.meaning.specs.Origins.{Section, export-section, hidden-section, parameter-section, Item, ResolvedEquation, in-parameter}
 use Rattle.meaning.specs.Normal.{Slot, Visible, Normal, slot-names, formals}
-use Rattle.meaning.specs.Written.{equation-text, equation-order, visible-order, visible-in-order, hidden-order, hidden-in-order, in-order}
+use Rattle.meaning.specs.Written.{equation-text, hidden-in-order, in-order}
 use Rattle.meaning.specs.Listing.{is-exported}
-use Rattle.meaning.specs.OrderLaws.{Every, Pairwise, Rearranged, rearranged-member, same-equal, same-self, sorted-rearranged}
-use Rattle.promises.specs.ListingLaws.{Plain, PlainEquation, every-so, first-of, not-empty, rest-of}
-use Rattle.promises.specs.SameListing.{EquationsTold, SameNormal, VisibleTold, items-in-order, kept-member, one-order, sorts-in-order, visible-items-one}
+use Rattle.meaning.specs.OrderLaws.{Every, Pairwise, Rearranged, rearranged-member, same-equal, same-self}
+use Rattle.laws.specs.EveryLaws.{every-so, kept-member, any-passes, every-member, member-map-to, every-made, every-map}
+use Rattle.promises.specs.ListingLaws.{Plain, first-of, not-empty, rest-of}
+use Rattle.promises.specs.SameListing.{EquationsTold, SameNormal, VisibleTold, items-in-order, one-order, visible-items-one}
+pub use Rattle.promises.specs.SameListing.{same-ordered}
 use Rattle.promises.specs.Told.{SameListed, SoundVisible, Stands, StandsIn, every-named, exported-of}
-use Rattle.promises.specs.Sound.{any-passes, every-member, member-map-to, once-told}
+use Rattle.promises.specs.Sound.{once-told}
 use Rattle.promises.specs.Parts.{Apart, parted}
 use Rattle.promises.specs.WellTyped.{TypedEquation}
 use Rattle.promises.specs.TermsTold.{content, told-equation}
@@ -27,41 +29,31 @@ module _ (k : Normal) (a : Accepted k) where
   IsTyped e = TypedEquation (k .visible .items) (k .hidden .items) e
 
   -- an equation of k, and one over the same items, with one written line say the same
-  line-told : (e f : ResolvedEquation) → Plain (e .tag) → Plain (f .tag) → IsTyped e → IsTyped f
-      → equation-text (k .hidden .items) e ≡ equation-text (k .hidden .items) f → content e ≡ content f
-  line-told =
+  line-told : (e f : ResolvedEquation) → IsTyped e → IsTyped f → equation-text (k .hidden .items) e ≡ equation-text (k .hidden .items) f
+      → content e ≡ content f
+  line-told e f d d′ =
       told-equation (k .visible .items) (k .hidden .items)
-      (every-so SoundVisible (λ i. Plain (i .name)) (k .visible .items) (λ i h. h .name) (a .whole .sound .visible)) (a .few) (a .outputs)
+      (every-so SoundVisible (λ i. Plain (i .name)) (k .visible .items) (λ i h. h .name) (a .whole .sound .visible)) (a .few) (a .outputs) e f (d .tag)
+      (d′ .tag) d d′
 
   -- equations of one module, position and written line are one
   pub accepted-equations-told : EquationsTold (k .hidden .items) (k .hidden .equations)
   unfolding content
   accepted-equations-told e f m l home position text =
       let es = k .hidden .equations in
-      let tag : (x : ResolvedEquation) → List·Memᴰ x es → Plain (x .tag) = λ x q. every-member PlainEquation es (a .whole .sound .equations) x q .tag in
       let typed : (x : ResolvedEquation) → List·Memᴰ x es → IsTyped x = every-member IsTyped es (a .whole .typed) in
-      let said = line-told e f (tag e m) (tag f l) (typed e m) (typed f l) text in
+      let said = line-told e f (typed e m) (typed f l) text in
       λ x. record { home = home x; position = position x; tag = said x .tag; conclusion = said x .conclusion; conditions = said x .conditions }
 
   -- two lists of equations over the same items with the same written lines say the same
-  lines-told : (es fs : List ResolvedEquation) → Every PlainEquation es → Every PlainEquation fs → Every IsTyped es → Every IsTyped fs
+  lines-told : (es fs : List ResolvedEquation) → Every IsTyped es → Every IsTyped fs
       → map (equation-text (k .hidden .items)) es ≡ map (equation-text (k .hidden .items)) fs → map content es ≡ map content fs
-  lines-told [] [] p q d d′ e = refl
-  lines-told [] (f ∷ fs) p q d d′ e = not-empty e
-  lines-told (x ∷ es) [] p q d d′ e = not-empty (sym e)
-  lines-told (x ∷ es) (f ∷ fs) p q d d′ e =
-      ap₂ _∷_ (line-told x f (p .0 .tag) (q .0 .tag) (d .0) (d′ .0) (first-of e)) (lines-told es fs (p .1) (q .1) (d .1) (d′ .1) (rest-of e))
+  lines-told [] [] d d′ e = refl
+  lines-told [] (f ∷ fs) d d′ e = not-empty e
+  lines-told (x ∷ es) [] d d′ e = not-empty (sym e)
+  lines-told (x ∷ es) (f ∷ fs) d d′ e = ap₂ _∷_ (line-told x f (d .0) (d′ .0) (first-of e)) (lines-told es fs (d .1) (d′ .1) (rest-of e))
 
 -- ---- one form, in whatever order its items and equations were found
-
-pub same-ordered : (n : Normal) → SameNormal n (in-order n)
-unfolding in-order visible-in-order hidden-in-order
-same-ordered n = record {
-  parameters = sorted-rearranged _ (n .visible .parameters);
-  items = sorted-rearranged visible-order (n .visible .items);
-  hidden-items = sorted-rearranged (hidden-order (sorts-in-order (n .hidden .items))) (n .hidden .items);
-  equations = sorted-rearranged (equation-order (items-in-order (n .hidden .items))) (n .hidden .equations);
-}
 
 pub same-then : (a b c : Normal) → SameNormal a b → SameNormal b c → SameNormal a c
 same-then a b c s t = record {
@@ -129,19 +121,12 @@ parameters-apart p q d (parameter-section r) e = go (same q r) refl
 insides-apart : (ps : List Name) → Pairwise (λ p q. same p q ≡ false) ps → Pairwise Apart (map inside ps)
 unfolding inside
 insides-apart [] h = tt
-insides-apart (p ∷ ps) h = (later ps (h .0), insides-apart ps (h .1))
-  where
-    later : (qs : List Name) → Every (λ q. same p q ≡ false) qs → Every (Apart (inside p)) (map inside qs)
-    later [] k = tt
-    later (q ∷ qs) k = (λ i e. parameters-apart p q (k .0) (i .standing) e, later qs (k .1))
+insides-apart (p ∷ ps) h =
+    (every-map _ (Apart (inside p)) inside (λ q k i e. parameters-apart p q k (i .standing) e) ps (h .0), insides-apart ps (h .1))
 
 places-apart : (ps : List Name) → Pairwise (λ p q. same p q ≡ false) ps → Pairwise Apart (places ps)
 unfolding places exported inside
-places-apart ps h = (all ps, insides-apart ps h)
-  where
-    all : (qs : List Name) → Every (Apart exported) (map inside qs)
-    all [] = tt
-    all (q ∷ qs) = (λ i e. exported-apart q (i .standing) e, all qs)
+places-apart ps h = (every-made (Apart exported) inside (λ q i e. exported-apart q (i .standing) e) ps, insides-apart ps h)
 
 stands-somewhere : (ps : List Slot) (i : Item) → Stands ps i → any (λ (t : Item → Bool). t i) (places (slot-names ps)) ≡ true
 unfolding places exported inside is-exported in-parameter slot-names
@@ -258,5 +243,4 @@ module _ (asked asked′ : Name) (k k′ : Normal) (a : Accepted k) (a′ : Acce
       let over : List Item → List Item → Type 0 = λ vs is. Every (TypedEquation vs is) fs in
       let typed = subst (λ (vs : List Item). over vs (k′ .hidden .items)) (sym one-visible) (a′ .whole .typed) in
       let written : List Item → List (List ℕ) = λ is. map (equation-text is) fs in
-      lines-told k a es fs (a .whole .sound .equations) (a′ .whole .sound .equations) (a .whole .typed)
-      (subst (over (k .visible .items)) (sym (s .hidden)) typed) (s .equations ∙ ap written (sym (s .hidden)))
+      lines-told k a es fs (a .whole .typed) (subst (over (k .visible .items)) (sym (s .hidden)) typed) (s .equations ∙ ap written (sym (s .hidden)))

@@ -1,26 +1,96 @@
--- Demand 3 where "accepted" is read of a module asked by itself: if each other reached module is answered 0 when it is asked, then a refusal
--- of the asked module's call is its own, or 18.
-use mathlib.Core.Path.{_≡_, refl, sym, ap, subst, _∙_}
-use mathlib.Core.Logic.{_⊎_, inl, inr, ⊎-elim}
+-- Demand 3 where "accepted" is read of a module asked by itself: a module that is accepted in one call of a specification is so in another, room
+-- apart; so if each other reached module is answered 0 when it is asked, a refusal of the asked module's call is its own, or 18.
+use mathlib.Core.Path.{_≡_, refl, sym, ap, _∙_, subst}
+use mathlib.Core.Logic.{⊎-elim, _⊎_, inl, inr}
+use mathlib.Core.Bool.{Bool, true, false, not, _&&_}
+use mathlib.Core.List.{List, [], _∷_, map}
 use Prim.Native.Nat.{ℕ, _+_}
-use mathlib.Core.Bool.{Bool, true, false}
-use mathlib.Core.List.{List, [], _∷_}
-use Rattle.meaning.specs.Lists.{pick}
+use Rattle.meaning.specs.Lists.{each, pick}
 use Rattle.meaning.specs.Names.{Name, same, member}
-use Rattle.meaning.specs.Syntax.{Module}
+use Rattle.meaning.specs.Syntax.{Clause, Import, Module, renamed-by, bound-by}
 use Rattle.meaning.specs.Normal.{Visible, nothing-visible}
-use Rattle.meaning.specs.Checks.{Culprit, Outcome, fine, stop}
-use Rattle.meaning.specs.Evaluate.{named-by}
+use Rattle.meaning.specs.Checks.{_>>=_, _>>_, Outcome, Check, fine, Culprit, stop}
+use Rattle.meaning.specs.Evaluate.{clause-names, import-names, named-by, missing, too-late, names-right}
+use Rattle.meaning.specs.Mirror.{then-fine, never, fine-same}
+use Rattle.meaning.specs.Visibly.{Seen, visible-of, clause-visibly, clauses-visibly, expressions-visibly, imported-visibly, joined-visibly, evaluate-visibly}
 use Rattle.meaning.specs.Reached.{wanted, Placed, reached-among, reached, Ended, module-names, normalise, normalised, refused-at}
+use Rattle.meaning.specs.Laws.{by-cases}
 use Rattle.meaning.specs.Distinct.{Fresh, read-fresh}
-use Rattle.meaning.specs.Mirror.{never, fine-same}
-use Rattle.meaning.specs.Visibly.{Seen, visible-of}
-use Rattle.promises.specs.Members.{clear, same-eq, member-left, Inside, inside-more, inside-later}
-use Rattle.promises.specs.Wanting.{wanted-here, wanted-asked, reached-here, reached-later, ReachedIn, wanted-within, Closed, closed-more, closed-skip}
-use Rattle.promises.specs.Again.{names-seen, Agree, evaluate-same}
-use Rattle.promises.specs.Seeing.{EndedVisibly, shows, refuses, end-visibly, seen-as, in-turn-visibly, normalise-visibly, Eighteen, as-seen, Reflects, normalise-reflects, Showing, stands-visibly, no-refusal}
-use Rattle.promises.specs.Demand.{ForEach, RefusedAtMost, InTheCall, IsNormalised, ByItself, Comparable, Demand3}
-use Rattle.promises.specs.Proof.{eighteen-told, answer-ended, demand-3}
+use Rattle.meaning.specs.OrderLaws.{Every, same-equal}
+use Rattle.promises.specs.Members.{clear, member-here, member-right, member-left, no-name, member-either, Inside, inside-more, inside-later, refuted, wanted-here, wanted-asked, ReachedIn, wanted-within, Closed, closed-more, closed-skip}
+use Rattle.promises.specs.TwoCalls.{went-on, both-cases}
+use Rattle.promises.specs.Demand.{RefusedAtMost, InTheCall, IsNormalised, ByItself, Comparable, Demand3}
+use Rattle.promises.specs.Proof.{eighteen-told, answer-ended, demand-3, EndedVisibly, shows, refuses, end-visibly, seen-as, in-turn-visibly, normalise-visibly, Eighteen, as-seen, Reflects, normalise-reflects, Showing, stands-visibly, no-refusal}
+
+abbrev pub names-seen : List Seen → List Name
+names-seen env = map (λ (e : Seen). e .name) env
+
+abbrev pub Agree : List Seen → List Seen → Type 0
+Agree env env′ = (w : Name) → member w (names-seen env) ≡ true → visible-of env w ≡ visible-of env′ w
+
+abbrev Covers : List Seen → List Name → Type 0
+Covers env ws = (w : Name) → member w ws ≡ true → member w (names-seen env) ≡ true
+
+module _ (env env′ : List Seen) (agree : Agree env env′) where
+  clause-same : (c : Clause) (v : Visible) → Covers env (clause-names c) → clause-visibly env c v ≡ clause-visibly env′ c v
+  unfolding clause-visibly clause-names
+  clause-same (renamed-by rs) v h = refl
+  clause-same (bound-by p rs m) v h = rw (agree m (h m (member-here m [])))
+
+  clauses-same : (cs : List Clause) (v : Visible) → Covers env (each clause-names cs) → clauses-visibly env cs v ≡ clauses-visibly env′ cs v
+  unfolding clauses-visibly each
+  clauses-same [] v h = refl
+  clauses-same (c ∷ cs) v h =
+      λ i. clause-same c v (λ w k. h w (member-left w (clause-names c) _ k)) i
+      >>= λ x. clauses-same cs x (λ w k. h w (member-right w (clause-names c) _ k)) i
+
+  expressions-same : (is : List Import) → Covers env (each import-names is) → expressions-visibly env is ≡ expressions-visibly env′ is
+  unfolding expressions-visibly each import-names
+  expressions-same [] h = refl
+  expressions-same (x ∷ is) h =
+      let first : visible-of env (x .name) ≡ visible-of env′ (x .name) = agree (x .name) (h (x .name) (member-here (x .name) _)) in
+      let here : clauses-visibly env (x .clauses) (visible-of env (x .name)) ≡ clauses-visibly env′ (x .clauses) (visible-of env′ (x .name)) =
+      clauses-same (x .clauses) (visible-of env (x .name))
+      (λ w k. h w (member-left w (x .name ∷ each clause-names (x .clauses)) _ (member-right w (x .name ∷ []) _ k)))
+      ∙ ap (clauses-visibly env′ (x .clauses)) first in
+      let rest = expressions-same is (λ w k. h w (member-right w (x .name ∷ each clause-names (x .clauses)) _ k)) in
+      λ i. here i >>= λ v. (rest i >>= λ vs. fine (v ∷ vs))
+
+  imported-same : (is : List Import) → Covers env (each import-names is) → imported-visibly env is ≡ imported-visibly env′ is
+  unfolding imported-visibly
+  imported-same is h = rw (expressions-same is h)
+
+-- ---- step 1 passed: each name is earlier
+
+pub earlier-names : (d e ws : List Name) → names-right d e ws ≡ fine tt → (w : Name) → member w ws ≡ true → member w e ≡ true
+unfolding names-right missing too-late
+earlier-names d e [] h w k = no-name w k
+earlier-names d e (v ∷ ws) h w k =
+    let a = went-on (missing d v) _ _ _ tt h in
+    let b = went-on (too-late d e v) _ _ _ tt (a .1) in
+    ⊎-elim (λ p. ap (λ (x : Name). member x e) p ∙ go (member v d) (member v e) (a .0) (b .0)) (earlier-names d e ws (b .1) w) (member-either w v ws k)
+  where
+    go : (x y : Bool) → not x ≡ false → (x && not y) ≡ false → y ≡ true
+    go true true p q = refl
+    go true false p q = clear q
+    go false y p q = clear p
+
+-- ---- the same module in the two environments
+
+then-so : (c : Check) (o : Outcome Visible) (v : Visible) → c ≡ fine tt → o ≡ fine v → (c >> o) ≡ fine v
+unfolding _>>_
+then-so c o v p h = ap (λ (x : Check). x >> o) p ∙ h
+
+pub evaluate-same : (d e : List Name) (env env′ : List Seen) (m : Module) (v : Visible) → Agree env env′
+    → ((w : Name) → member w (named-by m) ≡ true → member w e ≡ true → member w (names-seen env) ≡ true)
+    → evaluate-visibly (names-right d e (named-by m)) env m ≡ fine v → evaluate-visibly (names-right d e (named-by m)) env′ m ≡ fine v
+unfolding evaluate-visibly named-by
+evaluate-same d e env env′ m v agree closed q =
+    let a = then-fine _ _ v q in
+    let b = then-fine _ _ v (a .1) in
+    let i : imported-visibly env (m .imports) ≡ imported-visibly env′ (m .imports) =
+    imported-same env env′ agree (m .imports) (λ w k. closed w k (earlier-names d e (named-by m) (a .0) w k)) in
+    then-so _ _ v (a .0) (then-so _ _ v (b .0) (ap (λ o. o >>= joined-visibly m) (sym i) ∙ b .1))
 
 -- ---- the two calls, module by module
 
@@ -48,20 +118,12 @@ refused-reached : (d : List Name) (asked : Name) (ms : List Module) (k : ℕ) (e
     (y : Name) (w : Culprit)
     → in-turn-visibly d env last (reached-among asked k e ms) ≡ refuses n c y w → ReachedIn y asked ms
 unfolding in-turn-visibly reached-among
-refused-reached d asked [] k e env last n c y w h = no-refusal _ n c _ y w h
-refused-reached d asked (m ∷ ms) k e env last n c y w h =
-    go (member (m .name) (wanted asked ms)) refl
-    (λ k′ e′ env′ last′ g. refused-reached d asked ms k′ e′ env′ last′ n c y w g)
-  where
-    go : (b : Bool) → member (m .name) (wanted asked ms) ≡ b
-        → ((k′ : ℕ) (e′ : List Name) (env′ : List Seen) (last′ : Visible)
-        → in-turn-visibly d env′ last′ (reached-among asked k′ e′ ms) ≡ refuses n c y w → ReachedIn y asked ms)
-        → ReachedIn y asked (m ∷ ms)
-    go true b later =
-        let g = sym (ap (λ (r : List Placed). in-turn-visibly d env last r) (reached-here asked m ms k e b)) ∙ h in
-        ⊎-elim (λ r. inl (b, r .1)) (λ r. inr (later _ _ _ _ (r .2))) (refused-next _ _ _ _ n c y w g)
-    go false b later =
-        inr (later _ _ _ _ (sym (ap (λ (r : List Placed). in-turn-visibly d env last r) (reached-later asked m ms k e b)) ∙ h))
+refused-reached d asked [] k e env last n c y w = no-refusal _ n c _ y w
+refused-reached d asked (m ∷ ms) k e env last n c y w =
+    by-cases (λ (xs : List Placed). in-turn-visibly d env last xs ≡ refuses n c y w → ReachedIn y asked (m ∷ ms)) (member (m .name) (wanted asked ms)) _ _
+    (λ b h. ⊎-elim (λ r. inl (b, r .1)) (λ r. inr (refused-reached d asked ms _ _ (seen-as m (r .0) ∷ env) (r .0) n c y w (r .2)))
+    (refused-next _ _ _ _ n c y w h))
+    (λ b h. inr (refused-reached d asked ms _ _ env last n c y w h))
 
 choice-same : {A : Type 0} (b r : Bool) (x p q : A) → pick b true r ≡ true → (r ≡ true → p ≡ q) → pick b x p ≡ pick b x q
 unfolding pick
@@ -80,11 +142,9 @@ module _ (m : Module) (x : Visible) where
   agree-skip : (e : List Name) (env env′ : List Seen) → member (m .name) e ≡ false → Inside (names-seen env) e → Agree env env′
       → Agree env (seen-as m x ∷ env′)
   unfolding visible-of
-  agree-skip e env env′ f i h w k = choice-second (same w (m .name)) _ _ _ (go (same w (m .name)) refl) (h w k)
-    where
-      go : (b : Bool) → same w (m .name) ≡ b → b ≡ false
-      go true q = clear (sym (sym f ∙ ap (λ (v : Name). member v e) (sym (same-eq w (m .name) q)) ∙ i w k))
-      go false q = refl
+  agree-skip e env env′ f i h w k =
+      choice-second (same w (m .name)) _ _ _
+      (refuted _ (λ q. sym (sym f ∙ ap (λ (v : Name). member v e) (sym (same-equal w (m .name) q)) ∙ i w k))) (h w k)
 
 -- y's own call shows something, and the call of the asked module is refused at y: that cannot be
 both-calls : (d : List Name) (asked y : Name) (n c : ℕ) (w : Culprit)
@@ -93,45 +153,31 @@ both-calls : (d : List Name) (asked y : Name) (n c : ℕ) (w : Culprit)
     → IsShown (in-turn-visibly d env last (reached-among y k e ms))
     → in-turn-visibly d env′ last′ (reached-among asked k e ms) ≡ refuses n c y w → ⊥
 unfolding in-turn-visibly reached-among
-both-calls d asked y n c w [] k e env env′ last last′ f a i cl h h′ = no-refusal _ n c _ y w h′
-both-calls d asked y n c w (m ∷ ms) k e env env′ last last′ f a i cl h h′ =
-    go (member (m .name) (wanted y ms)) (member (m .name) (wanted asked ms)) refl refl
-    (λ env env′ last last′ a i cl h h′. both-calls d asked y n c w ms (k + 1) (m .name ∷ e) env env′ last last′ (f .1) a i cl h h′)
-  where
-    go : (b b′ : Bool) → member (m .name) (wanted y ms) ≡ b → member (m .name) (wanted asked ms) ≡ b′
-        → ((env env′ : List Seen) (last last′ : Visible) → Agree env env′ → Inside (names-seen env) (m .name ∷ e)
-        → Closed y ms (m .name ∷ e) (names-seen env)
-        → IsShown (in-turn-visibly d env last (reached-among y (k + 1) (m .name ∷ e) ms))
-        → in-turn-visibly d env′ last′ (reached-among asked (k + 1) (m .name ∷ e) ms) ≡ refuses n c y w → ⊥)
-        → ⊥
-    go true true b b′ later =
-        let g = subst (λ (r : List Placed). IsShown (in-turn-visibly d env last r)) (reached-here y m ms k e b) h in
-        let g′ = sym (ap (λ (r : List Placed). in-turn-visibly d env′ last′ r) (reached-here asked m ms k e b′)) ∙ h′ in
-        let one = shown-next _ _ _ _ g in
-        let too = evaluate-same d e env env′ m (one .0) a
-        (λ v q r. cl v (sym (ap (member v) (sym (wanted-here y m ms b))) ∙ member-left v (named-by m) _ q) r) (one .1) in
-        ⊎-elim
-        (λ r. never n w (one .0) (sym (r .0) ∙ too))
-        (λ r. later (seen-as m (one .0) ∷ env) (seen-as m (r .0) ∷ env′) (one .0) (r .0)
-        (subst (λ (x : Visible). Agree (seen-as m (one .0) ∷ env) (seen-as m x ∷ env′)) (fine-same _ _ (sym too ∙ r .1))
-        (agree-more m (one .0) env env′ a))
-        (inside-more (m .name) _ e i) (closed-more y m ms e _ cl) (one .2) (r .2))
-        (refused-next _ _ _ _ n c y w g′)
-    go false true b b′ later =
-        let g = subst (λ (r : List Placed). IsShown (in-turn-visibly d env last r)) (reached-later y m ms k e b) h in
-        let g′ = sym (ap (λ (r : List Placed). in-turn-visibly d env′ last′ r) (reached-here asked m ms k e b′)) ∙ h′ in
-        ⊎-elim
-        (λ r. clear (sym (sym b ∙ ap (λ (v : Name). member v (wanted y ms)) (r .1) ∙ wanted-asked y ms)))
-        (λ r. later env (seen-as m (r .0) ∷ env′) last (r .0) (agree-skip m (r .0) e env env′ (f .0) i a)
-        (inside-later (m .name) _ e i) (closed-skip y m ms e _ b cl) g (r .2))
-        (refused-next _ _ _ _ n c y w g′)
-    go false false b b′ later =
-        let g = subst (λ (r : List Placed). IsShown (in-turn-visibly d env last r)) (reached-later y m ms k e b) h in
-        let g′ = sym (ap (λ (r : List Placed). in-turn-visibly d env′ last′ r) (reached-later asked m ms k e b′)) ∙ h′ in
-        later env env′ last last′ a (inside-later (m .name) _ e i) (closed-skip y m ms e _ b cl) g g′
-    go true false b b′ later =
-        let g′ = sym (ap (λ (r : List Placed). in-turn-visibly d env′ last′ r) (reached-later asked m ms k e b′)) ∙ h′ in
-        clear (sym (wanted-within y asked (m .name ∷ e) ms (f .1) (refused-reached d asked ms _ _ _ _ n c y w g′) (m .name) b) ∙ b′)
+both-calls d asked y n c w [] k e env env′ last last′ f a i cl = λ h h′. no-refusal _ n c _ y w h′
+both-calls d asked y n c w (m ∷ ms) k e env env′ last last′ f a i cl =
+    let later = both-calls d asked y n c w ms (k + 1) (m .name ∷ e) in
+    both-cases (λ (xs xs′ : List Placed). IsShown (in-turn-visibly d env last xs) → in-turn-visibly d env′ last′ xs′ ≡ refuses n c y w → ⊥)
+    (member (m .name) (wanted y ms)) (member (m .name) (wanted asked ms)) _ _ _ _
+    (λ b b′ h h′.
+    let one = shown-next _ _ _ _ h in
+    let too = evaluate-same d e env env′ m (one .0) a
+    (λ v q r. cl v (ap (member v) (wanted-here y m ms b) ∙ member-left v (named-by m) _ q) r) (one .1) in
+    ⊎-elim
+    (λ r. never n w (one .0) (sym (r .0) ∙ too))
+    (λ r. later (seen-as m (one .0) ∷ env) (seen-as m (r .0) ∷ env′) (one .0) (r .0) (f .1)
+    (subst (λ (x : Visible). Agree (seen-as m (one .0) ∷ env) (seen-as m x ∷ env′)) (fine-same _ _ (sym too ∙ r .1))
+    (agree-more m (one .0) env env′ a))
+    (inside-more (m .name) _ e i) (closed-more y m ms e _ cl) (one .2) (r .2))
+    (refused-next _ _ _ _ n c y w h′))
+    (λ b b′ h h′.
+    clear (sym (wanted-within y asked (m .name ∷ e) ms (f .1) (refused-reached d asked ms _ _ _ _ n c y w h′) (m .name) b) ∙ b′))
+    (λ b b′ h h′.
+    ⊎-elim
+    (λ r. clear (sym (sym b ∙ ap (λ (v : Name). member v (wanted y ms)) (r .1) ∙ wanted-asked y ms)))
+    (λ r. later env (seen-as m (r .0) ∷ env′) last (r .0) (f .1) (agree-skip m (r .0) e env env′ (f .0) i a)
+    (inside-later (m .name) _ e i) (closed-skip y m ms e _ b cl) h (r .2))
+    (refused-next _ _ _ _ n c y w h′))
+    (λ b b′ h h′. later env env′ last last′ (f .1) a (inside-later (m .name) _ e i) (closed-skip y m ms e _ b cl) h h′)
 
 -- ---- a module that shows something is not refused within another's call
 
@@ -165,20 +211,16 @@ normalised-shows asked ms h = go (normalise asked ms) h (normalise-reflects aske
 
 -- what holds of each reached module holds of the one that is called so
 of-reached : (P : Placed → Type 0) (asked y : Name) (ms : List Module) (k : ℕ) (e : List Name) → ReachedIn y asked ms
-    → ForEach P (reached-among asked k e ms) → (x : Placed) × (x .self .name ≡ y) × P x
-unfolding reached-among pick
-of-reached P asked y [] k e h f = absurd h
-of-reached P asked y (m ∷ ms) k e (inl h) f =
-    let g = subst (λ (r : List Placed). ForEach P r) (reached-here asked m ms k e (h .0)) f in
-    (record { self = m; number = k; earlier = e }, h .1, g .0)
-of-reached P asked y (m ∷ ms) k e (inr h) f =
-    go (member (m .name) (wanted asked ms)) refl (λ g. of-reached P asked y ms (k + 1) (m .name ∷ e) h g)
-  where
-    go : (b : Bool) → member (m .name) (wanted asked ms) ≡ b
-        → (ForEach P (reached-among asked (k + 1) (m .name ∷ e) ms) → (x : Placed) × (x .self .name ≡ y) × P x)
-        → (x : Placed) × (x .self .name ≡ y) × P x
-    go true b later = later (subst (λ (r : List Placed). ForEach P r) (reached-here asked m ms k e b) f .1)
-    go false b later = later (subst (λ (r : List Placed). ForEach P r) (reached-later asked m ms k e b) f)
+    → Every P (reached-among asked k e ms) → (x : Placed) × (x .self .name ≡ y) × P x
+unfolding reached-among
+of-reached P asked y [] k e h = absurd h
+of-reached P asked y (m ∷ ms) k e (inl h) =
+    by-cases (λ (xs : List Placed). Every P xs → (x : Placed) × (x .self .name ≡ y) × P x) (member (m .name) (wanted asked ms)) _ _
+    (λ b f. (record { self = m; number = k; earlier = e }, h .1, f .0)) (λ b f. clear (sym (h .0) ∙ b))
+of-reached P asked y (m ∷ ms) k e (inr h) =
+    let later = of-reached P asked y ms (k + 1) (m .name ∷ e) h in
+    by-cases (λ (xs : List Placed). Every P xs → (x : Placed) × (x .self .name ≡ y) × P x) (member (m .name) (wanted asked ms)) _ _
+    (λ b f. later (f .1)) (λ b f. later f)
 
 pub alone-accepted : (asked : Name) (ms : List Module) → Fresh [] ms → member asked (module-names ms) ≡ true → ByItself asked ms
     → Eighteen (normalise asked ms) ⊎ InTheCall asked ms

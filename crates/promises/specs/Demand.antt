@@ -1,17 +1,18 @@
 -- Demand 3: what a module shows does not depend on what the modules that it reaches hide. This is the statement, over the definitions and
--- for the whole of a call; Proof.antt proves it for the one reading of "accepted", Alone.antt for the other.
+-- for the whole of a call; Proof.antt proves it for the one reading of "accepted", Alone.antt for the other. At the end its premises from less.
 use mathlib.Core.Path.{_≡_}
 use mathlib.Core.Logic.{_⊎_}
-use Prim.Native.Nat.{ℕ}
+use Prim.Native.Nat.{ℕ, _+_}
 use mathlib.Core.Bool.{true}
 use mathlib.Core.List.{List, [], _∷_}
 use Rattle.meaning.specs.Names.{Name, member}
-use Rattle.meaning.specs.Numbers.{no-room, lent-short}
 use Rattle.meaning.specs.Syntax.{Module}
-use Rattle.meaning.specs.Evaluate.{named-by, missing, too-late}
 use Rattle.meaning.specs.Texts.{Texts, all-read, read-texts}
-use Rattle.meaning.specs.Reached.{Placed, reached, Ended, module-names, normalise, normalised, refused-at}
+use Rattle.meaning.specs.Reached.{Placed, reached, module-names, Ended, normalise, normalised, refused-at}
+use Rattle.meaning.specs.Numbers.{no-room, lent-short}
+use Rattle.meaning.specs.Evaluate.{named-by, missing, too-late}
 use Rattle.meaning.specs.Answer.{Answer, listing, answer}
+use Rattle.meaning.specs.OrderLaws.{Every}
 use Rattle.promises.specs.VisiblePart.{visible-part}
 
 -- ---- what the two specifications have in common, each a pair of texts
@@ -27,10 +28,6 @@ pub record SameButHidden (m m′ : Module) : Type 0 where
   pub exports : m .exports ≡ m′ .exports
   pub imports : m .imports ≡ m′ .imports
 
-abbrev pub ForEach : {A : Type 0} → (A → Type 0) → List A → Type 0
-ForEach P [] = Unit {0}
-ForEach P (x ∷ xs) = P x × ForEach P xs
-
 -- two lists of equal length whose items correspond in turn
 abbrev pub InTurn : {A : Type 0} → (A → A → Type 0) → List A → List A → Type 0
 InTurn R [] [] = Unit {0}
@@ -44,9 +41,9 @@ pub record Counterparts (asked : Name) (ms ms′ : List Module) (x x′ : Placed
   -- the asked module is the same
   pub asked-same : x .self .name ≡ asked → x .self ≡ x′ .self
   -- each module name that it uses is missing in both or in neither, and too late in both or in neither
-  pub both-missing : ForEach (λ w. missing (module-names ms) w ≡ missing (module-names ms′) w) (named-by (x .self))
+  pub both-missing : Every (λ w. missing (module-names ms) w ≡ missing (module-names ms′) w) (named-by (x .self))
   pub both-late :
-      ForEach (λ w. too-late (module-names ms) (x .earlier) w ≡ too-late (module-names ms′) (x′ .earlier) w) (named-by (x .self))
+      Every (λ w. too-late (module-names ms) (x .earlier) w ≡ too-late (module-names ms′) (x′ .earlier) w) (named-by (x .self))
 
 -- when each module that the asked one reaches is accepted, but perhaps the asked one itself: as a property of the asked name and the modules
 abbrev pub Acceptance : Type 1
@@ -82,7 +79,7 @@ IsNormalised (refused-at number count evaluating culprit) = ⊥
 
 -- accepted when asked by itself
 abbrev pub ByItself : Acceptance
-ByItself asked ms = ForEach (λ x. (x .self .name ≡ asked) ⊎ IsNormalised (normalise (x .self .name) ms)) (reached asked ms)
+ByItself asked ms = Every (λ x. (x .self .name ≡ asked) ⊎ IsNormalised (normalise (x .self .name) ms)) (reached asked ms)
 
 -- ---- what is demanded of the two answers
 
@@ -110,3 +107,35 @@ abbrev pub Demand3 : Acceptance → Type 0
 Demand3 OthersAccepted =
     (asked : Name) (texts texts′ : Texts) (ms ms′ : List Module) → Comparable OthersAccepted asked texts texts′ ms ms′
     → (memory memory′ output output′ : ℕ) → Agreeing (answer memory output asked texts) (answer memory′ output′ asked texts′)
+
+-- ---- the premises from less: it is enough that the modules reached in the one text stand in the other, in the same order, and look alike there.
+-- Then the other reaches no more, as Reaches.antt proves
+
+-- all modules of a specification in their places, reached or not
+unfoldable pub placed-among : ℕ → List Name → List Module → List Placed
+placed-among k earlier [] = []
+placed-among k earlier (m ∷ ms) = record { self = m; number = k; earlier = earlier } ∷ placed-among (k + 1) (m .name ∷ earlier) ms
+
+unfoldable pub all-placed : List Module → List Placed
+all-placed ms = placed-among 0 [] ms
+
+-- the items of the one list correspond in turn to items of the other, among which there may be more
+abbrev pub InOrderIn : {A : Type 0} → (A → A → Type 0) → List A → List A → Type 0
+InOrderIn R [] ys = Unit {0}
+InOrderIn R (x ∷ xs) [] = ⊥
+InOrderIn R (x ∷ xs) (y ∷ ys) = (R x y × InOrderIn R xs ys) ⊎ InOrderIn R (x ∷ xs) ys
+
+pub record Enough (OthersAccepted : Acceptance) (asked : Name) (texts texts′ : Texts) (ms ms′ : List Module) : Type 0 where
+  pub read-as : ReadAs texts ms
+  pub read-as′ : ReadAs texts′ ms′
+  -- the asked module stands in the one
+  pub stands : member asked (module-names ms) ≡ true
+  -- the modules that it reaches there stand in the other, in the same order
+  pub same-order : InOrderIn (Counterparts asked ms ms′) (reached asked ms) (all-placed ms′)
+  pub accepted : OthersAccepted asked ms
+  pub accepted′ : OthersAccepted asked ms′
+
+abbrev pub IsEnough : Acceptance → Type 0
+IsEnough OthersAccepted =
+    (asked : Name) (texts texts′ : Texts) (ms ms′ : List Module) → Enough OthersAccepted asked texts texts′ ms ms′
+    → Comparable OthersAccepted asked texts texts′ ms ms′

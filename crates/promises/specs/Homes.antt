@@ -1,102 +1,39 @@
 -- A module's own parameters are new: each that it imports is declared by a module that stands before it, and no two modules have one name. So
 -- M's own are joined as any union joins them: `own-united`.
-use mathlib.Core.Path.{_≡_, refl, sym, ap, subst, _∙_}
+use mathlib.Core.Path.{_≡_, refl, sym, ap, _∙_}
 use Prim.Native.Nat.{ℕ, _+_}
 use mathlib.Core.Bool.{Bool, true, false, not, _&&_, true≢false}
 use mathlib.Core.List.{List, [], _∷_, _++_}
 use Rattle.meaning.specs.Laws.{by-cases}
 use Rattle.meaning.specs.Lists.{pick, keep, any, union}
 use Rattle.meaning.specs.Names.{Name, same, member}
-use Rattle.meaning.specs.Syntax.{Parameter, Clause, renamed-by, bound-by, Import, Module}
+use Rattle.meaning.specs.Syntax.{Parameter, Import, Module}
 use Rattle.meaning.specs.Origins.{one-item}
-use Rattle.meaning.specs.Normal.{Slot, Visible, Normal, nothing-visible, empty, same-slot, same-formals, is-parameter-of, unite-visible, unite, move-visible, move}
-use Rattle.meaning.specs.Checks.{Outcome, fine, stop, _>>=_, Size}
-use Rattle.meaning.specs.Clauses.{rename, without-visible, without, bound-to, bind}
+use Rattle.meaning.specs.Normal.{Slot, Visible, Normal, same-slot, same-formals, is-parameter-of, unite-visible}
+use Rattle.meaning.specs.Checks.{fine, Size}
 use Rattle.meaning.specs.Own.{own-slot, own-visible}
-use Rattle.meaning.specs.Written.{visible-in-order, in-order}
-use Rattle.meaning.specs.Evaluate.{Evaluated, normal-of, clause, clauses, expressions, united, imported, seen-sorts, joined-visible, joined-own, evaluate}
+use Rattle.meaning.specs.Evaluate.{Evaluated, imported, seen-sorts, joined-visible, evaluate}
 use Rattle.meaning.specs.Reached.{Placed, reached-among, reached, total-of, module-names}
 use Rattle.meaning.specs.Texts.{Texts, all-read, read-texts}
 use Rattle.meaning.specs.Distinct.{Fresh, read-fresh}
-use Rattle.meaning.specs.OrderLaws.{Every, rearranged-every, sorted-rearranged}
+use Rattle.meaning.specs.OrderLaws.{Every}
+use Rattle.laws.specs.EveryLaws.{any-found, every-made, every-member, every-so}
+use Rattle.laws.specs.Outcomes.{Gives, gives-of}
+use Rattle.laws.specs.Walk.{any-imports, EnvironmentOf, imported-gives, evaluated-gives}
+use Rattle.laws.specs.Piecewise.{Slots, slots-keep, own-slots}
 use Rattle.promises.specs.Members.{differ, found-later, member-here}
-use Rattle.promises.specs.ListingLaws.{both-true, every-append, every-so}
-use Rattle.promises.specs.Told.{every-keep}
-use Rattle.promises.specs.Sound.{Gives, any-found, every-member, gives-bound, gives-then}
-use Rattle.promises.specs.SoundEvaluation.{all-made, checked-gives}
+use Rattle.promises.specs.ListingLaws.{both-true}
 
 -- ---- what holds of the parameters of all modules evaluated holds of those of what is made of them
 
-gives-after : {A B : Type 0} (Q : B → Type 0) (o : Outcome A) (f : A → Outcome B) → ((a : A) → Gives Q (f a)) → Gives Q (o >>= f)
-unfolding _>>=_
-gives-after Q (fine a) f h = h a
-gives-after Q (stop k w) f h = tt
+module _ (P : Slot → Type 0) (env : List Evaluated) (kept : EnvironmentOf (Slots P) env) where
+  imported-slots : (is : List Import) → Gives (Slots P) (imported env is)
+  imported-slots is = imported-gives (slots-keep P) env kept is (any-imports is)
 
-module _ (P : Slot → Type 0) where
-  abbrev pub Slots : Normal → Type 0
-  Slots n = Every P (n .visible .parameters)
-
-  abbrev pub SlotsEnv : List Evaluated → Type 0
-  SlotsEnv env = Every (λ e. Slots (e .normal)) env
-
-  unite-slots : (a b : Normal) → Slots a → Slots b → Slots (unite a b)
-  unfolding unite unite-visible
-  unite-slots a b h k = every-append P (a .visible .parameters) _ h (every-keep P _ (b .visible .parameters) k)
-
-  all-united-slots : (n : Normal) (ks : List Normal) → Slots n → Every Slots ks → Gives Slots (united n ks)
-  unfolding united
-  all-united-slots n [] h k = h
-  all-united-slots n (x ∷ ks) h k =
-      gives-bound Slots Slots _ _ (checked-gives Slots _ (unite-slots n x h (k .0))) (λ u l. all-united-slots u ks l (k .1))
-
-  joined-slots : (home : ℕ) (total : Size) (m : Module) (n : Normal) → Slots n → ((p : Parameter) → P (record { name = p .name; home = m .name }))
-      → Gives Slots (joined-own home total m n)
-  unfolding joined-own joined-visible own-visible own-slot in-order visible-in-order
-  joined-slots home total m n h own =
-      gives-then Slots _ _ (λ c. gives-after Slots _ _ (λ es. gives-then Slots _ _ (λ r. gives-then Slots _ _ (λ s.
-      rearranged-every P (sorted-rearranged _ _)
-      (every-append P (n .visible .parameters) _ h (all-made P (own-slot m (seen-sorts m (n .visible))) own (m .parameters)))))))
-
-  module _ (env : List Evaluated) (kept : SlotsEnv env) where
-    normal-of-slots : (w : Name) → Slots (normal-of env w)
-    unfolding normal-of empty nothing-visible
-    normal-of-slots w = go env kept
-      where
-        go : (es : List Evaluated) → SlotsEnv es → Slots (normal-of es w)
-        go [] h = tt
-        go (e ∷ es) h = by-cases Slots _ _ _ (λ f. h .0) (λ f. go es (h .1))
-
-    clause-slots : (c : Clause) (n : Normal) → Slots n → Gives Slots (clause env c n)
-    unfolding clause rename bind bound-to without without-visible move move-visible
-    clause-slots (renamed-by rs) n k = gives-then Slots _ _ (λ e. checked-gives Slots _ k)
-    clause-slots (bound-by p rs m) n k =
-        by-cases (Gives Slots) _ _ _
-        (λ e. gives-then Slots _ _ (λ f. gives-then Slots _ _ (λ g.
-        checked-gives Slots _ (unite-slots _ (normal-of env m) (every-keep P _ (n .visible .parameters) k) (normal-of-slots m)))))
-        (λ e. tt)
-
-    clauses-slots : (cs : List Clause) (n : Normal) → Slots n → Gives Slots (clauses env cs n)
-    unfolding clauses
-    clauses-slots [] n k = k
-    clauses-slots (c ∷ cs) n k = gives-bound Slots Slots _ _ (clause-slots c n k) (λ r l. clauses-slots cs r l)
-
-    expressions-slots : (is : List Import) → Gives (Every Slots) (expressions env is)
-    unfolding expressions
-    expressions-slots [] = tt
-    expressions-slots (i ∷ is) =
-        gives-bound Slots (Every Slots) _ _ (clauses-slots (i .clauses) (normal-of env (i .name)) (normal-of-slots (i .name)))
-        (λ n k. gives-bound (Every Slots) (Every Slots) _ _ (expressions-slots is) (λ ns l. (k, l)))
-
-    pub imported-slots : (is : List Import) → Gives Slots (imported env is)
-    unfolding imported empty nothing-visible
-    imported-slots is = gives-bound (Every Slots) Slots _ _ (expressions-slots is) (λ ns k. all-united-slots empty ns tt k)
-
-    pub evaluated-slots : (declared earlier : List Name) (home : ℕ) (total : Size) (m : Module)
-        → ((p : Parameter) → P (record { name = p .name; home = m .name })) → Gives Slots (evaluate declared earlier home total env m)
-    unfolding evaluate
-    evaluated-slots declared earlier home total m own =
-        gives-then Slots _ _ (λ a. gives-then Slots _ _ (λ b.
-        gives-bound Slots Slots _ _ (imported-slots (m .imports)) (λ n k. joined-slots home total m n k own)))
+  evaluated-slots : (declared earlier : List Name) (home : ℕ) (total : Size) (m : Module) → ((p : Parameter) → P (record { name = p .name; home = m .name }))
+      → Gives (Slots P) (evaluate declared earlier home total env m)
+  evaluated-slots declared earlier home total m own =
+      evaluated-gives (slots-keep P) (Slots P) declared earlier home total env m kept (any-imports (m .imports)) (λ n h es r. own-slots P m n es own h)
 
 -- ---- M's own, where none that is imported is declared by a module of its name
 
@@ -121,7 +58,7 @@ pub own-new : (m : Module) (v : Visible) → Every (λ p. same (m .name) (p .hom
 unfolding joined-visible unite-visible own-visible own-slot
 own-new m v h =
     let own = own-visible m (seen-sorts m v) in
-    let new = kept-all _ (own .parameters) (all-made _ (own-slot m (seen-sorts m v)) (λ p. another v own _ h) (m .parameters)) in
+    let new = kept-all _ (own .parameters) (every-made _ (own-slot m (seen-sorts m v)) (λ p. another v own _ h) (m .parameters)) in
     λ i. record { parameters = v .parameters ++ sym new i; items = union one-item (v .items) (own .items) }
 
 -- ---- and none is, of the modules of texts that are read
@@ -139,17 +76,14 @@ OwnUnited declared env (x ∷ xs) =
 abbrev HomeIn : List Name → Slot → Type 0
 HomeIn ws p = member (p .home) ws ≡ true
 
-homes-later : (w : Name) (ws : List Name) (env : List Evaluated) → SlotsEnv (HomeIn ws) env → SlotsEnv (HomeIn (w ∷ ws)) env
+homes-later : (w : Name) (ws : List Name) (env : List Evaluated) → EnvironmentOf (Slots (HomeIn ws)) env → EnvironmentOf (Slots (HomeIn (w ∷ ws))) env
 unfolding member
 homes-later w ws env h =
     every-so (λ e. Slots (HomeIn ws) (e .normal)) (λ e. Slots (HomeIn (w ∷ ws)) (e .normal)) env
     (λ e i. every-so (HomeIn ws) (HomeIn (w ∷ ws)) (e .normal .visible .parameters) (λ p j. found-later (same (p .home) w) _ j) i) h
 
-given : {A : Type 0} (Q : A → Type 0) (o : Outcome A) (a : A) → o ≡ fine a → Gives Q o → Q a
-given Q o a e h = subst (Gives Q) e h
-
 module _ (declared : List Name) (asked : Name) where
-  turns-united : (ms : List Module) (k : ℕ) (earlier : List Name) (env : List Evaluated) → Fresh earlier ms → SlotsEnv (HomeIn earlier) env
+  turns-united : (ms : List Module) (k : ℕ) (earlier : List Name) (env : List Evaluated) → Fresh earlier ms → EnvironmentOf (Slots (HomeIn earlier)) env
       → OwnUnited declared env (reached-among asked k earlier ms)
   unfolding reached-among
   turns-united [] k earlier env f h = tt
@@ -158,10 +92,10 @@ module _ (declared : List Name) (asked : Name) where
       by-cases (OwnUnited declared env) _ _ _
       (λ b. (
         λ n e. own-new m (n .visible) (every-so (HomeIn earlier) _ (n .visible .parameters) (λ p i. differ (m .name) (p .home) earlier (f .0) i)
-            (given (Slots (HomeIn earlier)) _ n e (imported-slots (HomeIn earlier) env h (m .imports)))),
+            (gives-of (Slots (HomeIn earlier)) _ n (imported-slots (HomeIn earlier) env h (m .imports)) e)),
         λ n e. turns-united ms (k + 1) (m .name ∷ earlier) (record { name = m .name; normal = n } ∷ env) (f .1) (
-          given (Slots (HomeIn (m .name ∷ earlier))) _ n e
-              (evaluated-slots (HomeIn (m .name ∷ earlier)) env wider declared earlier k (total-of env) m (λ p. member-here (m .name) earlier)),
+          gives-of (Slots (HomeIn (m .name ∷ earlier))) _ n
+              (evaluated-slots (HomeIn (m .name ∷ earlier)) env wider declared earlier k (total-of env) m (λ p. member-here (m .name) earlier)) e,
           wider,
         ),
       ))

@@ -13,6 +13,7 @@ use Rattle.types.specs.declared.Token.{Token}
 use Rattle.meaning.specs.Laws.{by-cases}
 use Rattle.meaning.specs.Lists.{pick}
 use Rattle.meaning.specs.Names.{bytes, byte}
+use Rattle.promises.specs.ListingLaws.{both-true, passes-apart}
 use Rattle.meaning.specs.Tokens.{is-in, is-mark, is-symbol, is-word, run, run-end, at-word, at-hyphen, at-symbol, at-equals, at-dashes, skip, token, end-of-text, no-token, ident, equals-at, word-at, symbols-at, dotted-at, start-at, token-at}
 
 -- the last byte of a run, where there is one
@@ -57,17 +58,6 @@ symbols-stop (b ∷ s) = go (is-symbol b) refl (symbols-stop s)
 drop-on : (i r : ℕ) (s : List ℕ) → drop (i + r) s ≡ drop r (drop i s)
 drop-on i r s = sym (drop-drop r i s)
 
-and-first : (x y : Bool) → (x && y) ≡ true → x ≡ true
-and-first true y e = refl
-and-first false y e = e
-
-and-second : (x y : Bool) → (x && y) ≡ true → y ≡ true
-and-second true y e = e
-and-second false y e = absurd (false≢true e)
-
-not-hyphen : (b c : ℕ) → eqb c (byte "-") ≡ false → eqb b c ≡ true → eqb b (byte "-") ≡ false
-not-hyphen b c h e = subst (λ (x : ℕ). eqb x (byte "-") ≡ false) (sym (eqb-true b c e)) h
-
 word-starts : (b : ℕ) (s : List ℕ) → is-word b ≡ true → run at-word (b ∷ s) ≡ 0 → ⊥
 unfolding run pick is-word
 word-starts b s e q = go (eqb b (byte "-")) refl
@@ -84,22 +74,6 @@ module _ (text : List ℕ) where
 
   one-byte : (k i : ℕ) → eqb (getD text i 0) (byte "-") ≡ false → Apart (token k i (i + 1))
   one-byte k i h d n e = let z : i + 1 - 1 ≡ i = omega arith in rw z h
-
-  mark-apart : (b : ℕ) → is-mark b ≡ true → eqb b (byte "-") ≡ false
-  unfolding is-in
-  mark-apart b e = go (eqb b (byte "-")) refl
-    where
-      go : (c : Bool) → eqb b (byte "-") ≡ c → c ≡ false
-      go true q = absurd (false≢true (subst (λ (x : ℕ). is-mark x ≡ true) (eqb-true b (byte "-") q) e))
-      go false q = refl
-
-  equals-apart : (b : ℕ) → is-in (bytes ">\n") b ≡ true → eqb b (byte "-") ≡ false
-  unfolding is-in
-  equals-apart b e = go (eqb b (byte "-")) refl
-    where
-      go : (c : Bool) → eqb b (byte "-") ≡ c → c ≡ false
-      go true q = absurd (false≢true (subst (λ (x : ℕ). is-in (bytes ">\n") x ≡ true) (eqb-true b (byte "-") q) e))
-      go false q = refl
 
   word-apart : (k i : ℕ) → i < length text → is-word (getD text i 0) ≡ true → Apart (token k i (run-end at-word text i))
   unfolding run-end last-of
@@ -119,28 +93,30 @@ module _ (text : List ℕ) where
   symbols-apart i = ap at-dashes (drop-on i (run at-symbol (drop i text)) text) ∙ symbols-stop (drop i text)
 
   start-apart : (i : ℕ) → Apart (start-at text i)
-  unfolding start-at word-at equals-at symbols-at dotted-at
+  unfolding is-in start-at word-at equals-at symbols-at dotted-at
   start-apart i =
       let g = getD text i 0 in
       let j = run-end at-equals text i in
       let w′ = word-at text (i + 1) in
       by-cases Apart _ _ _
       (λ here. let h = ltb-true i (length text) here in
-      by-cases Apart _ _ _ (λ m. one-byte g i (mark-apart g m))
+      by-cases Apart _ _ _ (λ m. one-byte g i (passes-apart is-mark g (byte "-") m refl))
       (λ m. by-cases Apart _ _ _ (λ w. word-apart (word-at text i .kind) i h w)
       (λ w. by-cases Apart _ _ _
       (λ q. by-cases Apart _ _ _
-      (λ r d n e. let z : j + 1 - 1 ≡ j = omega arith in rw z (equals-apart (getD text j 0) (and-second (ltb (i + 1) j) _ r)))
-      (λ r. one-byte (byte "=") i (not-hyphen g (byte "=") refl q)))
+      (λ r d n e. let z : j + 1 - 1 ≡ j = omega arith in
+      rw z (passes-apart (is-in (bytes ">\n")) (getD text j 0) (byte "-") (both-true (ltb (i + 1) j) _ r .1) refl))
+      (λ r. one-byte (byte "=") i (passes-apart (λ x. eqb x (byte "=")) g (byte "-") q refl)))
       (λ q. by-cases Apart _ _ _
       (λ a d n e. let z : i + 2 - 1 ≡ i + 1 = omega arith in
-      rw z (not-hyphen (getD text (i + 1) 0) (byte ">") refl (and-second (eqb g (byte "-")) _ a)))
+      rw z (passes-apart (λ x. eqb x (byte ">")) (getD text (i + 1) 0) (byte "-") (both-true (eqb g (byte "-")) _ a .1) refl))
       (λ a. by-cases Apart _ _ _
       (λ o d n e. absurd (true≢false (sym d ∙ symbols-apart i)))
       (λ o. by-cases Apart _ _ _
       (λ d. by-cases Apart _ _ _
       (λ k x n e. let z : w′ .end + 1 - 1 ≡ w′ .end = omega arith in
-      rw z (not-hyphen (getD text (w′ .end) 0) (byte ".") refl (and-second (is-word (getD text (i + 1) 0) && eqb (w′ .kind) ident) _ k)))
+      let dot = both-true (is-word (getD text (i + 1) 0) && eqb (w′ .kind) ident) _ k .1 in
+      rw z (passes-apart (λ x. eqb x (byte ".")) (getD text (w′ .end) 0) (byte "-") dot refl))
       (λ k x n e. absurd (true≢false n)))
       (λ d x n e. absurd (true≢false n))))))))
       (λ past x n e. absurd (true≢false e))

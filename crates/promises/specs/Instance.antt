@@ -13,10 +13,8 @@ use Rattle.meaning.specs.Reached.{reached}
 use Rattle.meaning.specs.Answer.{Answer, listing, answer}
 use Rattle.meaning.specs.Trials.{all-opened}
 use Rattle.promises.specs.VisiblePart.{visible-part, visible-part-opened}
-use Rattle.promises.specs.Demand.{ReadAs, Counterparts, InTurn, InTheCall, ByItself, Comparable, SameAnswer, ShortOfRoom}
-use Rattle.promises.specs.Enough.{placed-among, all-placed, Enough}
+use Rattle.promises.specs.Demand.{ReadAs, Counterparts, InTurn, InTheCall, ByItself, Comparable, SameAnswer, ShortOfRoom, placed-among, all-placed, Enough}
 use Rattle.promises.specs.Proof.{demand-3, if-accepted}
-use Rattle.promises.specs.Alone.{demand-3-alone}
 use Rattle.promises.specs.Stored.{UpToDate, may-be-kept-alone}
 
 -- what was read
@@ -126,11 +124,6 @@ agrees =
     if-accepted one-answer other-answer (both-accepted .0) (both-accepted .1)
     (demand-3 asked one-pair other-pair one-modules other-modules comparable memory-size memory-size program-output program-output)
 
-pub agrees-alone : SameAnswer one-answer other-answer
-agrees-alone =
-    if-accepted one-answer other-answer (both-accepted .0) (both-accepted .1)
-    (demand-3-alone asked one-pair other-pair one-modules other-modules comparable-alone memory-size memory-size program-output program-output)
-
 -- and the one visible part, once stored, may be kept for the other text
 pub kept : ShortOfRoom other-answer ⊎ UpToDate (visible-part (listing one-answer)) other-answer
 kept =
@@ -142,28 +135,22 @@ kept =
 unfoldable pub visible-text : List ℕ
 visible-text = bytes "module=M2\nsort=C\norigin=[M1,export,sort,A]\nfunction=f:C->C\norigin=[M1,export,function,f:A->A]\n"
 
-pub one-listing : listing one-answer ≡ bytes "module=M2\nsort=C\norigin=[M1,export,sort,A]\nfunction=f:C->C\norigin=[M1,export,function,f:A->A]\nhidden-sort={1}\norigin=[M1,hidden,sort,H]\nhidden-function={2}:C->{1}\norigin=[M1,hidden,function,g:A->H]\nvariable={3}:C\norigin=[M1,hidden,variable,x:->A]\nequation=[e] {2}({3})={2}(f({3}))\nend=M2\n"
-unfolding all-opened one-pair asked
-one-listing = refl
+pub listings :
+    (listing one-answer ≡ bytes "module=M2\nsort=C\norigin=[M1,export,sort,A]\nfunction=f:C->C\norigin=[M1,export,function,f:A->A]\nhidden-sort={1}\norigin=[M1,hidden,sort,H]\nhidden-function={2}:C->{1}\norigin=[M1,hidden,function,g:A->H]\nvariable={3}:C\norigin=[M1,hidden,variable,x:->A]\nequation=[e] {2}({3})={2}(f({3}))\nend=M2\n")
+    × (listing other-answer ≡ bytes "module=M2\nsort=C\norigin=[M1,export,sort,A]\nfunction=f:C->C\norigin=[M1,export,function,f:A->A]\nhidden-sort={1}\norigin=[M1,hidden,sort,C]\nhidden-sort={2}\norigin=[M1,hidden,sort,D]\nhidden-function={3}:{1}#{2}->C\norigin=[M1,hidden,function,h:C#D->A]\nhidden-function={4}:->{2}\norigin=[M1,hidden,function,k:->D]\nvariable={5}:{1}\norigin=[M1,hidden,variable,y:->C]\nvariable={6}:{1}\norigin=[M1,hidden,variable,z:->C]\nequation=[i] {3}({5},{4})={3}({6},{4})\nequation=[ii] f({3}({5},{4}))={3}({5},{4})\nend=M2\n")
+unfolding all-opened one-pair asked other-pair
+listings = (refl, refl)
 
-pub other-listing : listing other-answer ≡ bytes "module=M2\nsort=C\norigin=[M1,export,sort,A]\nfunction=f:C->C\norigin=[M1,export,function,f:A->A]\nhidden-sort={1}\norigin=[M1,hidden,sort,C]\nhidden-sort={2}\norigin=[M1,hidden,sort,D]\nhidden-function={3}:{1}#{2}->C\norigin=[M1,hidden,function,h:C#D->A]\nhidden-function={4}:->{2}\norigin=[M1,hidden,function,k:->D]\nvariable={5}:{1}\norigin=[M1,hidden,variable,y:->C]\nvariable={6}:{1}\norigin=[M1,hidden,variable,z:->C]\nequation=[i] {3}({5},{4})={3}({6},{4})\nequation=[ii] f({3}({5},{4}))={3}({5},{4})\nend=M2\n"
-unfolding all-opened other-pair asked
-other-listing = refl
-
-pub one-visible : visible-part (listing one-answer) ≡ visible-text
-unfolding all-opened visible-part-opened one-pair asked visible-text
-one-visible = refl
-
-pub other-visible : visible-part (listing other-answer) ≡ visible-text
-unfolding all-opened visible-part-opened other-pair asked visible-text
-other-visible = refl
+pub visible-parts :
+    (visible-part (listing one-answer) ≡ visible-text)
+    × (visible-part (listing other-answer) ≡ visible-text)
+unfolding all-opened visible-part-opened one-pair asked visible-text other-pair
+visible-parts = (refl, refl)
 
 -- ---- why the demand leaves 18 and 19 out: where 350 bytes of output are lent, the one listing has room and the other has none
 
-pub one-has-room : answer memory-size 350 asked one-pair .number ≡ accepted
-unfolding all-opened one-pair asked
-one-has-room = refl
-
-pub other-has-none : answer memory-size 350 asked other-pair .number ≡ lent-short
-unfolding all-opened other-pair asked
-other-has-none = refl
+pub other-has-none :
+    (answer memory-size 350 asked one-pair .number ≡ accepted)
+    × (answer memory-size 350 asked other-pair .number ≡ lent-short)
+unfolding all-opened one-pair asked other-pair
+other-has-none = (refl, refl)

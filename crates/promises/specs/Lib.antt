@@ -1,22 +1,20 @@
 -- the statements
 pub mod VisiblePart
 pub mod Demand
-pub mod Enough
 -- names among names
 pub mod Members
 -- a listing's bytes and its lines: no name has an LF
 pub mod Tie
 pub mod Spelling
 pub mod Tied
+-- two calls side by side
+pub mod TwoCalls
 -- demand 3
 pub mod Public
 pub mod Lines
 -- a call, room apart
-pub mod Seeing
 pub mod Proof
 -- the other reading of "accepted"
-pub mod Wanting
-pub mod Again
 pub mod Alone
 -- from less, and for the desk
 pub mod Reaches
@@ -26,6 +24,7 @@ pub mod Instance
 pub mod Premises
 -- one listing for each accepted normal form
 pub mod ListingLaws
+pub mod Deciding
 pub mod SameListing
 pub mod Told
 pub mod Parts
@@ -46,10 +45,10 @@ pub mod Library
 -- the numbers that are given, and their culprits
 pub mod ReadNumbers
 pub mod Given
--- no import goes in a circle: 20 is no number
-pub mod NoCycle
 -- where 16 was told, one of 22 to 27 is
 pub mod OldBinding
 pub mod Mistakes
+-- no import goes in a circle: 20 is no number
+pub mod NoCycle
 -- a module's own parameters are new
 pub mod Homes

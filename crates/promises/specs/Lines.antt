@@ -5,17 +5,22 @@ use mathlib.Core.Bool.{Bool, false}
 use mathlib.Core.List.{List, [], _∷_, _++_, map, append-assoc}
 use Rattle.meaning.specs.Lists.{pick}
 use Rattle.meaning.specs.Names.{bytes, Name, same, member, words}
-use Rattle.meaning.specs.Origins.{Origin, ResolvedEquation, Shape, Item, sort-shape, function-shape, variable-shape}
+use Rattle.meaning.specs.Origins.{Origin, ResolvedEquation, Shape, Item}
 use Rattle.meaning.specs.Normal.{Hidden, Normal}
 use Rattle.meaning.specs.Listing.{Line, line, origin-line, kind-key, visible-lines, hidden-item-lines, equation-line, hidden-lines, listing-lines, visible-keys, shown}
+use Rattle.promises.specs.ListingLaws.{by-kind}
 
 -- ---- lines of which none is shown
 
 -- a line whose key is neither `origin` nor a visible one
-module _ (key : List ℕ) (not-origin : same key (bytes "origin") ≡ false) (not-visible : member key visible-keys ≡ false) where
-  line-dropped : (value : List ℕ) (ls : List Line) (kept : Bool) → shown kept (record { key = key; value = value } ∷ ls) ≡ shown false ls
-  unfolding shown pick
-  line-dropped value ls kept = rw (not-origin, not-visible)
+record Hides (key : List ℕ) : Type 0 where
+  not-origin : same key (bytes "origin") ≡ false
+  not-visible : member key visible-keys ≡ false
+
+line-dropped : (key : List ℕ) → Hides key → (value : List ℕ) (ls : List Line) (kept : Bool)
+    → shown kept (record { key = key; value = value } ∷ ls) ≡ shown false ls
+unfolding shown pick
+line-dropped key h value ls kept = rw (h .not-origin, h .not-visible)
 
 origin-dropped : (o : Origin) (ls : List Line) → shown false (origin-line o ∷ ls) ≡ shown false ls
 unfolding shown pick origin-line same
@@ -23,23 +28,14 @@ origin-dropped o ls = refl
 
 -- opens what the keys are tested by
 unfoldable key-opened : Unit {0}
-unfolding same member pick visible-keys words kind-key
+unfolding same member pick visible-keys words
 key-opened = tt
 
-abbrev hidden-key : Shape → List ℕ
-hidden-key s = kind-key "hidden-sort" "hidden-function" "variable" s
-
-hidden-not-origin : (s : Shape) → same (hidden-key s) (bytes "origin") ≡ false
+item-hides : (s : Shape) → Hides (kind-key "hidden-sort" "hidden-function" "variable" s)
 unfolding key-opened
-hidden-not-origin sort-shape = refl
-hidden-not-origin (function-shape t) = refl
-hidden-not-origin (variable-shape r) = refl
-
-hidden-not-visible : (s : Shape) → member (hidden-key s) visible-keys ≡ false
-unfolding key-opened
-hidden-not-visible sort-shape = refl
-hidden-not-visible (function-shape t) = refl
-hidden-not-visible (variable-shape r) = refl
+item-hides =
+    by-kind Hides "hidden-sort" "hidden-function" "variable" (record { not-origin = refl; not-visible = refl })
+    (record { not-origin = refl; not-visible = refl }) (record { not-origin = refl; not-visible = refl })
 
 -- `rest` is what follows the hidden items, or the equations
 module _ (rest : List Line) (none-shown : (b : Bool) → shown b rest ≡ []) where
@@ -47,18 +43,18 @@ module _ (rest : List Line) (none-shown : (b : Bool) → shown b rest ≡ []) wh
   unfolding hidden-item-lines
   items-dropped hidden k [] kept = none-shown kept
   items-dropped hidden k (i ∷ is) kept =
-      line-dropped (hidden-key (i .shape)) (hidden-not-origin (i .shape)) (hidden-not-visible (i .shape)) _ _ kept
-      ∙ origin-dropped (i .origin) _ ∙ items-dropped hidden (k + 1) is false
+      line-dropped _ (item-hides (i .shape)) _ _ kept ∙ origin-dropped (i .origin) _ ∙ items-dropped hidden (k + 1) is false
 
   equations-dropped : (hidden : List Item) (es : List ResolvedEquation) (kept : Bool)
       → shown kept (map (equation-line hidden) es ++ rest) ≡ []
   unfolding equation-line key-opened
   equations-dropped hidden [] kept = none-shown kept
-  equations-dropped hidden (e ∷ es) kept = line-dropped (bytes "equation") refl refl _ _ kept ∙ equations-dropped hidden es false
+  equations-dropped hidden (e ∷ es) kept =
+      line-dropped (bytes "equation") (record { not-origin = refl; not-visible = refl }) _ _ kept ∙ equations-dropped hidden es false
 
 end-dropped : (m : Name) (kept : Bool) → shown kept (line "end" m ∷ []) ≡ []
 unfolding key-opened shown
-end-dropped m kept = line-dropped (bytes "end") refl refl m [] kept
+end-dropped m kept = line-dropped (bytes "end") (record { not-origin = refl; not-visible = refl }) m [] kept
 
 hidden-dropped : (h : Hidden) (m : Name) (kept : Bool) → shown kept (hidden-lines h ++ (line "end" m ∷ [])) ≡ []
 unfolding hidden-lines

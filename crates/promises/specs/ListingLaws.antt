@@ -11,13 +11,53 @@ use borrow.Author.Tests.{eqb-true, ltb-true, ltb-false, eqb-false, le-leb, lt-le
 use lib.ListN.{length, length-append}
 use Rattle.meaning.specs.Laws.{by-cases}
 use Rattle.meaning.specs.Lists.{pick, before, each, agree}
-use Rattle.meaning.specs.Names.{bytes, byte, Name, same}
+use Rattle.meaning.specs.Names.{bytes, byte, Name, same, member, words}
 use Rattle.meaning.specs.Tokens.{is-in, is-symbol, is-word}
 use Rattle.meaning.specs.Written.{digits, decimal, numbered, sort-text, function-type-text, shape-text, shape-rank, argument-text, head-text, variable-text, term-text, term-texts, sides-text, conditions-text, equation-text, between-marks, type-text, section-text, declared-text, origin-text}
 use Rattle.meaning.specs.Origins.{Section, export-section, hidden-section, parameter-section, Declared, declared-sort, declared-function, declared-variable, Origin, same-section, same-declared, same-origin, Sort, visible-sort, hidden-sort, same-sort, FunctionType, same-type, Shape, sort-shape, function-shape, variable-shape, same-shape, Item, one-item, Head, visible-head, hidden-head, ResolvedTerm, var, app, ResolvedTerms, none-left, _and-then_, ResolvedSides, ResolvedEquation}
 use Rattle.meaning.specs.Normal.{Slot, same-slot}
-use Rattle.meaning.specs.Listing.{Line, line-text, lines-text}
+use Rattle.meaning.specs.Listing.{Line, line-text, lines-text, kind-key}
+use Rattle.meaning.specs.Reader.{listing-keys}
 use Rattle.meaning.specs.OrderLaws.{Every, same-self, same-equal}
+use Rattle.laws.specs.Decides.{sections-decided, origins-decided, sorts-decided, shapes-decided, items-decided}
+pub use Rattle.laws.specs.Decides.{both-true, agree-self, agree-equal}
+use Rattle.laws.specs.EveryLaws.{every-map}
+pub use Rattle.laws.specs.EveryLaws.{every-so, every-append}
+
+-- ---- tests
+
+pub not-so : (c : Bool) → not c ≡ true → c ≡ false
+not-so true e = absurd (false≢true e)
+not-so false e = refl
+
+-- one that passes is not one that does not
+pub passes-apart : (p : ℕ → Bool) (b c : ℕ) → p b ≡ true → p c ≡ false → eqb b c ≡ false
+passes-apart p b c h k = go (eqb b c) refl
+  where
+    go : (q : Bool) → eqb b c ≡ q → q ≡ false
+    go true e = absurd (true≢false (sym h ∙ ap p (eqb-true b c e) ∙ k))
+    go false e = refl
+
+abbrev pub all-pass : {A : Type 0} → (A → Bool) → List A → Bool
+all-pass p [] = true
+all-pass p (x ∷ xs) = p x && all-pass p xs
+
+abbrev pub Within : {A : Type 0} → (A → Bool) → List A → Type 0
+Within p xs = Every (λ x. p x ≡ true) xs
+
+pub within-by : {A : Type 0} (p : A → Bool) (xs : List A) → all-pass p xs ≡ true → Within p xs
+within-by p [] e = tt
+within-by p (x ∷ xs) e = let r = both-true (p x) (all-pass p xs) e in (r .0, within-by p xs (r .1))
+
+-- what each of some names passes, one among them does
+pub among-so : (p : Name → Bool) (w : Name) (ks : List Name) → Within p ks → member w ks ≡ true → p w ≡ true
+unfolding member pick
+among-so p w [] h m = absurd (false≢true m)
+among-so p w (k ∷ ks) h m = go (same w k) refl m (among-so p w ks (h .1))
+  where
+    go : (b : Bool) → same w k ≡ b → pick b true (member w ks) ≡ true → (member w ks ≡ true → p w ≡ true) → p w ≡ true
+    go true e m i = ap p (same-equal w k e) ∙ h .0
+    go false e m i = i m
 
 -- ---- a run and what follows it
 
@@ -31,9 +71,6 @@ pub not-empty : {A X : Type 0} {x : A} {xs : List A} → [] ≡ x ∷ xs → X
 not-empty e = let z : _≡_ {A = ℕ} 0 1 = cc in absurd (omega arith)
 
 -- all of a run pass the test, and what follows does not begin with one that does
-abbrev pub Within : {A : Type 0} → (A → Bool) → List A → Type 0
-Within p xs = Every (λ x. p x ≡ true) xs
-
 abbrev pub StartsOutside : {A : Type 0} → (A → Bool) → List A → Type 0
 StartsOutside p [] = Unit {0}
 StartsOutside p (x ∷ xs) = p x ≡ false
@@ -56,13 +93,26 @@ told-run p (x ∷ xs) (y ∷ ys) us vs h k o q e =
 abbrev pub not-byte : ℕ → ℕ → Bool
 not-byte c b = not (eqb b c)
 
--- a key has no `=` and no LF, a value no LF
+-- a key has no `=` and no LF
 abbrev pub key-letter : ℕ → Bool
 key-letter b = not-byte (byte "=") b && not-byte (byte "\n") b
 
-pub record Separable (l : Line) : Type 0 where
-  pub key : Within key-letter (l .key)
+-- a line that stays a line: its key is one of the listing's, and its value has no LF
+pub record PlainLine (l : Line) : Type 0 where
+  pub key : member (l .key) listing-keys ≡ true
   pub value : Within (not-byte (byte "\n")) (l .value)
+
+pub key-letters : (l : Line) → PlainLine l → Within key-letter (l .key)
+unfolding listing-keys words pick
+key-letters l h =
+    within-by key-letter (l .key) (among-so (all-pass key-letter) (l .key) listing-keys (within-by (all-pass key-letter) listing-keys refl) (h .key))
+
+-- what holds of each of three keys holds of an item's
+pub by-kind : (P : List ℕ → Type 0) (s f v : String) → P (bytes s) → P (bytes f) → P (bytes v) → (shape : Shape) → P (kind-key s f v shape)
+unfolding kind-key
+by-kind P s f v a b c sort-shape = a
+by-kind P s f v a b c (function-shape t) = b
+by-kind P s f v a b c (variable-shape r) = c
 
 line-then : (l : Line) (s : List ℕ) → line-text l ++ s ≡ l .key ++ (byte "=" ∷ (l .value ++ (byte "\n" ∷ s)))
 unfolding line-text
@@ -76,7 +126,7 @@ no-line {X} l s e = go (l .key) (e ∙ line-then l s)
     go (b ∷ u) e = not-empty e
 
 -- the bytes tell the lines
-pub told-lines : (ls ls′ : List Line) → Every Separable ls → Every Separable ls′ → lines-text ls ≡ lines-text ls′ → ls ≡ ls′
+pub told-lines : (ls ls′ : List Line) → Every PlainLine ls → Every PlainLine ls′ → lines-text ls ≡ lines-text ls′ → ls ≡ ls′
 unfolding lines-text each
 told-lines [] [] h k e = refl
 told-lines [] (l ∷ ls) h k e = no-line l (lines-text ls) e
@@ -86,7 +136,7 @@ told-lines (l ∷ ls) (l′ ∷ ls′) h k e =
     let s′ = lines-text ls′ in
     let a =
     told-run key-letter (l .key) (l′ .key) (byte "=" ∷ (l .value ++ (byte "\n" ∷ s))) (byte "=" ∷ (l′ .value ++ (byte "\n" ∷ s′)))
-    (h .0 .key) (k .0 .key) refl refl (sym (line-then l s) ∙ e ∙ line-then l′ s′) in
+    (key-letters l (h .0)) (key-letters l′ (k .0)) refl refl (sym (line-then l s) ∙ e ∙ line-then l′ s′) in
     let b =
     told-run (not-byte (byte "\n")) (l .value) (l′ .value) (byte "\n" ∷ s) (byte "\n" ∷ s′) (h .0 .value) (k .0 .value) refl refl
     (rest-of (a .1)) in
@@ -120,16 +170,8 @@ plain-letter : (b : ℕ) → in-name b ≡ true → in-sort b ≡ true
 unfolding in-sort
 plain-letter b e = rw e
 
-pub every-so : {A : Type 0} (P Q : A → Type 0) (xs : List A) → ((x : A) → P x → Q x) → Every P xs → Every Q xs
-every-so P Q [] f h = tt
-every-so P Q (x ∷ xs) f h = (f x (h .0), every-so P Q xs f (h .1))
-
 pub plain-sort : (w : Name) → Plain w → WrittenSort w
 plain-sort w h = record { letters = every-so _ _ w plain-letter (h .letters); some-letter = h .some-letter }
-
-pub every-append : {A : Type 0} (P : A → Type 0) (xs ys : List A) → Every P xs → Every P ys → Every P (xs ++ ys)
-every-append P [] ys h k = k
-every-append P (x ∷ xs) ys h k = (h .0, every-append P xs ys (h .1) k)
 
 -- inputs with `#` between them and `->` after: the first run of letters, and what follows it
 abbrev first-run : List (List ℕ) → List ℕ
@@ -269,18 +311,6 @@ told-declared (declared-variable v s) (declared-variable w t) h k e =
 in-section : ℕ → Bool
 in-section b = in-name b || eqb b (byte " ")
 
-abbrev pub all-pass : (ℕ → Bool) → List ℕ → Bool
-all-pass p [] = true
-all-pass p (b ∷ s) = p b && all-pass p s
-
-pub within-by : (p : ℕ → Bool) (s : List ℕ) → all-pass p s ≡ true → Within p s
-within-by p [] e = tt
-within-by p (b ∷ s) e = go (p b) refl e (within-by p s)
-  where
-    go : (q : Bool) → p b ≡ q → (q && all-pass p s) ≡ true → (all-pass p s ≡ true → Within p s) → Within p (b ∷ s)
-    go true h e i = (h, i e)
-    go false h e i = absurd (false≢true e)
-
 section-letters : (s : Section) → PlainSection s → Within in-section (section-text s)
 unfolding section-text in-section in-name is-word pick is-in
 section-letters export-section h = within-by in-section (bytes "export") refl
@@ -357,129 +387,29 @@ number-written k = record { letters = (refl, every-append _ (digits 10 k) (bytes
 
 -- ---- the tests for "one" decide equality
 
-pub both-true : (p q : Bool) → (p && q) ≡ true → (p ≡ true) × (q ≡ true)
-both-true true q e = (refl, e)
-both-true false q e = absurd (false≢true e)
-
-pub agree-equal : {A : Type 0} (one : A → A → Bool) → ((a b : A) → one a b ≡ true → a ≡ b) → (xs ys : List A) → agree one xs ys ≡ true → xs ≡ ys
-unfolding agree pick
-agree-equal one h [] [] e = refl
-agree-equal one h [] (y ∷ ys) e = absurd (false≢true e)
-agree-equal one h (x ∷ xs) [] e = absurd (false≢true e)
-agree-equal one h (x ∷ xs) (y ∷ ys) e = go (one x y) refl e (agree-equal one h xs ys)
-  where
-    go : (p : Bool) → one x y ≡ p → pick p (agree one xs ys) false ≡ true → (agree one xs ys ≡ true → xs ≡ ys) → x ∷ xs ≡ y ∷ ys
-    go true q e i = ap₂ _∷_ (h x y q) (i e)
-    go false q e i = absurd (false≢true e)
-
-pub agree-self : {A : Type 0} (one : A → A → Bool) → ((a : A) → one a a ≡ true) → (xs : List A) → agree one xs xs ≡ true
-unfolding agree pick
-agree-self one h [] = refl
-agree-self one h (x ∷ xs) = rw (h x) (agree-self one h xs)
-
-section-equal : (s t : Section) → same-section s t ≡ true → s ≡ t
-unfolding same-section
-section-equal export-section export-section e = refl
-section-equal export-section hidden-section e = absurd (false≢true e)
-section-equal export-section (parameter-section q) e = absurd (false≢true e)
-section-equal hidden-section export-section e = absurd (false≢true e)
-section-equal hidden-section hidden-section e = refl
-section-equal hidden-section (parameter-section q) e = absurd (false≢true e)
-section-equal (parameter-section p) export-section e = absurd (false≢true e)
-section-equal (parameter-section p) hidden-section e = absurd (false≢true e)
-section-equal (parameter-section p) (parameter-section q) e = ap parameter-section (same-equal p q e)
-
 pub section-self : (s : Section) → same-section s s ≡ true
-unfolding same-section
-section-self export-section = refl
-section-self hidden-section = refl
-section-self (parameter-section p) = same-self p
-
-declared-equal : (d d′ : Declared) → same-declared d d′ ≡ true → d ≡ d′
-unfolding same-declared
-declared-equal (declared-sort a) (declared-sort b) e = ap declared-sort (same-equal a b e)
-declared-equal (declared-sort a) (declared-function g j p) e = absurd (false≢true e)
-declared-equal (declared-sort a) (declared-variable w t) e = absurd (false≢true e)
-declared-equal (declared-function f i o) (declared-sort b) e = absurd (false≢true e)
-declared-equal (declared-function f i o) (declared-function g j p) e =
-    let r = both-true _ _ e in
-    let t = both-true _ _ (r .0) in
-    λ x. declared-function (same-equal f g (t .0) x) (agree-equal same same-equal i j (t .1) x) (same-equal o p (r .1) x)
-declared-equal (declared-function f i o) (declared-variable w t) e = absurd (false≢true e)
-declared-equal (declared-variable v s) (declared-sort b) e = absurd (false≢true e)
-declared-equal (declared-variable v s) (declared-function g j p) e = absurd (false≢true e)
-declared-equal (declared-variable v s) (declared-variable w t) e =
-    let r = both-true _ _ e in λ x. declared-variable (same-equal v w (r .0) x) (same-equal s t (r .1) x)
-
-declared-self : (d : Declared) → same-declared d d ≡ true
-unfolding same-declared
-declared-self (declared-sort a) = same-self a
-declared-self (declared-function f i o) = rw (same-self f, agree-self same same-self i, same-self o)
-declared-self (declared-variable v s) = rw (same-self v, same-self s)
-
-pub origin-equal : (o p : Origin) → same-origin o p ≡ true → o ≡ p
-unfolding same-origin
-origin-equal o p e =
-    let r = both-true _ _ e in
-    let s = both-true _ _ (r .0) in
-    let homes = same-equal (o .home) (p .home) (s .0) in
-    let sections = section-equal (o .section) (p .section) (s .1) in
-    let declareds = declared-equal (o .declared) (p .declared) (r .1) in
-    λ x. record { home = homes x; section = sections x; declared = declareds x }
+section-self = sections-decided .self
 
 pub origin-self : (o : Origin) → same-origin o o ≡ true
-unfolding same-origin
-origin-self o = rw (same-self (o .home), section-self (o .section), declared-self (o .declared))
+origin-self = origins-decided .self
+
+pub origin-equal : (o p : Origin) → same-origin o p ≡ true → o ≡ p
+origin-equal = origins-decided .equal
 
 pub sort-self : (s : Sort) → same-sort s s ≡ true
-unfolding same-sort
-sort-self (visible-sort a) = same-self a
-sort-self (hidden-sort o) = origin-self o
-
-pub shape-self : (s : Shape) → same-shape s s ≡ true
-unfolding same-shape same-type
-shape-self sort-shape = refl
-shape-self (function-shape t) = rw (agree-self same-sort sort-self (t .inputs), sort-self (t .output))
-shape-self (variable-shape s) = sort-self s
+sort-self = sorts-decided .self
 
 pub sort-equal : (s t : Sort) → same-sort s t ≡ true → s ≡ t
-unfolding same-sort
-sort-equal (visible-sort a) (visible-sort b) e = ap visible-sort (same-equal a b e)
-sort-equal (visible-sort a) (hidden-sort p) e = absurd (false≢true e)
-sort-equal (hidden-sort o) (visible-sort b) e = absurd (false≢true e)
-sort-equal (hidden-sort o) (hidden-sort p) e = ap hidden-sort (origin-equal o p e)
+sort-equal = sorts-decided .equal
 
-pub type-equal : (t u : FunctionType) → same-type t u ≡ true → t ≡ u
-unfolding same-type
-type-equal t u e =
-    let r = both-true _ _ e in
-    let inputs = agree-equal same-sort sort-equal (t .inputs) (u .inputs) (r .0) in
-    let output = sort-equal (t .output) (u .output) (r .1) in
-    λ x. record { inputs = inputs x; output = output x }
+pub shape-self : (s : Shape) → same-shape s s ≡ true
+shape-self = shapes-decided .self
 
 pub shape-equal : (s t : Shape) → same-shape s t ≡ true → s ≡ t
-unfolding same-shape
-shape-equal sort-shape sort-shape e = refl
-shape-equal sort-shape (function-shape u) e = absurd (false≢true e)
-shape-equal sort-shape (variable-shape r) e = absurd (false≢true e)
-shape-equal (function-shape t) sort-shape e = absurd (false≢true e)
-shape-equal (function-shape t) (function-shape u) e = ap function-shape (type-equal t u e)
-shape-equal (function-shape t) (variable-shape r) e = absurd (false≢true e)
-shape-equal (variable-shape s) sort-shape e = absurd (false≢true e)
-shape-equal (variable-shape s) (function-shape u) e = absurd (false≢true e)
-shape-equal (variable-shape s) (variable-shape r) e = ap variable-shape (sort-equal s r e)
+shape-equal = shapes-decided .equal
 
 pub item-equal : (a b : Item) → one-item a b ≡ true → a ≡ b
-unfolding one-item
-item-equal a b e =
-    let r = both-true _ _ e in
-    let s = both-true _ _ (r .0) in
-    let t = both-true _ _ (s .0) in
-    let standings = section-equal (a .standing) (b .standing) (t .0) in
-    let names = same-equal (a .name) (b .name) (t .1) in
-    let shapes = shape-equal (a .shape) (b .shape) (s .1) in
-    let origins = origin-equal (a .origin) (b .origin) (r .1) in
-    λ x. record { standing = standings x; name = names x; shape = shapes x; origin = origins x }
+item-equal = items-decided .equal
 
 pub slot-equal : (p q : Slot) → same-slot p q ≡ true → p ≡ q
 unfolding same-slot
@@ -563,8 +493,7 @@ module _ (hidden : List Item) (few : length hidden + 1 < 10 ^ 10) where
       ap hidden-sort (told-before hidden o p h k (omega (arith, told-number _ _ (omega arith) (omega arith) e)))
 
   sorts-written : (ss : List Sort) → Every (SortIn hidden) ss → Every WrittenSort (map (sort-text hidden) ss)
-  sorts-written [] h = tt
-  sorts-written (s ∷ ss) h = (sort-written s (h .0), sorts-written ss (h .1))
+  sorts-written ss h = every-map (SortIn hidden) WrittenSort (sort-text hidden) sort-written ss h
 
   told-sorts : (ss ts : List Sort) → Every (SortIn hidden) ss → Every (SortIn hidden) ts
       → map (sort-text hidden) ss ≡ map (sort-text hidden) ts → ss ≡ ts
@@ -601,11 +530,7 @@ pub record OneLine (s : List ℕ) : Type 0 where
 
 letter-in-line : (b : ℕ) → in-sort b ≡ true → not-byte (byte "\n") b ≡ true
 unfolding in-sort in-name is-word pick is-in
-letter-in-line b h = go (eqb b (byte "\n")) refl
-  where
-    go : (q : Bool) → eqb b (byte "\n") ≡ q → not-byte (byte "\n") b ≡ true
-    go true e = absurd (false≢true (rw (eqb-true b (byte "\n") e) at h))
-    go false e = rw e
+letter-in-line b h = rw (passes-apart in-sort b (byte "\n") h refl)
 
 sort-in-line : (w : List ℕ) → WrittenSort w → OneLine w
 sort-in-line w h = record { within = every-so _ (λ b. not-byte (byte "\n") b ≡ true) w letter-in-line (h .letters) }
@@ -681,8 +606,7 @@ in-plain hidden (visible-sort a) h = h
 in-plain hidden (hidden-sort o) h = tt
 
 sort-texts-in-line : (hidden : List Item) (ss : List Sort) → Every (SortIn hidden) ss → Every OneLine (map (sort-text hidden) ss)
-sort-texts-in-line hidden [] h = tt
-sort-texts-in-line hidden (s ∷ ss) h = (sort-text-in-line hidden s (in-plain hidden s (h .0)), sort-texts-in-line hidden ss (h .1))
+sort-texts-in-line hidden ss h = every-map (SortIn hidden) OneLine (sort-text hidden) (λ s k. sort-text-in-line hidden s (in-plain hidden s k)) ss h
 
 pub shape-in-line : (hidden : List Item) (s : Shape) → ShapeIn hidden s → OneLine (shape-text hidden s)
 unfolding shape-text function-type-text
@@ -741,16 +665,13 @@ module _ (hidden : List Item) where
   unfolding sides-text
   sides-in-line e h = in-line-then (term-text hidden (e .left)) (term-in-line (e .left) (h .0)) (quoted "=" refl (term-in-line (e .right) (h .1)))
 
-  all-sides-in-line : (es : List ResolvedSides) → Every PlainSides es → Every OneLine (map (sides-text hidden) es)
-  all-sides-in-line [] h = tt
-  all-sides-in-line (e ∷ es) h = (sides-in-line e (h .0), all-sides-in-line es (h .1))
-
   conditions-in-line : (es : List ResolvedSides) → Every PlainSides es → OneLine (conditions-text hidden es)
   unfolding conditions-text
   conditions-in-line [] h = nothing
   conditions-in-line (e ∷ es) h =
       quoted " when " refl
-      (marks-in-line (bytes ",") (map (sides-text hidden) (e ∷ es)) (mark-in-line (byte ",") refl) (all-sides-in-line (e ∷ es) h))
+      (marks-in-line (bytes ",") (map (sides-text hidden) (e ∷ es)) (mark-in-line (byte ",") refl)
+      (every-map PlainSides OneLine (sides-text hidden) sides-in-line (e ∷ es) h))
 
   pub equation-in-line : (e : ResolvedEquation) → PlainEquation e → OneLine (equation-text hidden e)
   unfolding equation-text

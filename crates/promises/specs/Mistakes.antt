@@ -14,11 +14,11 @@ use Rattle.meaning.specs.Laws.{by-cases}
 use Rattle.meaning.specs.Lists.{pick, keep, any}
 use Rattle.meaning.specs.Names.{Name, same, member}
 use Rattle.meaning.specs.Numbers.{memory-size, program-output, formal-absent, formal-twice, actual-absent, other-kind, other-type, formal-unpaired}
-use Rattle.meaning.specs.Syntax.{Pair, Clause, renamed-by, bound-by, Import, Module}
+use Rattle.meaning.specs.Syntax.{Pair, Clause, renamed-by, bound-by, Import}
 use Rattle.meaning.specs.Origins.{Shape, sort-shape, function-shape, variable-shape, is-sort, is-function, Item}
 use Rattle.meaning.specs.Written.{shape-rank}
 use Rattle.meaning.specs.Normal.{Visible, Normal, empty, names-in, sorts-among, sort-names, is-called, formals}
-use Rattle.meaning.specs.Checks.{Culprit, lone, Outcome, fine, stop, _>>=_, _>>_, Check, unless, needs, Size, checked}
+use Rattle.meaning.specs.Checks.{Culprit, lone, Outcome, fine, stop, _>>=_, _>>_, Check, unless, needs, checked}
 use Rattle.meaning.specs.Clauses.{rename, sorts-right, kind-right, type-right, all-right, pair-right, pairs-right, unpaired, bound-to, bind}
 use Rattle.meaning.specs.Evaluate.{Evaluated, named-by, names-right, declared-once, normal-of, clause, clauses, expressions, united, imported, joined-own, evaluate}
 use Rattle.meaning.specs.Reached.{Placed, reached, Ended, end-or, total-of, in-turn, module-names, normalise}
@@ -34,7 +34,8 @@ use Rattle.promises.specs.PlainText.{read-plain}
 use Rattle.promises.specs.Counts.{BindingMistake, OtherNumber, OtherRefusal, IfRefused, checked-from, rename-from, united-from, names-right-from, declared-once-from, joined-own-from, refusal-within}
 use Rattle.promises.specs.ReadNumbers.{refused-low}
 use Rattle.promises.specs.Given.{never-sixteen}
-use Rattle.promises.specs.OldBinding.{bad-binding, shape-right, right-pair, wrong-pair, bound-before, bind-before, clause-by, clauses-by, expressions-by, evaluate-by, in-turn-by, normalise-by, of-read-by, answer-by, answer-before, answer-to-by, printed-before, asfnorm-before}
+use Rattle.promises.specs.TwoCalls.{pick-both, evaluated}
+use Rattle.promises.specs.OldBinding.{bad-binding, shape-right, right-pair, wrong-pair, bound-before, bind-before, clause-before, clauses-before, expressions-before, evaluate-before, in-turn-before, normalise-by, of-read-by, answer-by, turns-before, answer-before, answer-to-by, printed-before, asfnorm-before}
 
 -- ---- what was told, and what is told
 
@@ -71,11 +72,6 @@ retold-then (fine x) (fine y) a b h r = r
 retold-then (fine x) (stop j v) a b h r = absurd h
 retold-then (stop k w) (fine y) a b h r = absurd h
 retold-then (stop k w) (stop j v) a b h r = h
-
-pick-both : {A : Type 0} (R : A → A → Type 0) (b : Bool) (x y x′ y′ : A) → R x y → R x′ y′ → R (pick b x x′) (pick b y y′)
-unfolding pick
-pick-both R true x y x′ y′ h h′ = h
-pick-both R false x y x′ y′ h h′ = h′
 
 -- ---- a pair was wrong where it is now
 
@@ -199,36 +195,36 @@ bind-retold p rs n actual whole =
     (inl (refl, refl, lit≤ tt))
 
 module _ (env : List Evaluated) (whole : WholeEnv env) where
-  clause-retold : (c : Clause) (n : Normal) → Whole n → Retold (clause-by bind-before env c n) (clause env c n)
-  unfolding clause-by clause
+  clause-retold : (c : Clause) (n : Normal) → Whole n → Retold (clause-before env c n) (clause env c n)
+  unfolding clause-before clause
   clause-retold (renamed-by rs) n w = retold-same (rename rs n) (rename-from rs n)
   clause-retold (bound-by p rs m) n w = bind-retold p rs n (normal-of env m) w
 
-  clauses-retold : (cs : List Clause) (n : Normal) → Every PlainClause cs → Whole n → Retold (clauses-by bind-before env cs n) (clauses env cs n)
-  unfolding clauses-by clauses
+  clauses-retold : (cs : List Clause) (n : Normal) → Every PlainClause cs → Whole n → Retold (clauses-before env cs n) (clauses env cs n)
+  unfolding clauses-before clauses
   clauses-retold [] n h w = refl
   clauses-retold (c ∷ cs) n h w =
       retold-bound _ _ _ _ (clause-retold c n w)
       (λ k e. clauses-retold cs k (h .1) (subst (Gives Whole) e (clause-whole env whole c n (h .0) w)))
 
   expressions-retold : (is : List Import) → Every (λ i. Every PlainClause (i .clauses)) is
-      → Retold (expressions-by bind-before env is) (expressions env is)
-  unfolding expressions-by expressions
+      → Retold (expressions-before env is) (expressions env is)
+  unfolding expressions-before expressions
   expressions-retold [] h = refl
   expressions-retold (i ∷ is) h =
       retold-bound _ _ _ _ (clauses-retold (i .clauses) (normal-of env (i .name)) (h .0) (normal-of-whole env (i .name) whole))
       (λ n e. retold-bound _ _ _ _ (expressions-retold is (h .1)) (λ ns f. refl))
 
-  evaluate-retold : (declared earlier : List Name) (home : ℕ) (total : Size) (m : Module) → PlainModule m
-      → Retold (evaluate-by bind-before declared earlier home total env m) (evaluate declared earlier home total env m)
-  unfolding evaluate-by evaluate imported
-  evaluate-retold declared earlier home total m plain =
-      let names = names-right declared earlier (named-by m) in
-      retold-then names names _ _ (retold-same names (names-right-from declared earlier (named-by m)))
+  evaluate-retold : (declared : List Name) (x : Placed) → PlainModule (x .self) → Retold (evaluate-before declared env x) (evaluated declared env x)
+  unfolding evaluate-before evaluate imported
+  evaluate-retold declared x plain =
+      let m = x .self in
+      let names = names-right declared (x .earlier) (named-by m) in
+      retold-then names names _ _ (retold-same names (names-right-from declared (x .earlier) (named-by m)))
       (retold-then (declared-once m) (declared-once m) _ _ (retold-same (declared-once m) (declared-once-from m))
       (retold-bound _ _ _ _
       (retold-bound _ _ _ _ (expressions-retold (m .imports) (plain .imports)) (λ ns e. retold-same (united empty ns) (united-from empty ns)))
-      (λ n e. retold-same (joined-own home total m n) (joined-own-from home total m n))))
+      (λ n e. retold-same (joined-own (x .number) (total-of env) m n) (joined-own-from (x .number) (total-of env) m n))))
 
 -- ---- every answer
 
@@ -267,17 +263,15 @@ module _ (memory-lent output-lent : ℕ) (asked : Name) (texts : Texts) where
   })
 
   turns-retold : (declared : List Name) (env : List Evaluated) (last : Normal) (xs : List Placed) → WholeEnv env → Every (λ x. PlainModule (x .self)) xs
-      → RetoldEnd (in-turn-by bind-before declared env last xs) (in-turn declared env last xs)
-  unfolding in-turn-by in-turn of-ended
+      → RetoldEnd (in-turn-before declared env last xs) (in-turn declared env last xs)
+  unfolding in-turn-before in-turn of-ended
   turns-retold declared env last [] s h = inl (refl, lit≤ tt)
   turns-retold declared env last (x ∷ xs) s h =
-      let evaluated = evaluate declared (x .earlier) (x .number) (total-of env) env (x .self) in
-      one-turn (length env + 1) (x .self .name) _ _ _ evaluated
-      (evaluate-retold env s declared (x .earlier) (x .number) (total-of env) (x .self) (h .0))
+      one-turn (length env + 1) (x .self .name) _ _ _ (evaluated declared env x) (evaluate-retold env s declared x (h .0))
       (λ n e. turns-retold declared (record { name = x .self .name; normal = n } ∷ env) n xs
       (subst (Gives Accepted) e (evaluated-accepted declared (x .earlier) (x .number) (total-of env) env (x .self) (h .0) s) .whole, s) (h .1))
 
-  read-retold : (r : Reading) → read-texts texts ≡ r → RetoldAnswer (of-read-by bind-before asked r) (of-read asked r)
+  read-retold : (r : Reading) → read-texts texts ≡ r → RetoldAnswer (of-read-by turns-before asked r) (of-read asked r)
   unfolding of-read-by of-read normalise-by normalise reached of-ended refusal unread
   read-retold (all-read ms) q =
       pick-both RetoldEnd _ _ _ _ _

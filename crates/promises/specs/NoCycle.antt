@@ -2,32 +2,30 @@
 -- reached from the ones that it names. Evaluating once had a test for this, with the number 20. The test stands here for these statements
 -- alone: with it every answer is what it is without it, and none is 20.
 use mathlib.Core.Path.{_≡_, refl, sym, ap, subst, _∙_}
-use mathlib.Core.Logic.{_⊎_, inl, inr}
+use mathlib.Core.Logic.{_⊎_, inl, inr, ⊎-elim}
 use Prim.Native.Nat.{ℕ, _+_}
 use mathlib.Core.Bool.{Bool, true, false}
 use mathlib.Core.List.{List, [], _∷_, _++_, map, append-assoc}
-use lib.Dec.{ltb}
 use lib.ListN.{length, length-map}
 use Rattle.meaning.specs.Laws.{by-cases}
 use Rattle.meaning.specs.Lists.{pick}
 use Rattle.meaning.specs.Names.{bytes, Name, same, member}
-use Rattle.meaning.specs.Numbers.{memory-size, asked-absent, lent-short}
 use Rattle.meaning.specs.Syntax.{Module}
 use Rattle.meaning.specs.Normal.{Normal, empty}
-use Rattle.meaning.specs.Checks.{lone, Outcome, fine, stop, _>>=_, _>>_, Check, Size}
+use Rattle.meaning.specs.Checks.{lone, Outcome, fine, stop, _>>_, Check, Size, _>>=_}
 use Rattle.meaning.specs.Evaluate.{Evaluated, named-by, names-right, declared-once, imported, joined-own, evaluate}
-use Rattle.meaning.specs.Reached.{wanted, Placed, reached-among, reached, Ended, normalised, refused-at, end-or, total-of, in-turn, module-names, short-or-blank, normalise}
+use Rattle.meaning.specs.Reached.{wanted, Placed, reached-among, reached, Ended, normalised, end-or, total-of, in-turn, module-names, normalise}
 use Rattle.meaning.specs.Texts.{Texts, Reading, all-read, refused-in, read-texts}
-use Rattle.meaning.specs.Answer.{Answer, refusal, of-ended, unread, of-read, within, answer}
+use Rattle.meaning.specs.Answer.{Answer, of-read, answer}
 use Rattle.meaning.specs.Distinct.{Fresh, read-fresh}
 use Rattle.meaning.specs.Trials.{all-opened}
-use Rattle.promises.specs.Members.{clear, found-again, found-later, member-here, member-left, member-right, member-second, differ, Inside, inside-more, inside-later, inside-cons, outside}
-use Rattle.promises.specs.Wanting.{only-itself, reached-later}
-use Rattle.promises.specs.Demand.{ForEach}
-use Rattle.promises.specs.Enough.{placed-among, all-placed}
-use Rattle.promises.specs.Again.{earlier-names}
+use Rattle.meaning.specs.OrderLaws.{Every}
+use Rattle.promises.specs.Members.{clear, found-later, member-here, member-left, member-right, differ, Inside, inside-more, inside-later, inside-cons, outside, no-name, member-more, member-split, member-either, only-itself}
+use Rattle.promises.specs.Demand.{placed-among, all-placed}
+use Rattle.promises.specs.Alone.{earlier-names}
 use Rattle.promises.specs.Library.{names-both, not-both}
 use Rattle.promises.specs.Given.{never-twenty}
+use Rattle.promises.specs.OldBinding.{normalise-by, of-read-by, answer-by}
 
 -- ---- what a module's names reach
 
@@ -48,7 +46,7 @@ none-reached w k e taken (m ∷ ms) f h =
     let p : member (m .name) (wanted w ms) ≡ false =
     ap (member (m .name)) (only-itself w (m .name ∷ taken) ms (f .1) still)
     ∙ ap (λ (b : Bool). pick b true false) (differ (m .name) w taken (f .0) h) in
-    reached-later w m ms k e p ∙ none-reached w (k + 1) (m .name ∷ e) (m .name ∷ taken) ms (f .1) still
+    rw p (none-reached w (k + 1) (m .name ∷ e) (m .name ∷ taken) ms (f .1) still)
 
 one-reached : (w : Name) (k : ℕ) (e names : List Name) (m : Module) (ms : List Module)
     → Inside (names-of (reached-among w (k + 1) (m .name ∷ e) ms)) names → Inside (names-of (reached-among w k e (m ∷ ms))) (m .name ∷ names)
@@ -66,32 +64,21 @@ reached-before w [] vs k e taken f (inl h) =
     λ v q. clear (sym q ∙ ap (λ (xs : List Placed). member v (names-of xs)) (none-reached w k e taken vs f h))
 reached-before w [] vs k e taken f (inr h) = clear (sym h)
 reached-before w (u ∷ us) vs k e taken f h =
-    one-reached w k e (module-names us) u (us ++ vs) (reached-before w us vs (k + 1) (u .name ∷ e) (u .name ∷ taken) (f .1) (next h))
-  where
-    here-or-later : (b : Bool) → same w (u .name) ≡ b → pick b true (member w (module-names us)) ≡ true
-        → (member w (u .name ∷ taken) ≡ true) ⊎ (member w (module-names us) ≡ true)
-    here-or-later true b h = inl (rw b)
-    here-or-later false b h = inr h
-
-    next : (member w taken ≡ true) ⊎ (member w (module-names (u ∷ us)) ≡ true)
-        → (member w (u .name ∷ taken) ≡ true) ⊎ (member w (module-names us) ≡ true)
-    next (inl h) = inl (found-later (same w (u .name)) _ h)
-    next (inr h) = here-or-later (same w (u .name)) refl h
+    one-reached w k e (module-names us) u (us ++ vs) (reached-before w us vs (k + 1) (u .name ∷ e) (u .name ∷ taken) (f .1)
+    (⊎-elim (λ h. inl (found-later (same w (u .name)) _ h))
+    (λ h. ⊎-elim (λ p. inl (ap (λ (v : Name). member v (u .name ∷ taken)) p ∙ member-here (u .name) taken)) inr
+    (member-either w (u .name) (module-names us) h)) h))
 
 -- the last name may be put first
 last-first : (v : Name) (vs ws : List Name) → Inside vs ws → Inside (vs ++ (v ∷ [])) (v ∷ ws)
-unfolding member
-last-first v vs ws h w q = go (member w vs) refl
-  where
-    go : (b : Bool) → member w vs ≡ b → member w (v ∷ ws) ≡ true
-    go true b = found-later (same w v) _ (h w b)
-    go false b = found-again (same w v) _ _ (λ z. clear (sym z)) (member-second w vs (v ∷ []) b q)
+last-first v vs ws h w q =
+    ⊎-elim (λ b. member-right w (v ∷ []) ws (h w b)) (member-more w (v ∷ []) [] ws (λ z. no-name w z)) (member-split w vs (v ∷ []) q)
 
 module _ (ms : List Module) (fresh : Fresh [] ms) where
   -- us stand before the modules from here on, and e are their names
   placed-in-no-circle : (us : List Module) (k : ℕ) (e : List Name) (rest : List Module) → ms ≡ us ++ rest → Inside e (module-names us)
       → Inside (module-names us) e
-      → ForEach (λ x. names-right (module-names ms) (x .earlier) (named-by (x .self)) ≡ fine tt → InNoCircle ms x) (placed-among k e rest)
+      → Every (λ x. names-right (module-names ms) (x .earlier) (named-by (x .self)) ≡ fine tt → InNoCircle ms x) (placed-among k e rest)
   unfolding placed-among module-names reached
   placed-in-no-circle us k e [] s i j = tt
   placed-in-no-circle us k e (m ∷ rest) s i j = (
@@ -127,7 +114,7 @@ module _ (ms : List Module) (fresh : Fresh [] ms) where
 
 -- each module of a specification that passes step 1 is in no circle of imports
 pub no-circle : (texts : Texts) (ms : List Module) → read-texts texts ≡ all-read ms
-    → ForEach (λ x. names-right (module-names ms) (x .earlier) (named-by (x .self)) ≡ fine tt → InNoCircle ms x) (all-placed ms)
+    → Every (λ x. names-right (module-names ms) (x .earlier) (named-by (x .self)) ≡ fine tt → InNoCircle ms x) (all-placed ms)
 unfolding all-placed module-names
 no-circle texts ms e = placed-in-no-circle ms (read-fresh texts ms e) [] 0 [] ms refl (λ v q. q) (λ v q. q)
 
@@ -174,19 +161,11 @@ in-turn-tested declared env last (x ∷ xs) =
     (λ n. in-turn-tested declared (record { evaluated = record { name = m .name; normal = n }; names = named-by m } ∷ env) n xs)
     (evaluate-tested declared (x .earlier) (x .number) (total-of (without-names env)) env m)
 
-unfoldable pub normalise-tested : Name → List Module → Ended
-normalise-tested asked ms =
-    let r = in-turn-tested (module-names ms) [] empty (reached asked ms) in
-    pick (member asked (module-names ms)) r (refused-at asked-absent 0 asked (lone (short-or-blank asked)))
+abbrev pub turns-tested : List Name → List Placed → Ended
+turns-tested declared xs = in-turn-tested declared [] empty xs
 
-unfoldable pub of-read-tested : Name → Reading → Answer
-of-read-tested asked (all-read ms) = of-ended asked (normalise-tested asked ms)
-of-read-tested asked (refused-in in-library number at) = unread in-library number at
-
-unfoldable pub answer-tested : ℕ → ℕ → Name → Texts → Answer
-answer-tested memory-lent output-lent asked t =
-    let r = within output-lent asked (of-read-tested asked (read-texts t)) in
-    pick (ltb memory-lent memory-size) (refusal lent-short 0 asked (lone []) 0) r
+abbrev pub answer-tested : ℕ → ℕ → Name → Texts → Answer
+answer-tested = answer-by turns-tested
 
 -- of modules that no text gives, it finds the cycle: M names A, and A, evaluated before, names M, evaluated before
 unfoldable cyclic : Module
@@ -216,24 +195,18 @@ abbrev names-in : List Evaluated → List Name
 names-in env = map (λ (e : Evaluated). e .name) env
 
 -- a name that is reached is the name of a module evaluated
-not-reached : (v : Name) (ws : List Name) (env : List Naming) → member v (names-in (without-names env)) ≡ false → member v (reached-from ws env) ≡ false
-unfolding reached-from member pick
-not-reached v ws [] e = refl
-not-reached v ws (x ∷ env) e =
-    go (member (x .evaluated .name) ws) (same v (x .evaluated .name)) refl e (not-reached v (x .names ++ ws) env) (not-reached v ws env)
-  where
-    go : (b c : Bool) → same v (x .evaluated .name) ≡ c → pick c true (member v (names-in (without-names env))) ≡ false
-        → (member v (names-in (without-names env)) ≡ false → member v (reached-from (x .names ++ ws) env) ≡ false)
-        → (member v (names-in (without-names env)) ≡ false → member v (reached-from ws env) ≡ false)
-        → member v (pick b (x .evaluated .name ∷ reached-from (x .names ++ ws) env) (reached-from ws env)) ≡ false
-    go b true q k h h′ = clear k
-    go true false q k h h′ = rw q (h k)
-    go false false q k h h′ = h′ k
+reached-inside : (ws : List Name) (env : List Naming) → Inside (reached-from ws env) (names-in (without-names env))
+unfolding reached-from
+reached-inside ws [] v = λ q. q
+reached-inside ws (x ∷ env) v =
+    by-cases (λ (r : List Name). member v r ≡ true → member v (names-in (without-names (x ∷ env))) ≡ true) (member (x .evaluated .name) ws) _ _
+    (λ b. member-more v (x .evaluated .name ∷ []) _ _ (reached-inside (x .names ++ ws) env v))
+    (λ b q. member-right v (x .evaluated .name ∷ []) _ (reached-inside ws env v q))
 
 -- where no module evaluated before has the module's name, there is no cycle
 no-cycle : (env : List Naming) (m : Module) → member (m .name) (names-in (without-names env)) ≡ false → acyclic env m ≡ fine tt
 unfolding acyclic pick
-no-cycle env m e = rw (not-reached (m .name) (named-by m) env e)
+no-cycle env m e = rw (outside (reached-from (named-by m) env) (names-in (without-names env)) (m .name) (reached-inside (named-by m) env) e)
 
 evaluate-same : (declared earlier : List Name) (home : ℕ) (total : Size) (env : List Naming) (m : Module)
     → member (m .name) (names-in (without-names env)) ≡ false
@@ -268,27 +241,18 @@ module _ (declared : List Name) (asked : Name) where
           rw (evaluate-same declared e k (total-of (without-names env)) env m alone, length-map)
           (λ j. end-or (length env + 1) (m .name) (λ n. later n j) (evaluate declared e k (total-of (without-names env)) (without-names env) m))
 
-pub normalise-same : (asked : Name) (ms : List Module) → Fresh [] ms → normalise-tested asked ms ≡ normalise asked ms
-unfolding normalise-tested normalise reached
-normalise-same asked ms f = rw (turns-same (module-names ms) asked ms 0 [] [] empty f (λ v q. q))
-
-read-same : (asked : Name) (texts : Texts) (r : Reading) → read-texts texts ≡ r → of-read-tested asked r ≡ of-read asked r
-unfolding of-read-tested of-read
-read-same asked texts (all-read ms) e = ap (of-ended asked) (normalise-same asked ms (read-fresh texts ms e))
+read-same : (asked : Name) (texts : Texts) (r : Reading) → read-texts texts ≡ r → of-read-by turns-tested asked r ≡ of-read asked r
+unfolding of-read-by of-read normalise-by normalise reached
+read-same asked texts (all-read ms) e = rw (turns-same (module-names ms) asked ms 0 [] [] empty (read-fresh texts ms e) (λ v q. q))
 read-same asked texts (refused-in in-library number at) e = refl
 
 -- whatever the texts, the name and what is lent: the answer with the test is the answer
 pub test-of-no-account : (memory-lent output-lent : ℕ) (asked : Name) (texts : Texts)
     → answer-tested memory-lent output-lent asked texts ≡ answer memory-lent output-lent asked texts
-unfolding answer-tested answer
+unfolding answer-by answer
 test-of-no-account memory-lent output-lent asked texts = rw (read-same asked texts (read-texts texts) refl)
 
 -- ---- 20 is never given
 
 pub never-in-cycle : (memory-lent output-lent : ℕ) (asked : Name) (texts : Texts) → answer memory-lent output-lent asked texts .number ≡ in-cycle → ⊥
 never-in-cycle memory-lent output-lent asked texts e = never-twenty memory-lent output-lent asked texts e
-
-pub never-in-cycle-tested : (memory-lent output-lent : ℕ) (asked : Name) (texts : Texts)
-    → answer-tested memory-lent output-lent asked texts .number ≡ in-cycle → ⊥
-never-in-cycle-tested memory-lent output-lent asked texts e =
-    never-in-cycle memory-lent output-lent asked texts (sym (ap (λ (r : Answer). r .number) (test-of-no-account memory-lent output-lent asked texts)) ∙ e)

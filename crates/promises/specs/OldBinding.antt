@@ -1,5 +1,5 @@
--- Binding as it was before its mistakes were told apart (document 02, Five): 16 for each, with the formal's name alone. It stands here for
--- the statements of Mistakes.antt, in a call by any rule for binding; by the rule of a call that is the call.
+-- Binding as it was before its mistakes were told apart (document 02, Five): 16 for each, with the formal's name alone. It stands here, with a
+-- call by that rule, for the statements of Mistakes.antt.
 use mathlib.Core.Path.{_≡_, refl}
 use Prim.Native.Nat.{ℕ, _+_}
 use Prim.Native.String.{String}
@@ -15,12 +15,12 @@ use Rattle.meaning.specs.Syntax.{Pair, Clause, renamed-by, bound-by, Import, Mo
 use Rattle.meaning.specs.Origins.{Shape, sort-shape, function-shape, variable-shape, same-shape, Item}
 use Rattle.meaning.specs.Written.{decimal}
 use Rattle.meaning.specs.Normal.{Visible, Normal, empty, sort-names, is-called, slot-names, formals, unite, move-type, move}
-use Rattle.meaning.specs.Checks.{lone, Outcome, fine, stop, _>>=_, _>>_, unless, Size, checked}
-use Rattle.meaning.specs.Clauses.{rename, new-sort, new-function, sorts-right, unpaired, without, bind}
-use Rattle.meaning.specs.Evaluate.{Evaluated, named-by, names-right, declared-once, normal-of, clause, clauses, expressions, united, imported, joined-own, evaluate}
-use Rattle.meaning.specs.Reached.{Placed, reached, Ended, normalised, refused-at, end-or, total-of, in-turn, module-names, short-or-blank, normalise}
+use Rattle.meaning.specs.Checks.{lone, Outcome, fine, stop, _>>=_, _>>_, unless, checked}
+use Rattle.meaning.specs.Clauses.{rename, new-sort, new-function, sorts-right, unpaired, without}
+use Rattle.meaning.specs.Evaluate.{Evaluated, named-by, names-right, declared-once, normal-of, united, joined-own}
+use Rattle.meaning.specs.Reached.{Placed, reached, Ended, normalised, refused-at, end-or, total-of, module-names, short-or-blank}
 use Rattle.meaning.specs.Texts.{Texts, two-texts, Reading, all-read, refused-in, read-texts}
-use Rattle.meaning.specs.Answer.{Answer, refusal, of-ended, unread, of-read, within, answer, place-text, request, request-end, has-request, library-too-long, texts-in, answer-to}
+use Rattle.meaning.specs.Answer.{Answer, refusal, of-ended, unread, within, place-text, request, request-end, has-request, library-too-long, texts-in}
 use Rattle.meaning.specs.Listing.{line, lines-text}
 use Rattle.meaning.specs.Trials.{all-opened}
 
@@ -64,56 +64,57 @@ unfoldable pub bind-before : Name → List Pair → Normal → Normal → Outcom
 bind-before p rs n actual =
     let r = bound-before p rs n actual in pick (member p (slot-names (n .visible .parameters))) r (stop bad-parameter (lone p))
 
--- ---- a call by any rule for binding
+-- ---- a call by that rule
 
-module _ (binding : Name → List Pair → Normal → Normal → Outcome Normal) where
-  unfoldable pub clause-by : List Evaluated → Clause → Normal → Outcome Normal
-  clause-by env (renamed-by rs) n = rename rs n
-  clause-by env (bound-by p rs m) n = binding p rs n (normal-of env m)
+unfoldable pub clause-before : List Evaluated → Clause → Normal → Outcome Normal
+clause-before env (renamed-by rs) n = rename rs n
+clause-before env (bound-by p rs m) n = bind-before p rs n (normal-of env m)
 
-  unfoldable pub clauses-by : List Evaluated → List Clause → Normal → Outcome Normal
-  clauses-by env [] n = fine n
-  clauses-by env (c ∷ cs) n = clause-by env c n >>= λ k. clauses-by env cs k
+unfoldable pub clauses-before : List Evaluated → List Clause → Normal → Outcome Normal
+clauses-before env [] n = fine n
+clauses-before env (c ∷ cs) n = clause-before env c n >>= λ k. clauses-before env cs k
 
-  unfoldable pub expressions-by : List Evaluated → List Import → Outcome (List Normal)
-  expressions-by env [] = fine []
-  expressions-by env (i ∷ is) = do
-    n ← clauses-by env (i .clauses) (normal-of env (i .name))
-    ns ← expressions-by env is
-    fine (n ∷ ns)
+unfoldable pub expressions-before : List Evaluated → List Import → Outcome (List Normal)
+expressions-before env [] = fine []
+expressions-before env (i ∷ is) = do
+  n ← clauses-before env (i .clauses) (normal-of env (i .name))
+  ns ← expressions-before env is
+  fine (n ∷ ns)
 
-  unfoldable pub evaluate-by : List Name → List Name → ℕ → Size → List Evaluated → Module → Outcome Normal
-  evaluate-by declared earlier home total env m = do
-    names-right declared earlier (named-by m)
-    declared-once m
-    n ← expressions-by env (m .imports) >>= λ ns. united empty ns
-    joined-own home total m n
+unfoldable pub evaluate-before : List Name → List Evaluated → Placed → Outcome Normal
+evaluate-before declared env x = do
+  names-right declared (x .earlier) (named-by (x .self))
+  declared-once (x .self)
+  n ← expressions-before env (x .self .imports) >>= λ ns. united empty ns
+  joined-own (x .number) (total-of env) (x .self) n
 
-  unfoldable pub in-turn-by : List Name → List Evaluated → Normal → List Placed → Ended
-  in-turn-by declared env last [] = normalised (length env) last
-  in-turn-by declared env last (x ∷ xs) =
-      let m = x .self in
-      end-or (length env + 1) (m .name)
-      (λ n. in-turn-by declared (record { name = m .name; normal = n } ∷ env) n xs)
-      (evaluate-by declared (x .earlier) (x .number) (total-of env) env m)
+unfoldable pub in-turn-before : List Name → List Evaluated → Normal → List Placed → Ended
+in-turn-before declared env last [] = normalised (length env) last
+in-turn-before declared env last (x ∷ xs) =
+    end-or (length env + 1) (x .self .name) (λ n. in-turn-before declared (record { name = x .self .name; normal = n } ∷ env) n xs)
+    (evaluate-before declared env x)
 
-  unfoldable pub normalise-by : Name → List Module → Ended
-  normalise-by asked ms =
-      let r = in-turn-by (module-names ms) [] empty (reached asked ms) in
-      pick (member asked (module-names ms)) r (refused-at asked-absent 0 asked (lone (short-or-blank asked)))
+-- the answer by any way to evaluate modules in turn
+unfoldable pub normalise-by : (List Name → List Placed → Ended) → Name → List Module → Ended
+normalise-by turns asked ms =
+    let r = turns (module-names ms) (reached asked ms) in
+    pick (member asked (module-names ms)) r (refused-at asked-absent 0 asked (lone (short-or-blank asked)))
 
-  unfoldable pub of-read-by : Name → Reading → Answer
-  of-read-by asked (all-read ms) = of-ended asked (normalise-by asked ms)
-  of-read-by asked (refused-in in-library number at) = unread in-library number at
+unfoldable pub of-read-by : (List Name → List Placed → Ended) → Name → Reading → Answer
+of-read-by turns asked (all-read ms) = of-ended asked (normalise-by turns asked ms)
+of-read-by turns asked (refused-in in-library number at) = unread in-library number at
 
-  unfoldable pub answer-by : ℕ → ℕ → Name → Texts → Answer
-  answer-by memory-lent output-lent asked t =
-      let r = within output-lent asked (of-read-by asked (read-texts t)) in
-      pick (ltb memory-lent memory-size) (refusal lent-short 0 asked (lone []) 0) r
+unfoldable pub answer-by : (List Name → List Placed → Ended) → ℕ → ℕ → Name → Texts → Answer
+answer-by turns memory-lent output-lent asked t =
+    let r = within output-lent asked (of-read-by turns asked (read-texts t)) in
+    pick (ltb memory-lent memory-size) (refusal lent-short 0 asked (lone []) 0) r
+
+abbrev pub turns-before : List Name → List Placed → Ended
+turns-before declared xs = in-turn-before declared [] empty xs
 
 -- the answer by the rule as it was
 abbrev pub answer-before : ℕ → ℕ → Name → Texts → Answer
-answer-before = answer-by bind-before
+answer-before = answer-by turns-before
 
 -- and to an input, whatever answers
 unfoldable pub answer-to-by : (ℕ → ℕ → Name → Texts → Answer) → ℕ → ℕ → List ℕ → Answer
@@ -146,51 +147,5 @@ sorts-bound-by pairs =
 
 sixteen : (sorts-bound-by "X->Y" ≡ refusal 16 2 (bytes "N") (lone (bytes "X")) 0)
     × (sorts-bound-by "X->X" ≡ refusal 16 2 (bytes "N") (lone (bytes "Z")) 0)
-unfolding all-opened shape-right right-pair wrong-pair bound-before bind-before clause-by clauses-by expressions-by evaluate-by in-turn-by normalise-by of-read-by answer-by
+unfolding all-opened shape-right right-pair wrong-pair bound-before bind-before clause-before clauses-before expressions-before evaluate-before in-turn-before normalise-by of-read-by answer-by
 sixteen = (refl, refl)
-
--- ---- by the rule of a call it is the call
-
-clause-same : (env : List Evaluated) (c : Clause) (n : Normal) → clause-by bind env c n ≡ clause env c n
-unfolding clause-by clause
-clause-same env (renamed-by rs) n = refl
-clause-same env (bound-by p rs m) n = refl
-
-clauses-same : (env : List Evaluated) (cs : List Clause) (n : Normal) → clauses-by bind env cs n ≡ clauses env cs n
-unfolding clauses-by clauses
-clauses-same env [] n = refl
-clauses-same env (c ∷ cs) n = λ i. clause-same env c n i >>= λ k. clauses-same env cs k i
-
-expressions-same : (env : List Evaluated) (is : List Import) → expressions-by bind env is ≡ expressions env is
-unfolding expressions-by expressions
-expressions-same env [] = refl
-expressions-same env (x ∷ is) =
-    λ i. clauses-same env (x .clauses) (normal-of env (x .name)) i >>= λ n. (expressions-same env is i >>= λ ns. fine (n ∷ ns))
-
-evaluate-same : (declared earlier : List Name) (home : ℕ) (total : Size) (env : List Evaluated) (m : Module)
-    → evaluate-by bind declared earlier home total env m ≡ evaluate declared earlier home total env m
-unfolding evaluate-by evaluate imported
-evaluate-same declared earlier home total env m = rw (expressions-same env (m .imports))
-
-turns-same : (declared : List Name) (env : List Evaluated) (last : Normal) (xs : List Placed)
-    → in-turn-by bind declared env last xs ≡ in-turn declared env last xs
-unfolding in-turn-by in-turn
-turns-same declared env last [] = refl
-turns-same declared env last (x ∷ xs) =
-    λ i. end-or (length env + 1) (x .self .name)
-    (λ n. turns-same declared (record { name = x .self .name; normal = n } ∷ env) n xs i)
-    (evaluate-same declared (x .earlier) (x .number) (total-of env) env (x .self) i)
-
-read-same : (asked : Name) (r : Reading) → of-read-by bind asked r ≡ of-read asked r
-unfolding of-read-by of-read normalise-by normalise
-read-same asked (all-read ms) = rw (turns-same (module-names ms) [] empty (reached asked ms))
-read-same asked (refused-in in-library number at) = refl
-
-pub answer-same : (memory-lent output-lent : ℕ) (asked : Name) (texts : Texts)
-    → answer-by bind memory-lent output-lent asked texts ≡ answer memory-lent output-lent asked texts
-unfolding answer-by answer
-answer-same memory-lent output-lent asked texts = rw (read-same asked (read-texts texts))
-
-pub input-same : (memory-lent output-lent : ℕ) (input : List ℕ) → answer-to-by answer memory-lent output-lent input ≡ answer-to memory-lent output-lent input
-unfolding answer-to-by answer-to
-input-same memory-lent output-lent input = refl

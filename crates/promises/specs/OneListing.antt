@@ -10,7 +10,7 @@ use Rattle.meaning.specs.Origins.{ResolvedEquation}
 use Rattle.meaning.specs.Syntax.{Module}
 use Rattle.meaning.specs.Normal.{Slot, Normal}
 use Rattle.meaning.specs.Written.{in-order}
-use Rattle.meaning.specs.Listing.{lines-text, listing-lines}
+use Rattle.meaning.specs.Listing.{Line, lines-text, listing-lines}
 use Rattle.meaning.specs.Numbers.{memory-size, program-output}
 use Rattle.meaning.specs.Texts.{Texts, two-texts, Reading, all-read, refused-in, read-texts}
 use Rattle.meaning.specs.Reached.{Ended, normalised, refused-at, normalise}
@@ -77,39 +77,45 @@ accepted-told asked asked′ n n′ t t′ e =
 
 -- ---- the same of answers, whatever memory and output are lent
 
--- an answer whose lines list the normal form of an accepted call
-pub record Listed (asked : Name) (r : Answer) : Type 0 where
+-- what holds of no lines and of the listing of what is accepted holds of the lines of an answer
+module _ (asked : Name) (texts : Texts) (P : List Line → Type 0) (no-lines : P [])
+    (lists : (n : Normal) → AcceptedTexts asked n → P (listing-lines asked n)) where
+  abbrev Holds : Answer → Type 0
+  Holds r = P (r .lines)
+
+  pub ended-so : (ms : List Module) → read-texts texts ≡ all-read ms → Holds (of-ended asked (normalise asked ms))
+  unfolding of-ended refusal
+  ended-so ms r = go (normalise asked ms) refl
+    where
+      go : (e : Ended) → normalise asked ms ≡ e → Holds (of-ended asked e)
+      go (normalised count n) e = lists n (record { texts = texts; modules-read = ms; count = count; is-read = r; is-accepted = e })
+      go (refused-at number count m w) e = no-lines
+
+  read-so : (r : Reading) → read-texts texts ≡ r → Holds (of-read asked r)
+  unfolding of-read unread
+  read-so (all-read ms) e = ended-so ms e
+  read-so (refused-in l number at) e = no-lines
+
+  pub answer-so : (memory output : ℕ) → Holds (answer memory output asked texts)
+  unfolding answer within refusal
+  answer-so memory output =
+      by-cases Holds _ _ _ (λ b. no-lines) (λ b. by-cases Holds _ _ _ (λ c. read-so (read-texts texts) refl) (λ c. no-lines))
+
+-- lines that list the normal form of an accepted call
+pub record Listed (asked : Name) (ls : List Line) : Type 0 where
   pub normal : Normal
   pub accepted : AcceptedTexts asked normal
-  pub lists : r .lines ≡ listing-lines asked normal
+  pub lists : ls ≡ listing-lines asked normal
 
-abbrev IfLines : Name → Answer → Type 0
-IfLines asked r = NonEmpty (r .lines) → Listed asked r
-
-module _ (asked : Name) (texts : Texts) where
-  ended-listed : (ms : List Module) → read-texts texts ≡ all-read ms → (e : Ended) → normalise asked ms ≡ e → IfLines asked (of-ended asked e)
-  unfolding of-ended refusal
-  ended-listed ms r (normalised count n) e h = record {
-    normal = n;
-    accepted = record { texts = texts; modules-read = ms; count = count; is-read = r; is-accepted = e };
-    lists = refl;
-  }
-  ended-listed ms r (refused-at number count m w) e h = absurd h
-
-  read-listed : (r : Reading) → read-texts texts ≡ r → IfLines asked (of-read asked r)
-  unfolding of-read unread
-  read-listed (all-read ms) e = ended-listed ms e (normalise asked ms) refl
-  read-listed (refused-in l number at) e = λ h. absurd h
-
-  -- every answer that has lines
-  pub answer-listed : (memory output : ℕ) → IfLines asked (answer memory output asked texts)
-  unfolding answer within refusal
-  answer-listed memory output =
-      by-cases (IfLines asked) _ _ _ (λ b. λ h. absurd h)
-      (λ b. by-cases (IfLines asked) _ _ _ (λ c. read-listed (read-texts texts) refl) (λ c. λ h. absurd h))
+-- those of every answer that has lines
+pub answer-listed : (asked : Name) (texts : Texts) (memory output : ℕ) → NonEmpty (answer memory output asked texts .lines)
+    → Listed asked (answer memory output asked texts .lines)
+answer-listed asked texts =
+    answer-so asked texts (λ (ls : List Line). NonEmpty ls → Listed asked ls) (λ h. absurd h)
+    (λ n a h. record { normal = n; accepted = a; lists = refl })
 
 -- two answers with one listing have one normal form, as far as document 01 writes it
-pub answers-told : (asked asked′ : Name) (r r′ : Answer) (l : Listed asked r) (l′ : Listed asked′ r′) → listing r ≡ listing r′
+pub answers-told : (asked asked′ : Name) (r r′ : Answer) (l : Listed asked (r .lines)) (l′ : Listed asked′ (r′ .lines)) → listing r ≡ listing r′
     → SameForm asked asked′ (l .normal) (l′ .normal)
 answers-told asked asked′ r r′ l l′ e =
     accepted-told asked asked′ (l .normal) (l′ .normal) (l .accepted) (l′ .accepted)

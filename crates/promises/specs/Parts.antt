@@ -7,12 +7,7 @@ use Rattle.meaning.specs.Laws.{by-cases}
 use Rattle.meaning.specs.Lists.{pick, keep, any, each}
 use Rattle.meaning.specs.OrderLaws.{Every, Pairwise, Rearranged}
 use Rattle.promises.specs.ListingLaws.{every-so}
-
-pub every-kept : {A : Type 0} (P : A → Type 0) (p : A → Bool) (xs : List A) → Every P xs → Every (λ x. P x × (p x ≡ true)) (keep p xs)
-unfolding keep
-every-kept P p [] h = tt
-every-kept P p (x ∷ xs) h =
-    let r = every-kept P p xs (h .1) in by-cases (Every (λ x. P x × (p x ≡ true))) _ _ _ (λ e. ((h .0, e), r)) (λ e. r)
+pub use Rattle.laws.specs.EveryLaws.{every-kept}
 
 module _ {A : Type 0} where
   abbrev others : (A → Bool) → List A → List A

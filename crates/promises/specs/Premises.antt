@@ -3,7 +3,7 @@ use mathlib.Core.Path.{_≡_, refl}
 use Prim.Native.Nat.{ℕ}
 use native.Mathlib.Omega.{arith}
 use mathlib.Core.Bool.{true, false}
-use mathlib.Core.List.{List, [], _∷_, _++_}
+use mathlib.Core.List.{List, [], _++_}
 use lib.Dec.{eqb}
 use Rattle.meaning.specs.Lists.{pick}
 use Rattle.meaning.specs.Names.{bytes, Name, same, member}
@@ -11,12 +11,14 @@ use Rattle.meaning.specs.Numbers.{memory-size, program-output}
 use Rattle.meaning.specs.Syntax.{Module}
 use Rattle.meaning.specs.Written.{decimal}
 use Rattle.meaning.specs.Evaluate.{named-by, missing, too-late}
-use Rattle.meaning.specs.Texts.{Texts, two-texts, read-texts}
+use Rattle.meaning.specs.Texts.{Texts, two-texts, all-read, read-texts}
 use Rattle.meaning.specs.Reached.{Placed, reached, module-names}
 use Rattle.meaning.specs.Answer.{listing, answer}
 use Rattle.meaning.specs.Trials.{all-opened}
+use Rattle.meaning.specs.OrderLaws.{Every}
 use Rattle.promises.specs.VisiblePart.{visible-part, visible-part-opened}
-use Rattle.promises.specs.Demand.{ReadAs, ForEach, Counterparts, InTurn, InTheCall, Comparable}
+use Rattle.promises.specs.Demand.{InTurn, InTheCall, Comparable}
+use Rattle.promises.specs.TwoCalls.{in-turn-so}
 use Rattle.promises.specs.Instance.{modules-in, asked, not-m1}
 
 -- ---- the premises but one
@@ -38,55 +40,47 @@ place others-accepted = 7
 abbrev pub But : Premise → Premise → Type 0 → Type 0
 But left-out p P = pick (eqb (place left-out) (place p)) (Unit {0}) P
 
-pub record CounterpartsBut (left-out : Premise) (asked : Name) (ms ms′ : List Module) (x x′ : Placed) : Type 0 where
-  pub name : x .self .name ≡ x′ .self .name
-  pub parameters : But left-out same-parameters (x .self .parameters ≡ x′ .self .parameters)
-  pub exports : But left-out same-exports (x .self .exports ≡ x′ .self .exports)
-  pub imports : But left-out same-imports (x .self .imports ≡ x′ .self .imports)
-  pub asked-same : But left-out asked-unchanged (x .self .name ≡ asked → x .self ≡ x′ .self)
-  pub both-missing :
-      But left-out names-found (ForEach (λ w. missing (module-names ms) w ≡ missing (module-names ms′) w) (named-by (x .self)))
-  pub both-late :
-      But left-out names-found
-      (ForEach (λ w. too-late (module-names ms) (x .earlier) w ≡ too-late (module-names ms′) (x′ .earlier) w) (named-by (x .self)))
+-- the name, the parameters, the exports, the imports; the asked module; the names that are missing, and those that are late
+abbrev pub CounterpartsBut : Premise → Name → List Module → List Module → Placed → Placed → Type 0
+CounterpartsBut left-out asked ms ms′ x x′ =
+    (x .self .name ≡ x′ .self .name)
+    × But left-out same-parameters (x .self .parameters ≡ x′ .self .parameters)
+    × But left-out same-exports (x .self .exports ≡ x′ .self .exports)
+    × But left-out same-imports (x .self .imports ≡ x′ .self .imports)
+    × But left-out asked-unchanged (x .self .name ≡ asked → x .self ≡ x′ .self)
+    × But left-out names-found (Every (λ w. missing (module-names ms) w ≡ missing (module-names ms′) w) (named-by (x .self)))
+    × But left-out names-found
+    (Every (λ w. too-late (module-names ms) (x .earlier) w ≡ too-late (module-names ms′) (x′ .earlier) w) (named-by (x .self)))
 
-pub record ComparableBut (left-out : Premise) (asked : Name) (texts texts′ : Texts) (ms ms′ : List Module) : Type 0 where
-  pub read-as : ReadAs texts ms
-  pub read-as′ : ReadAs texts′ ms′
-  pub stands : member asked (module-names ms) ≡ true
-  pub stands′ : member asked (module-names ms′) ≡ true
-  pub same-order : But left-out same-modules (InTurn (CounterpartsBut left-out asked ms ms′) (reached asked ms) (reached asked ms′))
-  pub accepted : But left-out others-accepted (InTheCall asked ms)
-  pub accepted′ : But left-out others-accepted (InTheCall asked ms′)
+-- both are read; the asked module stands in both; the modules that it reaches correspond; the others are accepted in both
+abbrev pub ComparableBut : Premise → Name → Texts → Texts → List Module → List Module → Type 0
+ComparableBut left-out asked texts texts′ ms ms′ =
+    (read-texts texts ≡ all-read ms)
+    × (read-texts texts′ ≡ all-read ms′)
+    × (member asked (module-names ms) ≡ true)
+    × (member asked (module-names ms′) ≡ true)
+    × But left-out same-modules (InTurn (CounterpartsBut left-out asked ms ms′) (reached asked ms) (reached asked ms′))
+    × But left-out others-accepted (InTheCall asked ms)
+    × But left-out others-accepted (InTheCall asked ms′)
 
 -- where nothing is left out, these are the premises
-all-alike : (asked : Name) (ms ms′ : List Module) (xs xs′ : List Placed) → InTurn (CounterpartsBut nothing asked ms ms′) xs xs′
-    → InTurn (Counterparts asked ms ms′) xs xs′
-unfolding pick place
-all-alike asked ms ms′ [] [] h = tt
-all-alike asked ms ms′ [] (x′ ∷ xs′) h = absurd h
-all-alike asked ms ms′ (x ∷ xs) [] h = absurd h
-all-alike asked ms ms′ (x ∷ xs) (x′ ∷ xs′) h = (
-  record {
-    alike = record { name = h .0 .name; parameters = h .0 .parameters; exports = h .0 .exports; imports = h .0 .imports };
-    asked-same = h .0 .asked-same;
-    both-missing = h .0 .both-missing;
-    both-late = h .0 .both-late;
-  },
-  all-alike asked ms ms′ xs xs′ (h .1),
-)
-
 pub nothing-left-out : (asked : Name) (texts texts′ : Texts) (ms ms′ : List Module) → ComparableBut nothing asked texts texts′ ms ms′
     → Comparable InTheCall asked texts texts′ ms ms′
 unfolding pick place
 nothing-left-out asked texts texts′ ms ms′ c = record {
-  read-as = c .read-as;
-  read-as′ = c .read-as′;
-  stands = c .stands;
-  stands′ = c .stands′;
-  same-order = all-alike asked ms ms′ (reached asked ms) (reached asked ms′) (c .same-order);
-  accepted = c .accepted;
-  accepted′ = c .accepted′;
+  read-as = record { reads = c .0 };
+  read-as′ = record { reads = c .1 };
+  stands = c .2;
+  stands′ = c .3;
+  same-order =
+      in-turn-so _ _ (λ x x′ h. record {
+        alike = record { name = h .0; parameters = h .1; exports = h .2; imports = h .3 };
+        asked-same = h .4;
+        both-missing = h .5;
+        both-late = h .6;
+      }) (reached asked ms) (reached asked ms′) (c .4);
+  accepted = c .5;
+  accepted′ = c .6;
 }
 
 -- ---- two texts that show that a premise matters
@@ -97,11 +91,13 @@ told texts =
     let r = answer memory-size program-output asked texts in
     decimal (r .number) ++ (bytes " " ++ (r .culprit .name ++ (bytes "\n" ++ visible-part (listing r))))
 
-pub record Matters (p : Premise) (texts texts′ : Texts) (result result′ : List ℕ) : Type 0 where
-  pub others : ComparableBut p asked texts texts′ (modules-in (read-texts texts)) (modules-in (read-texts texts′))
-  pub first-told : told texts ≡ result
-  pub second-told : told texts′ ≡ result′
-  pub apart : same result result′ ≡ false
+-- the other premises hold, and this is told of the one and of the other, which is not the same
+abbrev pub Matters : Premise → Texts → Texts → List ℕ → List ℕ → Type 0
+Matters p texts texts′ result result′ =
+    ComparableBut p asked texts texts′ (modules-in (read-texts texts)) (modules-in (read-texts texts′))
+    × (told texts ≡ result)
+    × (told texts′ ≡ result′)
+    × (same result result′ ≡ false)
 
 -- opens what all of them compute by
 unfoldable pub matters-opened : Unit {0}
@@ -119,26 +115,12 @@ pub parameters-matter : Matters same-parameters
     (bytes "0 \nmodule=M2\nparameter=P\nparameter-sort=X\norigin=[M1,parameter P,sort,X]\n")
     (bytes "0 \nmodule=M2\nparameter=P\nparameter-sort=Y\norigin=[M1,parameter P,sort,Y]\n")
 unfolding matters-opened
-parameters-matter = record {
-  others = record {
-    read-as = record { reads = refl };
-    read-as′ = record { reads = refl };
-    stands = refl;
-    stands′ = refl;
-    same-order = (
-      record { name = refl; parameters = tt; exports = refl; imports = refl; asked-same = not-m1; both-missing = tt; both-late = tt },
-      (
-        record { name = refl; parameters = tt; exports = refl; imports = refl; asked-same = λ e. refl; both-missing = (refl, tt); both-late = (refl, tt) },
-        tt,
-      ),
-    );
-    accepted = tt;
-    accepted′ = tt;
-  };
-  first-told = refl;
-  second-told = refl;
-  apart = refl;
-}
+parameters-matter = (
+  (refl, refl, refl, refl, ((refl, tt, refl, refl, not-m1, tt, tt), ((refl, tt, refl, refl, λ e. refl, (refl, tt), (refl, tt)), tt)), tt, tt),
+  refl,
+  refl,
+  refl,
+)
 
 -- an export of an imported module
 pub exports-matter : Matters same-exports
@@ -147,26 +129,12 @@ pub exports-matter : Matters same-exports
     (bytes "0 \nmodule=M2\nsort=A\norigin=[M1,export,sort,A]\n")
     (bytes "0 \nmodule=M2\nsort=B\norigin=[M1,export,sort,B]\n")
 unfolding matters-opened
-exports-matter = record {
-  others = record {
-    read-as = record { reads = refl };
-    read-as′ = record { reads = refl };
-    stands = refl;
-    stands′ = refl;
-    same-order = (
-      record { name = refl; parameters = refl; exports = tt; imports = refl; asked-same = not-m1; both-missing = tt; both-late = tt },
-      (
-        record { name = refl; parameters = refl; exports = tt; imports = refl; asked-same = λ e. refl; both-missing = (refl, tt); both-late = (refl, tt) },
-        tt,
-      ),
-    );
-    accepted = tt;
-    accepted′ = tt;
-  };
-  first-told = refl;
-  second-told = refl;
-  apart = refl;
-}
+exports-matter = (
+  (refl, refl, refl, refl, ((refl, refl, tt, refl, not-m1, tt, tt), ((refl, refl, tt, refl, λ e. refl, (refl, tt), (refl, tt)), tt)), tt, tt),
+  refl,
+  refl,
+  refl,
+)
 
 -- an import of an imported module: the same module under another name
 pub imports-matter : Matters same-imports
@@ -175,29 +143,12 @@ pub imports-matter : Matters same-imports
     (bytes "0 \nmodule=M2\nsort=A\norigin=[M0,export,sort,A]\n")
     (bytes "0 \nmodule=M2\nsort=B\norigin=[M0,export,sort,A]\n")
 unfolding matters-opened
-imports-matter = record {
-  others = record {
-    read-as = record { reads = refl };
-    read-as′ = record { reads = refl };
-    stands = refl;
-    stands′ = refl;
-    same-order = (
-      record { name = refl; parameters = refl; exports = refl; imports = tt; asked-same = not-m0; both-missing = tt; both-late = tt },
-      (
-        record { name = refl; parameters = refl; exports = refl; imports = tt; asked-same = not-m1; both-missing = (refl, tt); both-late = (refl, tt) },
-        (
-          record { name = refl; parameters = refl; exports = refl; imports = tt; asked-same = λ e. refl; both-missing = (refl, tt); both-late = (refl, tt) },
-          tt,
-        ),
-      ),
-    );
-    accepted = tt;
-    accepted′ = tt;
-  };
-  first-told = refl;
-  second-told = refl;
-  apart = refl;
-}
+imports-matter = (
+  (refl, refl, refl, refl, ((refl, refl, refl, tt, not-m0, tt, tt), ((refl, refl, refl, tt, not-m1, (refl, tt), (refl, tt)), ((refl, refl, refl, tt, λ e. refl, (refl, tt), (refl, tt)), tt))), tt, tt),
+  refl,
+  refl,
+  refl,
+)
 
 -- a hidden function of the asked module itself: its own hidden names clash with visible ones
 pub asked-matters : Matters asked-unchanged
@@ -206,26 +157,8 @@ pub asked-matters : Matters asked-unchanged
     (bytes "0 \nmodule=M2\nsort=A\norigin=[M1,export,sort,A]\nfunction=f:A->A\norigin=[M1,export,function,f:A->A]\n")
     (bytes "10 f\n")
 unfolding matters-opened
-asked-matters = record {
-  others = record {
-    read-as = record { reads = refl };
-    read-as′ = record { reads = refl };
-    stands = refl;
-    stands′ = refl;
-    same-order = (
-      record { name = refl; parameters = refl; exports = refl; imports = refl; asked-same = tt; both-missing = tt; both-late = tt },
-      (
-        record { name = refl; parameters = refl; exports = refl; imports = refl; asked-same = tt; both-missing = (refl, tt); both-late = (refl, tt) },
-        tt,
-      ),
-    );
-    accepted = tt;
-    accepted′ = refl;
-  };
-  first-told = refl;
-  second-told = refl;
-  apart = refl;
-}
+asked-matters =
+    ((refl, refl, refl, refl, ((refl, refl, refl, refl, tt, tt, tt), ((refl, refl, refl, refl, tt, (refl, tt), (refl, tt)), tt)), tt, refl), refl, refl, refl)
 
 -- a name that is missing in the one and late in the other
 pub names-matter : Matters names-found
@@ -234,23 +167,8 @@ pub names-matter : Matters names-found
     (bytes "7 M1\n")
     (bytes "8 M1\n")
 unfolding matters-opened
-names-matter = record {
-  others = record {
-    read-as = record { reads = refl };
-    read-as′ = record { reads = refl };
-    stands = refl;
-    stands′ = refl;
-    same-order = (
-      record { name = refl; parameters = refl; exports = refl; imports = refl; asked-same = λ e. refl; both-missing = tt; both-late = tt },
-      tt,
-    );
-    accepted = refl;
-    accepted′ = refl;
-  };
-  first-told = refl;
-  second-told = refl;
-  apart = refl;
-}
+names-matter =
+    ((refl, refl, refl, refl, ((refl, refl, refl, refl, λ e. refl, tt, tt), tt), refl, refl), refl, refl, refl)
 
 -- the order of the modules: in the second text M1 stands after M2, and is not reached
 pub order-matters : Matters same-modules
@@ -259,20 +177,8 @@ pub order-matters : Matters same-modules
     (bytes "0 \nmodule=M2\n")
     (bytes "8 M1\n")
 unfolding matters-opened
-order-matters = record {
-  others = record {
-    read-as = record { reads = refl };
-    read-as′ = record { reads = refl };
-    stands = refl;
-    stands′ = refl;
-    same-order = tt;
-    accepted = tt;
-    accepted′ = refl;
-  };
-  first-told = refl;
-  second-told = refl;
-  apart = refl;
-}
+order-matters =
+    ((refl, refl, refl, refl, tt, tt, refl), refl, refl, refl)
 
 -- an imported module that is not accepted: its own hidden sort clashes with its exported one
 pub acceptance-matters : Matters others-accepted
@@ -281,23 +187,9 @@ pub acceptance-matters : Matters others-accepted
     (bytes "0 \nmodule=M2\nsort=A\norigin=[M1,export,sort,A]\n")
     (bytes "10 A\n")
 unfolding matters-opened
-acceptance-matters = record {
-  others = record {
-    read-as = record { reads = refl };
-    read-as′ = record { reads = refl };
-    stands = refl;
-    stands′ = refl;
-    same-order = (
-      record { name = refl; parameters = refl; exports = refl; imports = refl; asked-same = not-m1; both-missing = tt; both-late = tt },
-      (
-        record { name = refl; parameters = refl; exports = refl; imports = refl; asked-same = λ e. refl; both-missing = (refl, tt); both-late = (refl, tt) },
-        tt,
-      ),
-    );
-    accepted = tt;
-    accepted′ = tt;
-  };
-  first-told = refl;
-  second-told = refl;
-  apart = refl;
-}
+acceptance-matters = (
+  (refl, refl, refl, refl, ((refl, refl, refl, refl, not-m1, tt, tt), ((refl, refl, refl, refl, λ e. refl, (refl, tt), (refl, tt)), tt)), tt, tt),
+  refl,
+  refl,
+  refl,
+)

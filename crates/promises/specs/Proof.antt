@@ -1,37 +1,125 @@
--- The proof of demand 3: module by module in text order over visible parts, which are the same in both calls.
+-- The proof of demand 3. How a call ends, room apart: the reached modules in turn over visible parts alone. Without room nothing depends on who
+-- is asked, and 18 does not occur; so two calls end alike where each reached module is the same, or accepted in both.
 use mathlib.Core.Path.{_≡_, refl, sym, ap, subst, _∙_}
 use mathlib.Core.Logic.{_⊎_, inl, inr}
-use Prim.Native.Nat.{ℕ, _+_}
+use Prim.Native.Nat.{ℕ, suc, _+_}
 use native.Mathlib.Omega.{arith}
 use mathlib.Core.Bool.{Bool, true, false}
-use mathlib.Core.List.{List, [], _∷_}
+use mathlib.Core.List.{List, [], _∷_, map}
 use lib.ListN.{length}
 use Rattle.meaning.specs.Lists.{pick, each}
-use Rattle.meaning.specs.Names.{Name, same, member}
-use Rattle.meaning.specs.Numbers.{accepted, named-absent, named-late, lent-short}
+use Rattle.meaning.specs.Names.{Name, member, same}
+use Rattle.meaning.specs.Numbers.{asked-absent, no-room, accepted, named-absent, named-late, lent-short}
 use Rattle.meaning.specs.Syntax.{Module}
-use Rattle.meaning.specs.Normal.{Visible, nothing-visible}
+use Rattle.meaning.specs.Normal.{Visible, Normal, nothing-visible, empty}
+use Rattle.meaning.specs.Checks.{Culprit, lone, Outcome, fine, stop, Check}
+use Rattle.meaning.specs.Evaluate.{Evaluated, named-by, names-right, evaluate, import-names, missing, too-late, joined-visible}
+use Rattle.meaning.specs.Reached.{Placed, reached, Ended, normalised, refused-at, end-or, total-of, in-turn, module-names, short-or-blank, normalise}
+use Rattle.meaning.specs.Mirror.{Mirrors, fine-same}
+use Rattle.meaning.specs.Visibly.{Seen, seen-of, visible-half, evaluate-visibly, evaluate-mirrors, imported-visibly}
 use Rattle.meaning.specs.Written.{visible-in-order}
-use Rattle.meaning.specs.Checks.{Culprit, lone, Outcome, Check, fine, stop}
-use Rattle.meaning.specs.Evaluate.{import-names, named-by, missing, too-late, names-right}
 use Rattle.meaning.specs.Texts.{Texts}
-use Rattle.meaning.specs.Reached.{Placed, reached, Ended, module-names, normalise, normalised, refused-at}
 use Rattle.meaning.specs.Listing.{line, lines-text, visible-lines, shown}
 use Rattle.meaning.specs.Answer.{Answer, listing, refusal, of-ended, of-read, within, answer}
-use Rattle.meaning.specs.Mirror.{fine-same}
-use Rattle.meaning.specs.Visibly.{Seen, imported-visibly, evaluate-visibly}
-use Rattle.promises.specs.Members.{clear, same-eq, same-refl}
-use Rattle.promises.specs.Public.{public-part, with-own, accepted-shows}
+use Rattle.meaning.specs.OrderLaws.{Every, same-self, same-equal}
+use Rattle.promises.specs.Members.{clear}
+use Rattle.promises.specs.Public.{accepted-shows, shown-only}
 use Rattle.promises.specs.Lines.{listing-shown}
 use Rattle.promises.specs.VisiblePart.{visible-part}
 use Rattle.promises.specs.Tied.{ended-tied}
-use Rattle.promises.specs.Seeing.{EndedVisibly, refuses, end-visibly, seen-as, in-turn-visibly, normalise-visibly, Eighteen, as-seen, Reflects, normalise-reflects, stands-visibly, no-refusal}
-use Rattle.promises.specs.Demand.{ReadAs, SameButHidden, ForEach, Counterparts, InTurn, RefusedAtMost, InTheCall, Comparable, SameAnswer, ShortOfRoom, Agreeing, Demand3}
+use Rattle.promises.specs.TwoCalls.{in-turn-so}
+use Rattle.promises.specs.Demand.{ReadAs, SameButHidden, Counterparts, InTurn, RefusedAtMost, InTheCall, Comparable, SameAnswer, ShortOfRoom, Agreeing, Demand3}
+
+-- with the visible part of the last module, or with the refusal
+pub data EndedVisibly : Type 0 where
+  shows : (count : ℕ) → Visible → EndedVisibly
+  refuses : (number count : ℕ) (evaluating : Name) (culprit : Culprit) → EndedVisibly
+
+unfoldable pub end-visibly : ℕ → Name → (Visible → EndedVisibly) → Outcome Visible → EndedVisibly
+end-visibly count m more (fine v) = more v
+end-visibly count m more (stop k w) = refuses k count m w
+
+abbrev pub seen-as : Module → Visible → Seen
+seen-as m v = record { name = m .name; visible = v }
+
+-- `env` is what was seen of the modules before, the latest first; `last` is the latest's visible part
+unfoldable pub in-turn-visibly : List Name → List Seen → Visible → List Placed → EndedVisibly
+in-turn-visibly declared env last [] = shows (length env) last
+in-turn-visibly declared env last (x ∷ xs) =
+    end-visibly (length env + 1) (x .self .name) (λ v. in-turn-visibly declared (seen-as (x .self) v ∷ env) v xs)
+    (evaluate-visibly (names-right declared (x .earlier) (named-by (x .self))) env (x .self))
+
+unfoldable pub normalise-visibly : Name → List Module → EndedVisibly
+normalise-visibly asked ms =
+    let r = in-turn-visibly (module-names ms) [] nothing-visible (reached asked ms) in
+    pick (member asked (module-names ms)) r (refuses asked-absent 0 asked (lone (short-or-blank asked)))
+
+-- ---- a call ends so, or by 18
+
+abbrev pub Eighteen : Ended → Type 0
+Eighteen (normalised count n) = ⊥
+Eighteen (refused-at number count evaluating culprit) = number ≡ no-room
+
+unfoldable pub as-seen : Ended → EndedVisibly
+as-seen (normalised count n) = shows count (n .visible)
+as-seen (refused-at number count m w) = refuses number count m w
+
+abbrev pub Reflects : Ended → EndedVisibly → Type 0
+Reflects e t = Eighteen e ⊎ (t ≡ as-seen e)
+
+seen-length : (env : List Evaluated) → length (map seen-of env) ≡ length env
+seen-length [] = refl
+seen-length (e ∷ env) = ap suc (seen-length env)
+
+end-reflects : (o : Outcome Normal) (b : Outcome Visible) (c c′ : ℕ) (m : Name) (more : Normal → Ended) (more′ : Visible → EndedVisibly)
+    → c′ ≡ c → Mirrors visible-half o b → ((n : Normal) → Reflects (more n) (more′ (n .visible)))
+    → Reflects (end-or c m more o) (end-visibly c′ m more′ b)
+unfolding end-or end-visibly as-seen
+end-reflects (fine n) b c c′ m more more′ p h later = subst (λ r. Reflects (more n) (end-visibly c′ m more′ r)) (sym h) (later n)
+end-reflects (stop k w) b c c′ m more more′ p (inl h) later = inl h
+end-reflects (stop k w) b c c′ m more more′ p (inr h) later = inr (ap (end-visibly c′ m more′) h ∙ ap (λ (x : ℕ). refuses k x m w) p)
+
+in-turn-reflects : (d : List Name) (env : List Evaluated) (last : Normal) (xs : List Placed)
+    → Reflects (in-turn d env last xs) (in-turn-visibly d (map seen-of env) (last .visible) xs)
+unfolding in-turn in-turn-visibly as-seen
+in-turn-reflects d env last [] = inr (ap (λ (k : ℕ). shows k (last .visible)) (seen-length env))
+in-turn-reflects d env last (x ∷ xs) =
+    end-reflects (evaluate d (x .earlier) (x .number) (total-of env) env (x .self))
+    (evaluate-visibly (names-right d (x .earlier) (named-by (x .self))) (map seen-of env) (x .self))
+    _ _ _ _ _ (ap (λ k. k + 1) (seen-length env)) (evaluate-mirrors d (x .earlier) (x .number) (total-of env) env (x .self))
+    (λ n. in-turn-reflects d (record { name = x .self .name; normal = n } ∷ env) n xs)
+
+pub normalise-reflects : (asked : Name) (ms : List Module) → Reflects (normalise asked ms) (normalise-visibly asked ms)
+unfolding normalise normalise-visibly pick empty as-seen
+normalise-reflects asked ms = go (member asked (module-names ms))
+  where
+    absent : Culprit
+    absent = lone (short-or-blank asked)
+
+    go : (b : Bool)
+        → Reflects (pick b (in-turn (module-names ms) [] empty (reached asked ms)) (refused-at asked-absent 0 asked absent))
+        (pick b (in-turn-visibly (module-names ms) [] nothing-visible (reached asked ms)) (refuses asked-absent 0 asked absent))
+    go true = in-turn-reflects (module-names ms) [] empty (reached asked ms)
+    go false = inr refl
+
+-- ---- what a call shows
+
+-- the asked module shows v, room apart
+abbrev pub Showing : Name → List Module → Visible → Type 0
+Showing asked ms v = (c : ℕ) × (normalise-visibly asked ms ≡ shows c v)
+
+pub stands-visibly : (asked : Name) (ms : List Module) → member asked (module-names ms) ≡ true
+    → normalise-visibly asked ms ≡ in-turn-visibly (module-names ms) [] nothing-visible (reached asked ms)
+unfolding normalise-visibly pick
+stands-visibly asked ms e = rw e
+
+pub no-refusal : {X : Type 0} (c k c′ : ℕ) (v : Visible) (m : Name) (w : Culprit) → shows c v ≡ refuses k c′ m w → X
+no-refusal c k c′ v m w e = let z : _≡_ {A = ℕ} 0 1 = cc in absurd (omega arith)
 
 -- ---- step 1: the names have the same outcome in both
 
 names-same : (d e d′ e′ : List Name) (ws : List Name)
-    → ForEach (λ w. missing d w ≡ missing d′ w) ws → ForEach (λ w. too-late d e w ≡ too-late d′ e′ w) ws
+    → Every (λ w. missing d w ≡ missing d′ w) ws → Every (λ w. too-late d e w ≡ too-late d′ e′ w) ws
     → names-right d e ws ≡ names-right d′ e′ ws
 unfolding names-right
 names-same d e d′ e′ [] m l = refl
@@ -48,7 +136,16 @@ one-shown names names′ env m m′ alike v v′ q q′ =
     let b′ = accepted-shows names′ env m′ v′ q′ in
     let p : b .imported ≡ b′ .imported =
     fine-same _ _ (sym (b .from-imports) ∙ (λ i. imported-visibly env (alike .imports i)) ∙ b′ .from-imports) in
-    b .whole ∙ (λ i. visible-in-order (with-own (p i) (public-part (alike .name i) (alike .exports i) (alike .parameters i)))) ∙ sym (b′ .whole)
+    let shown : shown-only m ≡ shown-only m′ = λ i. record {
+      name = alike .name i;
+      parameters = alike .parameters i;
+      exports = alike .exports i;
+      imports = alike .imports i;
+      hidden = record { sorts = []; functions = [] };
+      groups = [];
+      equations = [];
+    } in
+    b .whole ∙ (λ i. visible-in-order (joined-visible (shown i) (p i))) ∙ sym (b′ .whole)
 
 pub same-named : (m m′ : Module) → m .imports ≡ m′ .imports → named-by m ≡ named-by m′
 unfolding named-by
@@ -124,13 +221,6 @@ both-alike asked ms ms′ e e′ c s =
 
 -- ---- where the other modules are accepted
 
--- in turn, from each
-pub in-turn-so : (R S : Placed → Placed → Type 0) → ((x x′ : Placed) → R x x′ → S x x′) → (xs xs′ : List Placed) → InTurn R xs xs′ → InTurn S xs xs′
-in-turn-so R S h [] [] k = tt
-in-turn-so R S h [] (x′ ∷ xs′) k = absurd k
-in-turn-so R S h (x ∷ xs) [] k = absurd k
-in-turn-so R S h (x ∷ xs) (x′ ∷ xs′) k = (h x x′ (k .0), in-turn-so R S h xs xs′ (k .1))
-
 -- unless either is 18: both show the same, or are refused alike, after as many modules
 abbrev pub Close : Ended → Ended → Type 0
 Close e e′ = Eighteen e ⊎ (Eighteen e′ ⊎ (as-seen e ≡ as-seen e′))
@@ -155,7 +245,7 @@ not-at y (refused-at i l m v) t a h k j w q = a (told-at (sym h ∙ q))
 
 at-most : (asked y : Name) (e : Ended) → RefusedAtMost asked e → same y asked ≡ false → NotRefusedAt y e
 at-most asked y (normalised c n) a f = tt
-at-most asked y (refused-at i l m v) a f = λ p. clear (sym (sym f ∙ ap (λ (x : Name). same x asked) (sym p ∙ a) ∙ same-refl asked))
+at-most asked y (refused-at i l m v) a f = λ p. clear (sym (sym f ∙ ap (λ (x : Name). same x asked) (sym p ∙ a) ∙ same-self asked))
 
 pub normalise-close : (asked : Name) (texts texts′ : Texts) (ms ms′ : List Module) → Comparable InTheCall asked texts texts′ ms ms′
     → Close (normalise asked ms) (normalise asked ms′)
@@ -169,7 +259,7 @@ normalise-close asked texts texts′ ms ms′ c =
     passed h h′ x x′ k = go (same (x .self .name) asked) refl
       where
         go : (b : Bool) → same (x .self .name) asked ≡ b → Passed (normalise-visibly asked ms) (normalise-visibly asked ms′) x x′
-        go true q = inl (k .asked-same (same-eq (x .self .name) asked q))
+        go true q = inl (k .asked-same (same-equal (x .self .name) asked q))
         go false q = inr (
           not-at (x .self .name) (normalise asked ms) _ (at-most asked (x .self .name) (normalise asked ms) (c .accepted) q) h,
           not-at (x′ .self .name) (normalise asked ms′) _ (at-most asked (x′ .self .name) (normalise asked ms′) (c .accepted′)

@@ -5,11 +5,11 @@ use mathlib.Core.Bool.{Bool, true, false, not}
 use mathlib.Core.Option.{Option, none, some}
 use mathlib.Core.List.{List, [], _∷_, _++_, map}
 use native.Mathlib.Omega.{arith}
-use Rattle.meaning.specs.Lists.{pick, any, or-else, first-some, each, union}
+use Rattle.meaning.specs.Lists.{pick, or-else, first-some, each, union}
 use Rattle.meaning.specs.Names.{Name, member}
 use Rattle.meaning.specs.Numbers.{bad-sort}
 use Rattle.meaning.specs.Syntax.{Function, Signature, Parameter, Module}
-use Rattle.meaning.specs.Origins.{Section, Declared, Origin, Sort, Item, export-section, parameter-section, declared-sort, declared-function, visible-sort, sort-shape, function-shape, one-item}
+use Rattle.meaning.specs.Origins.{Section, Item, export-section, parameter-section, function-shape, one-item}
 use Rattle.meaning.specs.Normal.{Visible}
 use Rattle.meaning.specs.Written.{visible-in-order}
 use Rattle.meaning.specs.Checks.{Check, fine}
@@ -17,148 +17,114 @@ use Rattle.meaning.specs.Own.{resolved, function-type, own-sort, own-function, 
 use Rattle.meaning.specs.Evaluate.{seen-sorts, joined-visible, own-checks}
 use Rattle.meaning.specs.Mirror.{fine-same, then-fine, bind-fine, unless-fine}
 use Rattle.meaning.specs.Visibly.{Seen, imported-visibly, joined-visibly, evaluate-visibly}
+use Rattle.meaning.specs.OrderLaws.{Every, any-none}
+use Rattle.promises.specs.ListingLaws.{every-so}
 
--- ---- a module's own visible items, with every sort visible
-
-abbrev origin-in : Name → Section → Declared → Origin
-origin-in home s d = record { home = home; section = s; declared = d }
-
-abbrev public-sort : Name → Section → Name → Item
-public-sort home s a = record { standing = s; name = a; shape = sort-shape; origin = origin-in home s (declared-sort a) }
-
-abbrev public-function : Name → Section → Function → Item
-public-function home s f = record {
-  standing = s;
-  name = f .name;
-  shape = function-shape (record { inputs = map visible-sort (f .inputs); output = visible-sort (f .output) });
-  origin = origin-in home s (declared-function (f .name) (f .inputs) (f .output));
+-- a module without what it hides
+abbrev pub shown-only : Module → Module
+shown-only m = record {
+  name = m .name;
+  parameters = m .parameters;
+  exports = m .exports;
+  imports = m .imports;
+  hidden = record { sorts = []; functions = [] };
+  groups = [];
+  equations = [];
 }
 
-abbrev public-section : Name → Section → Signature → List Item
-public-section home s g = map (public-sort home s) (g .sorts) ++ map (public-function home s) (g .functions)
+-- ---- lists
 
-abbrev pub public-part : Name → Signature → List Parameter → Visible
-public-part home exports parameters = record {
-  parameters = map (λ (p : Parameter). record { name = p .name; home = home }) parameters;
-  items =
-      each (λ (p : Parameter). public-section home (parameter-section (p .name)) (p .signature)) parameters
-      ++ public-section home export-section exports;
-}
+pub map-agree : {A B : Type 0} (g h : A → B) (xs : List A) → Every (λ x. g x ≡ h x) xs → map g xs ≡ map h xs
+map-agree g h [] e = refl
+map-agree g h (x ∷ xs) e = ap₂ _∷_ (e .0) (map-agree g h xs (e .1))
 
--- what is imported, with M's own joined
-abbrev pub with-own : Visible → Visible → Visible
-with-own v own = record { parameters = v .parameters ++ own .parameters; items = union one-item (v .items) (own .items) }
-
--- ---- tests that fail, answers that there are not
-
-pick-none : {A : Type 0} (b : Bool) (a : A) → pick b (some a) none ≡ none → b ≡ false
-unfolding pick
-pick-none true a e = let z : _≡_ {A = ℕ} 0 1 = cc in absurd (omega arith)
-pick-none false a e = refl
-
-pick-false : (b r : Bool) → pick b true r ≡ false → (b ≡ false) × (r ≡ false)
-unfolding pick
-pick-false true r e = let z : _≡_ {A = ℕ} 0 1 = cc in absurd (omega arith)
-pick-false false r e = (refl, e)
-
-pub or-none : {A : Type 0} (a b : Option A) → or-else a b ≡ none → (a ≡ none) × (b ≡ none)
-unfolding or-else
-or-none none b e = (refl, e)
-or-none (some x) b e = let z : _≡_ {A = ℕ} 0 1 = cc in absurd (omega arith)
-
-not-not : (b : Bool) → not b ≡ false → b ≡ true
-not-not true e = refl
-not-not false e = sym e
-
-none-before : {A B : Type 0} (f : A → Option B) (xs ys : List A) → first-some f (xs ++ ys) ≡ none → first-some f xs ≡ none
+none-each : {A B : Type 0} (f : A → Option B) (xs : List A) → first-some f xs ≡ none → Every (λ x. f x ≡ none) xs
 unfolding first-some or-else
-none-before f [] ys e = refl
-none-before f (x ∷ xs) ys e =
-    let h = or-none (f x) (first-some f (xs ++ ys)) e in
-    rw (h .0, none-before f xs ys (h .1))
+none-each f [] e = tt
+none-each {A} {B} f (x ∷ xs) e = go (f x) refl e (none-each f xs)
+  where
+    go : (o : Option B) → f x ≡ o → or-else o (first-some f xs) ≡ none → (first-some f xs ≡ none → Every (λ x. f x ≡ none) xs)
+        → Every (λ x. f x ≡ none) (x ∷ xs)
+    go none q e later = (q, later e)
+    go (some b) q e later = let z : _≡_ {A = ℕ} 0 1 = cc in absurd (omega arith)
 
-none-after : {A B : Type 0} (f : A → Option B) (xs ys : List A) → first-some f (xs ++ ys) ≡ none → first-some f ys ≡ none
-unfolding first-some
-none-after f [] ys e = e
-none-after f (x ∷ xs) ys e = none-after f xs ys (or-none (f x) (first-some f (xs ++ ys)) e .1)
+every-split : {A : Type 0} (P : A → Type 0) (xs ys : List A) → Every P (xs ++ ys) → Every P xs × Every P ys
+every-split P [] ys h = (tt, h)
+every-split P (x ∷ xs) ys h = let r = every-split P xs ys (h .1) in ((h .0, r .0), r .1)
 
--- ---- where no sort is lacking, every sort is visible
+not-lacking : (b : Bool) (a : Name) → pick b (some a) none ≡ none → b ≡ false
+unfolding pick
+not-lacking true a e = let z : _≡_ {A = ℕ} 0 1 = cc in absurd (omega arith)
+not-lacking false a e = refl
+
+-- ---- where no sort is lacking, none of the types that are shown has a hidden sort of the module's own
 
 module _ (m : Module) (seen : List Name) where
-  resolved-seen : (s : Name) → not (member s seen) ≡ false → resolved m seen s ≡ visible-sort s
+  resolved-shown : (s : Name) → not (member s seen) ≡ false → resolved m seen s ≡ resolved (shown-only m) seen s
   unfolding resolved pick
-  resolved-seen s e = rw (not-not (member s seen) e)
+  resolved-shown s e = rw (not-not (member s seen) e)
+    where
+      not-not : (b : Bool) → not b ≡ false → b ≡ true
+      not-not true e = refl
+      not-not false e = sym e
 
-  all-resolved : (ss : List Name) → any (λ (s : Name). not (member s seen)) ss ≡ false → map (resolved m seen) ss ≡ map visible-sort ss
-  unfolding any
-  all-resolved [] e = refl
-  all-resolved (s ∷ ss) e =
-      let h = pick-false _ _ e in
-      ap₂ (λ (a : Sort) (as′ : List Sort). a ∷ as′) (resolved-seen s (h .0)) (all-resolved ss (h .1))
-
-  function-public : (sec : Section) (f : Function) → lacking seen f ≡ none → own-function m seen sec f ≡ public-function (m .name) sec f
-  unfolding own-function function-type lacking any
-  function-public sec f e =
-      let h = pick-false _ _ (pick-none _ (f .name) e) in
+  function-shown : (sec : Section) (f : Function) → lacking seen f ≡ none → own-function m seen sec f ≡ own-function (shown-only m) seen sec f
+  unfolding own-function function-type lacking
+  function-shown sec f e =
+      let sorts = every-so _ _ (f .output ∷ f .inputs) resolved-shown (any-none _ (f .output ∷ f .inputs) (not-lacking _ (f .name) e)) in
       λ i. record {
         standing = sec;
         name = f .name;
-        shape = function-shape (record { inputs = all-resolved (f .inputs) (h .1) i; output = resolved-seen (f .output) (h .0) i });
-        origin = origin-in (m .name) sec (declared-function (f .name) (f .inputs) (f .output));
+        shape = function-shape (record { inputs = map-agree (resolved m seen) (resolved (shown-only m) seen) (f .inputs) (sorts .1) i; output = sorts .0 i });
+        origin = own-function m seen sec f .origin;
       }
 
-  functions-public : (sec : Section) (fs : List Function) → first-some (lacking seen) fs ≡ none
-      → map (own-function m seen sec) fs ≡ map (public-function (m .name) sec) fs
-  unfolding first-some
-  functions-public sec [] e = refl
-  functions-public sec (f ∷ fs) e =
-      let h = or-none (lacking seen f) (first-some (lacking seen) fs) e in
-      ap₂ (λ (a : Item) (as′ : List Item). a ∷ as′) (function-public sec f (h .0)) (functions-public sec fs (h .1))
-
-  section-public : (sec : Section) (g : Signature) → first-some (lacking seen) (g .functions) ≡ none
-      → own-section m seen sec g ≡ public-section (m .name) sec g
+  section-shown : (sec : Section) (g : Signature) → Every (λ f. lacking seen f ≡ none) (g .functions)
+      → own-section m seen sec g ≡ own-section (shown-only m) seen sec g
   unfolding own-section own-sort
-  section-public sec g e = rw (functions-public sec (g .functions) e)
+  section-shown sec g h =
+      ap (λ (is : List Item). map (own-sort m seen sec) (g .sorts) ++ is)
+      (map-agree (own-function m seen sec) (own-function (shown-only m) seen sec) (g .functions) (every-so _ _ (g .functions) (function-shown sec) h))
 
-  parameters-public : (ps : List Parameter) → first-some (lacking seen) (parameter-functions ps) ≡ none
+  parameters-shown : (ps : List Parameter) → Every (λ f. lacking seen f ≡ none) (parameter-functions ps)
       → each (λ (p : Parameter). own-section m seen (parameter-section (p .name)) (p .signature)) ps
-      ≡ each (λ (p : Parameter). public-section (m .name) (parameter-section (p .name)) (p .signature)) ps
+      ≡ each (λ (p : Parameter). own-section (shown-only m) seen (parameter-section (p .name)) (p .signature)) ps
   unfolding parameter-functions each
-  parameters-public [] e = refl
-  parameters-public (p ∷ ps) e =
-      ap₂ (λ (xs ys : List Item). xs ++ ys)
-      (section-public (parameter-section (p .name)) (p .signature) (none-before (lacking seen) (p .signature .functions) (parameter-functions ps) e))
-      (parameters-public ps (none-after (lacking seen) (p .signature .functions) (parameter-functions ps) e))
+  parameters-shown [] h = refl
+  parameters-shown (p ∷ ps) h =
+      let r = every-split _ (p .signature .functions) (parameter-functions ps) h in
+      ap₂ (λ (xs ys : List Item). xs ++ ys) (section-shown (parameter-section (p .name)) (p .signature) (r .0)) (parameters-shown ps (r .1))
 
-  own-public : available-sorts m seen ≡ fine tt → own-visible m seen ≡ public-part (m .name) (m .exports) (m .parameters)
+  pub own-shown : available-sorts m seen ≡ fine tt → own-visible m seen ≡ own-visible (shown-only m) seen
   unfolding available-sorts own-visible own-slot
-  own-public e =
+  own-shown e =
       let h = then-fine _ _ tt e in
       let k = then-fine _ _ tt (h .1) in
       λ i. record {
-        parameters = map (λ (p : Parameter). record { name = p .name; home = m .name }) (m .parameters);
+        parameters = own-visible m seen .parameters;
         items =
-            parameters-public (m .parameters) (unless-fine bad-sort _ (h .0)) i
-            ++ section-public export-section (m .exports) (unless-fine bad-sort _ (k .0)) i;
+            parameters-shown (m .parameters) (none-each _ _ (unless-fine bad-sort _ (h .0))) i
+            ++ section-shown export-section (m .exports) (none-each _ _ (unless-fine bad-sort _ (k .0))) i;
       }
 
 -- ---- an accepted module
 
--- u is what the module shows: what its imports show, and its own public part
+-- u is what the module shows: what its imports show, and what is its own without what it hides
 pub record Shows (env : List Seen) (m : Module) (u : Visible) : Type 0 where
   pub imported : Visible
   pub from-imports : imported-visibly env (m .imports) ≡ fine imported
-  pub whole : u ≡ visible-in-order (with-own imported (public-part (m .name) (m .exports) (m .parameters)))
+  pub whole : u ≡ visible-in-order (joined-visible (shown-only m) imported)
 
-joined-public : (m : Module) (v u : Visible) → joined-visibly m v ≡ fine u
-    → u ≡ visible-in-order (with-own v (public-part (m .name) (m .exports) (m .parameters)))
-unfolding joined-visibly own-checks joined-visible
-joined-public m v u e =
+joined-shown : (m : Module) (v u : Visible) → joined-visibly m v ≡ fine u → u ≡ visible-in-order (joined-visible (shown-only m) v)
+unfolding joined-visibly own-checks joined-visible seen-sorts
+joined-shown m v u e =
     let h = then-fine _ _ u e in
     let k = then-fine _ _ tt (h .0) in
     let a = then-fine _ _ tt (k .1) in
     let r = then-fine _ _ u (h .1) in
-    sym (fine-same _ u (r .1)) ∙ ap (λ (o : Visible). visible-in-order (with-own v o)) (own-public m (seen-sorts m v) (a .0))
+    let own = own-shown m (seen-sorts m v) (a .0) in
+    sym (fine-same _ u (r .1))
+    ∙ (λ i. visible-in-order (record { parameters = v .parameters ++ own i .parameters; items = union one-item (v .items) (own i .items) }))
 
 pub accepted-shows : (names : Check) (env : List Seen) (m : Module) (u : Visible) → evaluate-visibly names env m ≡ fine u → Shows env m u
 unfolding evaluate-visibly
@@ -166,4 +132,4 @@ accepted-shows names env m u e =
     let a = then-fine _ _ u e in
     let b = then-fine _ _ u (a .1) in
     let g = bind-fine _ _ u (b .1) in
-    record { imported = g .0; from-imports = g .1; whole = joined-public m (g .0) u (g .2) }
+    record { imported = g .0; from-imports = g .1; whole = joined-shown m (g .0) u (g .2) }

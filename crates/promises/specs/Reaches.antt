@@ -1,20 +1,21 @@
 -- The modules reached in the one text, standing alike and in the same order in the other, are all that the other reaches: the proof of Enough.antt.
 use mathlib.Core.Path.{_≡_, refl, sym, ap, ap₂, subst, _∙_}
-use mathlib.Core.Logic.{inl, inr}
+use mathlib.Core.Logic.{inl, inr, ⊎-elim}
 use Prim.Native.Nat.{ℕ, _+_}
 use mathlib.Core.Bool.{Bool, true, false, not, _&&_}
 use mathlib.Core.List.{List, [], _∷_, _++_, map, append-assoc}
-use Rattle.meaning.specs.Lists.{pick, each}
+use Rattle.meaning.specs.Lists.{each}
 use Rattle.meaning.specs.Names.{Name, same, member}
 use Rattle.meaning.specs.Syntax.{Module}
 use Rattle.meaning.specs.Evaluate.{named-by, missing, too-late}
 use Rattle.meaning.specs.Reached.{wanted, Placed, reached-among, reached, module-names}
+use Rattle.meaning.specs.Laws.{by-cases}
 use Rattle.meaning.specs.Distinct.{Fresh, read-fresh}
-use Rattle.promises.specs.Members.{clear, same-eq, found-later, member-here, member-left, member-right, member-more, member-first, member-second, Inside, inside-cons}
-use Rattle.promises.specs.Wanting.{here, wanted-here, wanted-later, wanted-asked, reached-here, reached-later, Closed, closed-more, closed-skip}
-use Rattle.promises.specs.Demand.{ForEach, InTurn, Counterparts, Acceptance}
+use Rattle.meaning.specs.OrderLaws.{Every}
+use Rattle.promises.specs.Members.{clear, member-here, member-left, member-right, member-more, Inside, inside-cons, refuted, member-either, member-split, no-name, here, wanted-here, wanted-asked, reached-here, reached-later, Closed, closed-more, closed-skip}
+use Rattle.promises.specs.Demand.{InTurn, Counterparts, Acceptance, placed-among, all-placed, InOrderIn, IsEnough}
 use Rattle.promises.specs.Proof.{same-named}
-use Rattle.promises.specs.Enough.{placed-among, all-placed, InOrderIn, IsEnough}
+use Rattle.promises.specs.TwoCalls.{pick-both}
 
 -- ---- what a list of reached modules wants
 
@@ -36,70 +37,45 @@ module _ (a : Name) where
   wanted-wants : (k : ℕ) (e : List Name) (ms : List Module) → wanted a ms ≡ wants-of a (reached-among a k e ms)
   unfolding wanted reached-among each
   wanted-wants k e [] = refl
-  wanted-wants k e (m ∷ ms) = go (member (m .name) (wanted a ms)) refl (wanted-wants (k + 1) (m .name ∷ e) ms)
-    where
-      go : (b : Bool) → member (m .name) (wanted a ms) ≡ b → wanted a ms ≡ wants-of a (reached-among a (k + 1) (m .name ∷ e) ms)
-          → wanted a (m ∷ ms) ≡ wants-of a (reached-among a k e (m ∷ ms))
-      go true b h =
-          wanted-here a m ms b ∙ ap (λ (r : List Name). named-by m ++ r) h
-          ∙ sym (append-assoc (named-by m) (used-by (reached-among a (k + 1) (m .name ∷ e) ms)) (a ∷ []))
-          ∙ ap (wants-of a) (sym (reached-here a m ms k e b))
-      go false b h = wanted-later a m ms b ∙ h ∙ ap (wants-of a) (sym (reached-later a m ms k e b))
+  wanted-wants k e (m ∷ ms) =
+      let h = wanted-wants (k + 1) (m .name ∷ e) ms in
+      pick-both (λ (ws : List Name) (xs : List Placed). ws ≡ wants-of a xs) (member (m .name) (wanted a ms)) _ _ _ _
+      (ap (λ (r : List Name). named-by m ++ r) h ∙ sym (append-assoc (named-by m) (used-by (reached-among a (k + 1) (m .name ∷ e) ms)) (a ∷ []))) h
 
   chained : (k : ℕ) (e : List Name) (ms : List Module) → Chained a (reached-among a k e ms)
   unfolding reached-among
   chained k e [] = tt
-  chained k e (m ∷ ms) = go (member (m .name) (wanted a ms)) refl (chained (k + 1) (m .name ∷ e) ms)
-    where
-      go : (b : Bool) → member (m .name) (wanted a ms) ≡ b → Chained a (reached-among a (k + 1) (m .name ∷ e) ms)
-          → Chained a (reached-among a k e (m ∷ ms))
-      go true b h =
-          subst (Chained a) (sym (reached-here a m ms k e b))
-          (sym (ap (member (m .name)) (wanted-wants (k + 1) (m .name ∷ e) ms)) ∙ b, h)
-      go false b h = subst (Chained a) (sym (reached-later a m ms k e b)) h
+  chained k e (m ∷ ms) =
+      let h = chained (k + 1) (m .name ∷ e) ms in
+      by-cases (Chained a) (member (m .name) (wanted a ms)) _ _
+      (λ b. (sym (ap (member (m .name)) (wanted-wants (k + 1) (m .name ∷ e) ms)) ∙ b, h)) (λ b. h)
 
   asked-reached : (k : ℕ) (e : List Name) (ms : List Module) → member a (module-names ms) ≡ true
       → member a (names-of (reached-among a k e ms)) ≡ true
-  unfolding module-names member pick
-  asked-reached k e [] h = clear (sym h)
+  unfolding module-names reached-among
+  asked-reached k e [] h = h
   asked-reached k e (m ∷ ms) h =
-      go (member (m .name) (wanted a ms)) (same a (m .name)) refl refl h (asked-reached (k + 1) (m .name ∷ e) ms)
-    where
-      go : (b c : Bool) → member (m .name) (wanted a ms) ≡ b → same a (m .name) ≡ c → pick c true (member a (module-names ms)) ≡ true
-          → (member a (module-names ms) ≡ true → member a (names-of (reached-among a (k + 1) (m .name ∷ e) ms)) ≡ true)
-          → member a (names-of (reached-among a k e (m ∷ ms))) ≡ true
-      go true true b c g later = ap (λ (r : List Placed). member a (names-of r)) (reached-here a m ms k e b) ∙ rw c
-      go true false b c g later = ap (λ (r : List Placed). member a (names-of r)) (reached-here a m ms k e b) ∙ rw c (later g)
-      go false true b c g later = clear (sym (wanted-asked a ms) ∙ ap (λ (w : Name). member w (wanted a ms)) (same-eq a (m .name) c) ∙ b)
-      go false false b c g later = ap (λ (r : List Placed). member a (names-of r)) (reached-later a m ms k e b) ∙ later g
+      let later = asked-reached (k + 1) (m .name ∷ e) ms in
+      by-cases (λ (xs : List Placed). member a (names-of xs) ≡ true) (member (m .name) (wanted a ms)) _ _
+      (λ b. member-more a (m .name ∷ []) _ _ later h)
+      (λ b. ⊎-elim (λ p. clear (sym (wanted-asked a ms) ∙ ap (λ (w : Name). member w (wanted a ms)) p ∙ b)) later (member-either a (m .name) _ h))
 
   -- what a reached module names, and is declared before it, is reached: `all` are the names of all that are reached
   abbrev Reaches : List Name → Placed → Type 0
   Reaches all x = (w : Name) → member w (named-by (x .self)) ≡ true → member w (x .earlier) ≡ true → member w all ≡ true
 
   reaches : (all known : List Name) (k : ℕ) (e : List Name) (ms : List Module) → Closed a ms e known → Inside known all
-      → Inside (names-of (reached-among a k e ms)) all → ForEach (Reaches all) (reached-among a k e ms)
+      → Inside (names-of (reached-among a k e ms)) all → Every (Reaches all) (reached-among a k e ms)
   unfolding reached-among
-  reaches all known k e [] c i j = tt
-  reaches all known k e (m ∷ ms) c i j =
-      go (member (m .name) (wanted a ms)) refl (λ known′ c′ i′ j′. reaches all known′ (k + 1) (m .name ∷ e) ms c′ i′ j′)
-    where
-      go : (b : Bool) → member (m .name) (wanted a ms) ≡ b
-          → ((known′ : List Name) → Closed a ms (m .name ∷ e) known′ → Inside known′ all
-          → Inside (names-of (reached-among a (k + 1) (m .name ∷ e) ms)) all
-          → ForEach (Reaches all) (reached-among a (k + 1) (m .name ∷ e) ms))
-          → ForEach (Reaches all) (reached-among a k e (m ∷ ms))
-      go true b later =
-          let j′ : Inside (m .name ∷ names-of (reached-among a (k + 1) (m .name ∷ e) ms)) all =
-          subst (λ (r : List Placed). Inside (names-of r) all) (reached-here a m ms k e b) j in
-          subst (ForEach (Reaches all)) (sym (reached-here a m ms k e b)) (
-            (λ w h q. i w (c w (ap (member w) (wanted-here a m ms b) ∙ member-left w (named-by m) _ h) q)),
-            later (m .name ∷ known) (closed-more a m ms e known c) (inside-cons (m .name) known all (j′ (m .name) (member-here (m .name) _)) i)
-                (λ w h. j′ w (member-right w (m .name ∷ []) _ h)),
-          )
-      go false b later =
-          subst (ForEach (Reaches all)) (sym (reached-later a m ms k e b))
-          (later known (closed-skip a m ms e known b c) i (subst (λ (r : List Placed). Inside (names-of r) all) (reached-later a m ms k e b) j))
+  reaches all known k e [] c i = λ j. tt
+  reaches all known k e (m ∷ ms) c i =
+      by-cases (λ (xs : List Placed). Inside (names-of xs) all → Every (Reaches all) xs) (member (m .name) (wanted a ms)) _ _
+      (λ b j. (
+        (λ w h q. i w (c w (ap (member w) (wanted-here a m ms b) ∙ member-left w (named-by m) _ h) q)),
+        reaches all (m .name ∷ known) (k + 1) (m .name ∷ e) ms (closed-more a m ms e known c)
+            (inside-cons (m .name) known all (j (m .name) (member-here (m .name) _)) i) (λ w h. j w (member-right w (m .name ∷ []) _ h)),
+      ))
+      (λ b j. reaches all known (k + 1) (m .name ∷ e) ms (closed-skip a m ms e known b c) i j)
 
 -- ---- a correspondence of reached modules with modules of the other specification
 
@@ -120,18 +96,13 @@ module _ (asked : Name) (ms ms′ : List Module) where
   -- every counterpart's name stands there
   names-stand : (xs : List Placed) (k : ℕ) (e : List Name) (rest : List Module) → InOrderIn Alike xs (placed-among k e rest)
       → Inside (names-of xs) (module-names rest)
-  unfolding placed-among module-names member pick
-  names-stand [] k e rest h w q = clear (sym q)
+  unfolding placed-among module-names
+  names-stand [] k e rest h w q = no-name w q
   names-stand (x ∷ xs) k e [] h w q = absurd h
-  names-stand (x ∷ xs) k e (m ∷ rest) (inl h) w q = go (same w (x .self .name)) refl q (names-stand xs (k + 1) (m .name ∷ e) rest (h .1) w)
-    where
-      go : (b : Bool) → same w (x .self .name) ≡ b → pick b true (member w (names-of xs)) ≡ true
-          → (member w (names-of xs) ≡ true → member w (module-names rest) ≡ true)
-          → pick (same w (m .name)) true (member w (module-names rest)) ≡ true
-      go true b g later = rw (sym (ap (same w) (h .0 .alike .name)) ∙ b)
-      go false b g later = found-later (same w (m .name)) _ (later g)
-  names-stand (x ∷ xs) k e (m ∷ rest) (inr h) w q =
-      found-later (same w (m .name)) _ (names-stand (x ∷ xs) (k + 1) (m .name ∷ e) rest h w q)
+  names-stand (x ∷ xs) k e (m ∷ rest) (inl h) w q =
+      ⊎-elim (λ p. ap (λ (v : Name). member v (m .name ∷ module-names rest)) (p ∙ h .0 .alike .name) ∙ member-here (m .name) _)
+      (λ g. member-right w (m .name ∷ []) _ (names-stand xs (k + 1) (m .name ∷ e) rest (h .1) w g)) (member-either w (x .self .name) _ q)
+  names-stand (x ∷ xs) k e (m ∷ rest) (inr h) w q = member-right w (m .name ∷ []) _ (names-stand (x ∷ xs) (k + 1) (m .name ∷ e) rest h w q)
 
   -- in the one as in the other, a name is missing, late, or earlier
   earlier-too : (w : Name) (d d′ e e′ : List Name) → missing d w ≡ missing d′ w → too-late d e w ≡ too-late d′ e′ w
@@ -146,81 +117,59 @@ module _ (asked : Name) (ms ms′ : List Module) where
           clear (sym (ap₂ (λ (x y : Bool). x && not y) b c) ∙ q ∙ ap₂ (λ (x y : Bool). x && not y) h h′)
       go false false b c = clear (sym (ap not b) ∙ p ∙ ap not h)
 
-  each-holds : (P : Name → Type 0) (ws : List Name) → ForEach P ws → (w : Name) → member w ws ≡ true → P w
-  unfolding member pick
-  each-holds P [] f w q = clear (sym q)
-  each-holds P (v ∷ ws) f w q = go (same w v) refl q (each-holds P ws (f .1) w)
-    where
-      go : (b : Bool) → same w v ≡ b → pick b true (member w ws) ≡ true → (member w ws ≡ true → P w) → P w
-      go true b g later = subst P (sym (same-eq w v b)) (f .0)
-      go false b g later = later g
+  each-holds : (P : Name → Type 0) (ws : List Name) → Every P ws → (w : Name) → member w ws ≡ true → P w
+  each-holds P [] f w q = no-name w q
+  each-holds P (v ∷ ws) f w q = ⊎-elim (λ p. subst P (sym p) (f .0)) (each-holds P ws (f .1) w) (member-either w v ws q)
 
   -- a name that the counterparts use, and that is earlier there, is one of those reached
   used-reached : (all : List Name) (w : Name) → member w (module-names ms′) ≡ true
-      → (xs : List Placed) (k : ℕ) (e : List Name) (rest : List Module) → ForEach (Reaches asked all) xs
+      → (xs : List Placed) (k : ℕ) (e : List Name) (rest : List Module) → Every (Reaches asked all) xs
       → InOrderIn Alike xs (placed-among k e rest) → member w e ≡ true → member w (used-by xs) ≡ true → member w all ≡ true
-  unfolding placed-among member each
-  used-reached all w d [] k e rest f h q u = clear (sym u)
+  unfolding placed-among each
+  used-reached all w d [] k e rest f h q u = no-name w u
   used-reached all w d (x ∷ xs) k e [] f h q u = absurd h
   used-reached all w d (x ∷ xs) k e (m ∷ rest) f (inl h) q u =
-      go (member w (named-by (x .self))) refl
-      (λ u′. used-reached all w d xs (k + 1) (m .name ∷ e) rest (f .1) (h .1) (found-later (same w (m .name)) _ q) u′)
-    where
-      go : (b : Bool) → member w (named-by (x .self)) ≡ b → (member w (used-by xs) ≡ true → member w all ≡ true) → member w all ≡ true
-      go true b later =
-          f .0 w b (earlier-too w _ _ _ _ (each-holds _ (named-by (x .self)) (h .0 .both-missing) w b)
-          (each-holds _ (named-by (x .self)) (h .0 .both-late) w b) d q)
-      go false b later = later (member-second w (named-by (x .self)) (used-by xs) b u)
+      ⊎-elim
+      (λ b. f .0 w b (earlier-too w _ _ _ _ (each-holds _ (named-by (x .self)) (h .0 .both-missing) w b)
+      (each-holds _ (named-by (x .self)) (h .0 .both-late) w b) d q))
+      (used-reached all w d xs (k + 1) (m .name ∷ e) rest (f .1) (h .1) (member-right w (m .name ∷ []) e q))
+      (member-split w (named-by (x .self)) (used-by xs) u)
   used-reached all w d (x ∷ xs) k e (m ∷ rest) f (inr h) q u =
-      used-reached all w d (x ∷ xs) (k + 1) (m .name ∷ e) rest f h (found-later (same w (m .name)) _ q) u
+      used-reached all w d (x ∷ xs) (k + 1) (m .name ∷ e) rest f h (member-right w (m .name ∷ []) e q) u
 
   -- modules that follow have none of the names taken
   not-later : (v : Name) (e : List Name) (rest : List Module) → Fresh e rest → member v e ≡ true → member v (module-names rest) ≡ false
-  unfolding module-names member pick
-  not-later v e [] f h = refl
+  unfolding module-names
+  not-later v e [] f h = refuted _ (λ q. no-name v q)
   not-later v e (m ∷ rest) f h =
-      go (same v (m .name)) refl (not-later v (m .name ∷ e) rest (f .1) (found-later (same v (m .name)) _ h))
-    where
-      go : (b : Bool) → same v (m .name) ≡ b → member v (module-names rest) ≡ false → pick b true (member v (module-names rest)) ≡ false
-      go true b later = clear (sym (sym (f .0) ∙ ap (λ (w : Name). member w e) (sym (same-eq v (m .name) b)) ∙ h))
-      go false b later = later
+      refuted _ (λ q.
+      ⊎-elim (λ p. sym h ∙ ap (λ (w : Name). member w e) p ∙ f .0)
+      (λ g. sym g ∙ not-later v (m .name ∷ e) rest (f .1) (member-right v (m .name ∷ []) e h)) (member-either v (m .name) _ q))
 
   module _ (all : List Name) (asked-there : member asked all ≡ true) where
     -- a module that is no counterpart is not wanted
     not-wanted : (xs : List Placed) (m : Module) (k : ℕ) (e : List Name) (rest : List Module) → member (m .name) (module-names ms′) ≡ true
-        → Fresh e (m ∷ rest) → ForEach (Reaches asked all) xs → Inside all (names-of xs ++ e)
+        → Fresh e (m ∷ rest) → Every (Reaches asked all) xs → Inside all (names-of xs ++ e)
         → InOrderIn Alike xs (placed-among k (m .name ∷ e) rest) → member (m .name) (wants-of asked xs) ≡ false
-    unfolding member pick
-    not-wanted xs m k e rest d f r i h = go (member (m .name) (wants-of asked xs)) refl (member (m .name) (used-by xs)) refl
+    not-wanted xs m k e rest d f r i h =
+        refuted _ (λ b.
+        ⊎-elim (λ q. of-reached (used-reached all (m .name) d xs k (m .name ∷ e) rest r h (member-here (m .name) e) q))
+        (λ q. ⊎-elim (λ p. of-reached (ap (λ (w : Name). member w all) p ∙ asked-there)) (λ n. no-name (m .name) n) (member-either (m .name) asked [] q))
+        (member-split (m .name) (used-by xs) (asked ∷ []) b))
       where
         of-reached : member (m .name) all ≡ true → _≡_ {A = Bool} true false
         of-reached q =
-            sym (names-stand xs k (m .name ∷ e) rest h (m .name) (member-first (m .name) (names-of xs) e (f .0) (i (m .name) q)))
-            ∙ not-later (m .name) (m .name ∷ e) rest (f .1) (member-here (m .name) e)
-
-        the-one : (b : Bool) → pick b true false ≡ true → b ≡ true
-        the-one true q = refl
-        the-one false q = q
-
-        go : (b : Bool) → member (m .name) (wants-of asked xs) ≡ b → (c : Bool) → member (m .name) (used-by xs) ≡ c → b ≡ false
-        go false b c q = refl
-        go true b true q =
-            of-reached (used-reached all (m .name) d xs k (m .name ∷ e) rest r h (member-here (m .name) e) q)
-        go true b false q =
-            let p = same-eq (m .name) asked (the-one (same (m .name) asked) (member-second (m .name) (used-by xs) (asked ∷ []) q b)) in
-            of-reached (ap (λ (w : Name). member w all) p ∙ asked-there)
+            ⊎-elim (λ g. sym (names-stand xs k (m .name ∷ e) rest h (m .name) g) ∙ not-later (m .name) (m .name ∷ e) rest (f .1) (member-here (m .name) e))
+            (λ g. sym g ∙ f .0) (member-split (m .name) (names-of xs) e (i (m .name) q))
 
     moved : (x : Name) (v : Name) (xs : List Placed) (e : List Name) → x ≡ v → Inside all ((x ∷ names-of xs) ++ e)
         → Inside all (names-of xs ++ (v ∷ e))
-    unfolding member pick
-    moved x v xs e p i w q = go (same w x) refl (i w q)
-      where
-        go : (b : Bool) → same w x ≡ b → pick b true (member w (names-of xs ++ e)) ≡ true → member w (names-of xs ++ (v ∷ e)) ≡ true
-        go true b h = member-right w (names-of xs) (v ∷ e) (rw (sym (ap (same w) p) ∙ b))
-        go false b h = member-more w (names-of xs) e (v ∷ e) (λ g. found-later (same w v) _ g) h
+    moved x v xs e p i w q =
+        ⊎-elim (λ b. member-right w (names-of xs) (v ∷ e) (ap (λ (u : Name). member u (v ∷ e)) (b ∙ p) ∙ member-here v e))
+        (member-more w (names-of xs) e (v ∷ e) (member-right w (v ∷ []) e)) (member-either w x _ (i w q))
 
     skipped : (xs : List Placed) (m : Module) (k : ℕ) (e : List Name) (rest : List Module) → member (m .name) (module-names ms′) ≡ true
-        → Fresh e (m ∷ rest) → ForEach (Reaches asked all) xs → Inside all (names-of xs ++ e)
+        → Fresh e (m ∷ rest) → Every (Reaches asked all) xs → Inside all (names-of xs ++ e)
         → InOrderIn Alike xs (placed-among (k + 1) (m .name ∷ e) rest) → InTurn Alike xs (reached-among asked (k + 1) (m .name ∷ e) rest)
         → InTurn Alike xs (reached-among asked k e (m ∷ rest))
     skipped xs m k e rest d f r i h later =
@@ -237,13 +186,12 @@ module _ (asked : Name) (ms ms′ : List Module) where
         subst (InTurn Alike (x ∷ xs)) (sym (reached-here asked m rest k e b)) (h, later)
 
     still-all : (xs : List Placed) (v : Name) (e : List Name) → Inside all (names-of xs ++ e) → Inside all (names-of xs ++ (v ∷ e))
-    unfolding member
-    still-all xs v e i w q = member-more w (names-of xs) e (v ∷ e) (λ g. found-later (same w v) _ g) (i w q)
+    still-all xs v e i w q = member-more w (names-of xs) e (v ∷ e) (member-right w (v ∷ []) e) (i w q)
 
     -- so the counterparts are what is reached
     only-those : (xs : List Placed) (k : ℕ) (e : List Name) (rest : List Module) → Inside (module-names rest) (module-names ms′)
         → Fresh e rest
-        → Chained asked xs → ForEach (Reaches asked all) xs → Inside all (names-of xs ++ e) → InOrderIn Alike xs (placed-among k e rest)
+        → Chained asked xs → Every (Reaches asked all) xs → Inside all (names-of xs ++ e) → InOrderIn Alike xs (placed-among k e rest)
         → InTurn Alike xs (reached-among asked k e rest)
     unfolding placed-among reached-among module-names
     only-those [] k e [] d f c r i h = tt
@@ -261,10 +209,6 @@ module _ (asked : Name) (ms ms′ : List Module) where
         (still-all (x ∷ xs) (m .name) e i) h)
 
 -- ---- so it is enough, whichever way "accepted" is read
-
-no-name : {X : Type 0} (w : Name) → member w [] ≡ true → X
-unfolding member
-no-name w e = clear (sym e)
 
 pub reaches-no-more : (asked : Name) (ms ms′ : List Module) → Fresh [] ms′ → member asked (module-names ms) ≡ true
     → InOrderIn (Counterparts asked ms ms′) (reached asked ms) (all-placed ms′)

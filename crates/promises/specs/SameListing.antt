@@ -12,8 +12,9 @@ use Rattle.meaning.specs.Written.{origin-text, shape-text, equation-text, equat
 use Rattle.meaning.specs.Listing.{line, lines-text, equation-line, hidden-lines, listing-lines}
 use Rattle.meaning.specs.Grammar.{name, equation, is}
 use Rattle.meaning.specs.Answer.{listing}
-use Rattle.meaning.specs.OrderLaws.{Rearranged, NoTie, order-of, then-both, bytes-ordered, bytes-antisymmetric, bytes-levelled, names-ordered, names-levelled, same-equal, not-after-antisymmetric, by-two-both, sorted-map, sorted-one}
+use Rattle.meaning.specs.OrderLaws.{Rearranged, NoTie, order-of, then-both, bytes-ordered, bytes-antisymmetric, bytes-levelled, names-ordered, names-levelled, same-equal, not-after-antisymmetric, by-two-both, sorted-map, sorted-one, sorted-rearranged}
 use Rattle.meaning.specs.ListingOrder.{by-standing, by-rank, visible-ordered, hidden-ordered, Place, place-order, by-home, by-position, place-ordered}
+pub use Rattle.laws.specs.EveryLaws.{kept-member}
 
 -- ---- the same items and equations, in whatever order
 
@@ -100,17 +101,6 @@ module _ {A : Type 0} (p : A → Bool) where
       go false true = Permᴰ·refl (b ∷ keep p l)
       go false false = Permᴰ·refl (keep p l)
   keep-rearranged (List·Permᴰ·trans d d′) = List·Permᴰ·trans (keep-rearranged d) (keep-rearranged d′)
-
-  pub kept-member : {a : A} (xs : List A) → List·Memᴰ a (keep p xs) → List·Memᴰ a xs × (p a ≡ true)
-  unfolding keep pick
-  kept-member [] m = elim m [ ]
-  kept-member {a} (x ∷ xs) m = go (p x) refl m (kept-member xs)
-    where
-      go : (b : Bool) → p x ≡ b → List·Memᴰ a (pick b (x ∷ keep p xs) (keep p xs)) → (List·Memᴰ a (keep p xs) → List·Memᴰ a xs × (p a ≡ true))
-          → List·Memᴰ a (x ∷ xs) × (p a ≡ true)
-      go true e m i =
-          ⊎-elim (λ q. (List·Memᴰ·head q, ap p q ∙ e)) (λ k. let r = i k in (List·Memᴰ·tail (r .0), r .1)) (List·Memᴰ·cases-cons m)
-      go false e m i = let r = i m in (List·Memᴰ·tail (r .0), r .1)
 
 sort-only : (s : Shape) → is-sort s ≡ true → s ≡ sort-shape
 unfolding is-sort
@@ -213,3 +203,13 @@ module _ (n n′ : Normal) (s : SameNormal n n′) (t : ItemsTold n) where
         equations-one (items-in-order (n .hidden .items)) (s .equations) told,
         hidden-items-one (n .hidden .items) (n′ .hidden .items) (s .hidden-items) (t .hidden),
       )
+
+-- put in order it is the same
+pub same-ordered : (n : Normal) → SameNormal n (in-order n)
+unfolding in-order visible-in-order hidden-in-order
+same-ordered n = record {
+  parameters = sorted-rearranged _ (n .visible .parameters);
+  items = sorted-rearranged visible-order (n .visible .items);
+  hidden-items = sorted-rearranged (hidden-order (sorts-in-order (n .hidden .items))) (n .hidden .items);
+  equations = sorted-rearranged (equation-order (items-in-order (n .hidden .items))) (n .hidden .equations);
+}

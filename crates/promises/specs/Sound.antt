@@ -1,51 +1,34 @@
 -- What the checks leave: no two different items of an accepted normal form tie in its order. First what that is, then that unions and
 -- translations keep it.
 use mathlib.Core.Path.{_≡_, refl, sym, ap, subst, _∙_}
-use mathlib.Core.Logic.{_⊎_, inl, inr, ⊎-elim}
-use mathlib.Core.Option.{Option, none, some}
-use Prim.Native.Nat.{ℕ, suc, _+_, _^_, _≤_, _<_}
+use mathlib.Core.Logic.{_⊎_, ⊎-elim}
+use mathlib.Core.Option.{none}
+use Prim.Native.Nat.{suc, _+_, _^_, _≤_, _<_}
 use native.Mathlib.Omega.{arith}
 use mathlib.Core.Bool.{Bool, true, false, not, false≢true}
-use mathlib.Core.List.{List, [], _∷_, _++_, map, List·Memᴰ, List·Memᴰ·head, List·Memᴰ·tail, List·Memᴰ·cases-cons, Memᴰ·append-left, Memᴰ·append-right}
+use mathlib.Core.List.{List, [], _∷_, _++_, map, List·Memᴰ, Memᴰ·append-left, Memᴰ·append-right}
 use lib.Dec.{lit<}
 use lib.ListN.{length}
 use borrow.Author.Tests.{not-false}
 use Rattle.meaning.specs.Laws.{by-cases}
-use Rattle.meaning.specs.Lists.{pick, keep, any, union}
+use Rattle.meaning.specs.Lists.{keep, union}
 use Rattle.meaning.specs.Names.{Name, same, bytes-not-after, not-after, by-name}
-use Rattle.meaning.specs.Origins.{Section, export-section, parameter-section, hidden-section, Origin, Sort, visible-sort, hidden-sort, Shape, sort-shape, function-shape, variable-shape, is-sort, is-function, FunctionType, one-item, one-equation, Head, visible-head, hidden-head, ResolvedTerm, var, app, ResolvedTerms, none-left, _and-then_, ResolvedSides, Item, ResolvedEquation}
-use Rattle.meaning.specs.Checks.{Outcome, fine, stop, _>>=_, _>>_, Check, unless, least-at-odds, other-origin, sorts-clash, functions-clash, consistent}
-use Rattle.meaning.specs.Normal.{Slot, same-slot, is-parameter-of, move-sort, move-type, move-shape, move-name, move-item, move-hidden-item, move-head, move-term, move-terms, move-sides, move-equation, move-visible, move-hidden, move, unite, unite-visible, unite-hidden, Visible, Normal, sorts-among}
+use Rattle.meaning.specs.Origins.{Section, export-section, parameter-section, hidden-section, Origin, Sort, visible-sort, hidden-sort, Shape, sort-shape, function-shape, variable-shape, is-sort, is-function, FunctionType, one-item, Item}
+use Rattle.meaning.specs.Checks.{fine, least-at-odds, other-origin, sorts-clash, functions-clash, consistent}
+use Rattle.meaning.specs.Normal.{Slot, same-slot, is-parameter-of, move-sort, move-type, move-shape, move-name, move-item, move-hidden-item, move-visible, move-hidden, move, unite, unite-visible, unite-hidden, Visible, Normal, sorts-among}
 use Rattle.meaning.specs.Written.{origin-text, shape-rank, visible-in-order}
-use Rattle.promises.specs.ListingLaws.{Plain, both-true, told-origin, origins-of, SortIn, ShapeIn, told-shape, origin-equal, shape-self, item-equal, slot-equal, every-so, every-append, PlainHead, PlainTerm, PlainTerms, PlainSides, PlainEquation}
+use Rattle.promises.specs.ListingLaws.{Plain, told-origin, origins-of, SortIn, ShapeIn, told-shape, both-true, origin-equal, shape-self, item-equal, slot-equal}
 use Rattle.meaning.specs.Grammar.{name, is}
-use Rattle.meaning.specs.OrderLaws.{Pairwise, sorted-rearranged, sorted-length, rearranged-member, any-none, none-at-odds, Every, same-self}
-use Rattle.promises.specs.SameListing.{HiddenTold, ItemsTold, SlotsTold, VisibleTold, kept-member, sorts-in-order}
-use Rattle.promises.specs.Told.{Few, every-keep, Sound, SoundHidden, SoundVisible, Stands, StandsIn, declared-name, item-of-origin, origin-of-item, shape-wider}
+use Rattle.meaning.specs.OrderLaws.{Pairwise, sorted-rearranged, sorted-length, rearranged-member, none-at-odds, Every, same-self}
+use Rattle.laws.specs.EveryLaws.{every-so, every-append, kept-member, every-keep, pairwise-members}
+pub use Rattle.laws.specs.EveryLaws.{every-member, every-map, every-union, every-any, any-found, any-passes, in-union-left, in-union-right, member-keep, member-map-to}
+pub use Rattle.laws.specs.Outcomes.{Gives, gives-bound, gives-then, both-fine as then-fine}
+pub use Rattle.meaning.specs.Mirror.{unless-fine}
+use Rattle.laws.specs.OwnItems.{declared-name}
+use Rattle.promises.specs.SameListing.{HiddenTold, ItemsTold, SlotsTold, VisibleTold, sorts-in-order}
+use Rattle.promises.specs.Told.{Few, Sound, SoundHidden, SoundVisible, Stands, StandsIn, item-of-origin, origin-of-item, shape-wider}
 
 -- ---- what is accepted is told: no two of its different items tie
-
-pub every-member : {A : Type 0} (P : A → Type 0) (xs : List A) → Every P xs → (x : A) → List·Memᴰ x xs → P x
-every-member P [] h x m = elim m [ ]
-every-member P (y ∷ ys) h x m = ⊎-elim (λ e. subst P (sym e) (h .0)) (λ k. every-member P ys (h .1) x k) (List·Memᴰ·cases-cons m)
-
-pairwise-members : {A : Type 0} (R : A → A → Type 0) (xs : List A) (a b : A) → Pairwise R xs → List·Memᴰ a xs → List·Memᴰ b xs
-    → (a ≡ b) ⊎ (R a b ⊎ R b a)
-pairwise-members R [] a b h m k = elim m [ ]
-pairwise-members {A} R (x ∷ xs) a b h m k =
-    ⊎-elim (λ (e : a ≡ x). ⊎-elim (λ (f : b ≡ x). inl (e ∙ sym f)) (λ q. inr (inl (rw e (every-member (R x) xs (h .0) b q)))) (List·Memᴰ·cases-cons k))
-    (λ p. ⊎-elim (λ (f : b ≡ x). inr (inr (rw f (every-member (R x) xs (h .0) a p)))) (λ q. pairwise-members R xs a b (h .1) p q) (List·Memᴰ·cases-cons k))
-    (List·Memᴰ·cases-cons m)
-
-pub unless-fine : (k : ℕ) (o : Option Name) → unless k o ≡ fine tt → o ≡ none
-unfolding unless
-unless-fine k none e = refl
-unless-fine k (some w) e = let z : _≡_ {A = ℕ} 0 1 = cc in absurd (omega arith)
-
-pub then-fine : (o p : Check) → (o >> p) ≡ fine tt → (o ≡ fine tt) × (p ≡ fine tt)
-unfolding _>>_
-then-fine (fine tt) p e = (refl, e)
-then-fine (stop k w) p e = let z : _≡_ {A = ℕ} 0 1 = cc in absurd (omega arith)
 
 -- no two items are at odds, in the one order or the other
 pub compatible : (wrong : Item → Item → Bool) (is : List Item) → least-at-odds (λ (i : Item). i .name) wrong is ≡ none → (a b : Item)
@@ -159,103 +142,17 @@ sound-told n own c s few = record {
   hidden = hidden-told (n .hidden .items) few (s .hidden);
 }
 
--- ---- what is evaluated is sound, where the names of the text are identifiers
-
--- an outcome, if it is one, is such
-abbrev pub Gives : {A : Type 0} → (A → Type 0) → Outcome A → Type 0
-Gives P (fine a) = P a
-Gives P (stop k w) = Unit {0}
-
-pub gives-bound : {A B : Type 0} (P : A → Type 0) (Q : B → Type 0) (o : Outcome A) (f : A → Outcome B) → Gives P o → ((a : A) → P a → Gives Q (f a))
-    → Gives Q (o >>= f)
-unfolding _>>=_
-gives-bound P Q (fine a) f h g = g a h
-gives-bound P Q (stop k w) f h g = tt
-
-pub gives-then : {B : Type 0} (Q : B → Type 0) (o : Check) (m : Outcome B) → (o ≡ fine tt → Gives Q m) → Gives Q (o >> m)
-unfolding _>>_
-gives-then Q (fine tt) m g = g refl
-gives-then Q (stop k w) m g = tt
-
--- ---- unions
-
-pub every-union : {A : Type 0} (P : A → Type 0) (one : A → A → Bool) (xs ys : List A) → Every P xs → Every P ys → Every P (union one xs ys)
-unfolding union
-every-union P one xs [] h k = h
-every-union P one xs (y ∷ ys) h k =
-    by-cases (Every P) _ _ _ (λ e. every-union P one xs ys h (k .1))
-    (λ e. every-union P one (xs ++ (y ∷ [])) ys (every-append P xs (y ∷ []) h (k .0, tt)) (k .1))
-
-pub every-map : {A B : Type 0} (P : A → Type 0) (Q : B → Type 0) (f : A → B) → ((a : A) → P a → Q (f a)) → (xs : List A) → Every P xs → Every Q (map f xs)
-every-map P Q f g [] h = tt
-every-map P Q f g (x ∷ xs) h = (g x (h .0), every-map P Q f g xs (h .1))
+-- ---- what is evaluated is sound, where the names of the text are identifiers: unions
 
 -- a sort item of this origin
 abbrev pub HasSort : Origin → List Item → Type 0
 HasSort o is = (i : Item) × List·Memᴰ i is × (is-sort (i .shape) ≡ true) × (o ≡ i .origin)
-
-pub any-found : {A : Type 0} (p : A → Bool) (xs : List A) → any p xs ≡ true → (x : A) × List·Memᴰ x xs × (p x ≡ true)
-unfolding any pick
-any-found p [] e = absurd (false≢true e)
-any-found {A} p (x ∷ xs) e = go (p x) refl e (any-found p xs)
-  where
-    go : (b : Bool) → p x ≡ b → pick b true (any p xs) ≡ true → (any p xs ≡ true → (y : A) × List·Memᴰ y xs × (p y ≡ true))
-        → (y : A) × List·Memᴰ y (x ∷ xs) × (p y ≡ true)
-    go true q e i = (x, List·Memᴰ·head refl, q)
-    go false q e i = let r = i e in (r .0, List·Memᴰ·tail (r .1), r .2)
-
-pub any-passes : {A : Type 0} (p : A → Bool) (xs : List A) (x : A) → List·Memᴰ x xs → p x ≡ true → any p xs ≡ true
-any-passes p xs x m e = go (any p xs) refl
-  where
-    go : (b : Bool) → any p xs ≡ b → b ≡ true
-    go true q = refl
-    go false q = sym (every-member (λ y. p y ≡ false) xs (any-none p xs q) x m) ∙ e
-
--- a union has what is in either of the two, where the test tells equal things, of all that pass P
-module _ {A : Type 0} (one : A → A → Bool) where
-  pub in-union-left : (xs ys : List A) (a : A) → List·Memᴰ a xs → List·Memᴰ a (union one xs ys)
-  unfolding union
-  in-union-left xs [] a m = m
-  in-union-left xs (y ∷ ys) a m =
-      by-cases (λ (us : List A). List·Memᴰ a us) _ _ _ (λ e. in-union-left xs ys a m)
-      (λ e. in-union-left (xs ++ (y ∷ [])) ys a (Memᴰ·append-left (y ∷ []) m))
-
-  pub in-union-right : (P : A → Type 0) → ((a b : A) → P a → P b → one a b ≡ true → a ≡ b) → (xs ys : List A) → Every P xs → Every P ys → (a : A)
-      → List·Memᴰ a ys → List·Memᴰ a (union one xs ys)
-  unfolding union
-  in-union-right P equal xs [] h k a m = elim m [ ]
-  in-union-right P equal xs (y ∷ ys) h k a m =
-      let there : List A → Type 0 = λ us. List·Memᴰ a us in
-      ⊎-elim
-      (λ (e : a ≡ y).
-      by-cases there _ _ _
-      (λ f.
-      let r = any-found (one y) xs f in
-      let q = e ∙ equal y (r .0) (k .0) (every-member P xs h (r .0) (r .1)) (r .2) in
-      in-union-left xs ys a (subst (λ (u : A). List·Memᴰ u xs) (sym q) (r .1)))
-      (λ f. in-union-left (xs ++ (y ∷ [])) ys a (Memᴰ·append-right xs (List·Memᴰ·head e))))
-      (λ (q : List·Memᴰ a ys).
-      by-cases there _ _ _ (λ f. in-union-right P equal xs ys h (k .1) a q)
-      (λ f. in-union-right P equal (xs ++ (y ∷ [])) ys (every-append P xs (y ∷ []) h (k .0, tt)) (k .1) a q))
-      (List·Memᴰ·cases-cons m)
-
-pub every-any : {A : Type 0} (xs : List A) → Every (λ x. Unit {0}) xs
-every-any [] = tt
-every-any (x ∷ xs) = (tt, every-any xs)
 
 pub union-left : (xs ys : List Item) (i : Item) → List·Memᴰ i xs → List·Memᴰ i (union one-item xs ys)
 union-left = in-union-left one-item
 
 pub union-right : (xs ys : List Item) (i : Item) → List·Memᴰ i ys → List·Memᴰ i (union one-item xs ys)
 union-right xs ys = in-union-right one-item (λ i. Unit {0}) (λ a b p q. item-equal a b) xs ys (every-any xs) (every-any ys)
-
-pub member-keep : {A : Type 0} (p : A → Bool) (xs : List A) (x : A) → List·Memᴰ x xs → p x ≡ true → List·Memᴰ x (keep p xs)
-unfolding keep
-member-keep p [] x m e = elim m [ ]
-member-keep {A} p (y ∷ ys) x m e =
-    ⊎-elim (λ (q : x ≡ y). by-cases (λ (us : List A). List·Memᴰ x us) _ _ _ (λ f. List·Memᴰ·head q) (λ f. absurd (false≢true (sym f ∙ ap p (sym q) ∙ e))))
-    (λ k. by-cases (λ (us : List A). List·Memᴰ x us) _ _ _ (λ f. List·Memᴰ·tail (member-keep p ys x k e)) (λ f. member-keep p ys x k e))
-    (List·Memᴰ·cases-cons m)
 
 -- every hidden sort of the one is one of the other
 abbrev Covers : List Item → List Item → Type 0
@@ -329,7 +226,6 @@ module _ (a b : Normal) (more : List Slot) where
             every-union (SoundHidden ks) one-item is js
             (all-wider is ks is (λ o h. (h .0, union-left is js (h .0) (h .1), h .2, h .3)) (s .hidden))
             (all-wider js ks js (λ o h. (h .0, union-right is js (h .0) (h .1), h .2, h .3)) (t .hidden));
-        equations = every-union PlainEquation one-equation (a .hidden .equations) (b .hidden .equations) (s .equations) (t .equations);
       }
 
 pub unite-sound : (a b : Normal) → Sound a → Sound b → Sound (unite a b)
@@ -338,10 +234,6 @@ unite-sound a b s t =
     together-sound a b _ (every-keep (λ p. Plain (p .name)) _ (b .visible .parameters) (t .parameters)) (united-right (a .visible) (b .visible)) s t
 
 -- ---- translation by new names that are plain
-
-pub member-map-to : {A B : Type 0} (f : A → B) {a : A} {xs : List A} → List·Memᴰ a xs → List·Memᴰ (f a) (map f xs)
-member-map-to f (List·Memᴰ·head e) = List·Memᴰ·head (ap f e)
-member-map-to f (List·Memᴰ·tail m) = List·Memᴰ·tail (member-map-to f m)
 
 module _ (σ : Name → Name) (φ : Name → FunctionType → Name) (plain-σ : (w : Name) → Plain w → Plain (σ w))
     (plain-φ : (f : Name) (t : FunctionType) → Plain f → Plain (φ f t)) where
@@ -399,34 +291,6 @@ module _ (σ : Name → Name) (φ : Name → FunctionType → Name) (plain-σ : 
   move-covers is o h =
       (move-hidden-item σ φ (h .0), member-map-to (move-hidden-item σ φ) (h .1), move-is-sort (h .0 .shape) ∙ h .2, h .3)
 
-  move-head-plain : (f : Head) → PlainHead f → PlainHead (move-head σ φ f)
-  unfolding move-head
-  move-head-plain (visible-head f t) h = plain-φ f t h
-  move-head-plain (hidden-head o t) h = h
-
-  mutual
-    unfolding move-term
-
-    move-term-plain : (t : ResolvedTerm) → PlainTerm t → PlainTerm (move-term σ φ t)
-    move-term-plain (var o s) h = tt
-    move-term-plain (app f xs) h = (move-head-plain f (h .0), move-terms-plain xs (h .1))
-
-    move-terms-plain : (ts : ResolvedTerms) → PlainTerms ts → PlainTerms (move-terms σ φ ts)
-    move-terms-plain none-left h = tt
-    move-terms-plain (x and-then xs) h = (move-term-plain x (h .0), move-terms-plain xs (h .1))
-
-  move-sides-plain : (e : ResolvedSides) → PlainSides e → PlainSides (move-sides σ φ e)
-  unfolding move-sides
-  move-sides-plain e h = (move-term-plain (e .left) (h .0), move-term-plain (e .right) (h .1))
-
-  move-equation-plain : (e : ResolvedEquation) → PlainEquation e → PlainEquation (move-equation σ φ e)
-  unfolding move-equation
-  move-equation-plain e h = record {
-    tag = h .tag;
-    conclusion = move-sides-plain (e .conclusion) (h .conclusion);
-    conditions = every-map PlainSides PlainSides (move-sides σ φ) move-sides-plain (e .conditions) (h .conditions);
-  }
-
   moved-stand : (ps : List Slot) (is : List Item) → Every (Stands ps) is → Every (Stands ps) (map (move-item σ φ) is)
   unfolding move-item
   moved-stand ps is h = every-map (Stands ps) (Stands ps) (move-item σ φ) (λ i k. k) is h
@@ -449,7 +313,4 @@ module _ (σ : Name → Name) (φ : Name → FunctionType → Name) (plain-σ : 
             every-union (SoundHidden ks) one-item [] js tt
             (all-wider is ks js (λ o h. let c = move-covers is o h in (c .0, union-right [] js (c .0) (c .1), c .2, c .3))
             (every-map (SoundHidden is) (SoundHidden is) (move-hidden-item σ φ) (move-hidden-sound is) is (s .hidden)));
-        equations =
-            every-union PlainEquation one-equation [] (map (move-equation σ φ) (n .hidden .equations)) tt
-            (every-map PlainEquation PlainEquation (move-equation σ φ) move-equation-plain (n .hidden .equations) (s .equations));
       }

@@ -13,21 +13,15 @@ use Rattle.meaning.specs.Laws.{by-cases}
 use Rattle.meaning.specs.Lists.{pick}
 use Rattle.meaning.specs.Names.{bytes, byte, slice, Name, prefix-name, infix-name}
 use Rattle.meaning.specs.Tokens.{is-in, is-mark, is-symbol, is-word, run, run-end, at-word, at-hyphen, at-symbol, skip, ident, operator, equals-at, word-at, symbols-at, dotted-at, start-at, token-at}
-use Rattle.promises.specs.ListingLaws.{Within, in-name, NonEmpty, Plain, every-append}
+use Rattle.laws.specs.EveryLaws.{every-append}
+use Rattle.laws.specs.Reading.{is-spelled}
+use Rattle.promises.specs.ListingLaws.{Within, in-name, NonEmpty, Plain, both-true}
 
 -- ---- bytes
 
 or-true : (x : Bool) → (x || true) ≡ true
 or-true true = refl
 or-true false = refl
-
-and-first : (x y : Bool) → (x && y) ≡ true → x ≡ true
-and-first true y e = refl
-and-first false y e = e
-
-and-second : (x y : Bool) → (x && y) ≡ true → y ≡ true
-and-second true y e = e
-and-second false y e = absurd (false≢true e)
 
 -- a byte at which a word goes on is one of a name's, and so is a symbol
 word-letter : (b : ℕ) (s : List ℕ) → at-word (b ∷ s) ≡ true → in-name b ≡ true
@@ -48,13 +42,14 @@ dot-letter b e = subst (λ (x : ℕ). in-name x ≡ true) (sym (eqb-true b (byte
 
 -- ---- runs
 
-word-run : (s : List ℕ) → Within in-name (take (run at-word s) s)
+-- a run that goes on at bytes of names
+name-run : (at : List ℕ → Bool) → ((b : ℕ) (s : List ℕ) → at (b ∷ s) ≡ true → in-name b ≡ true) → (s : List ℕ) → Within in-name (take (run at s) s)
 unfolding run pick
-word-run [] = tt
-word-run (b ∷ s) = go (at-word (b ∷ s)) refl (word-run s)
+name-run at letter [] = tt
+name-run at letter (b ∷ s) = go (at (b ∷ s)) refl (name-run at letter s)
   where
-    go : (w : Bool) → at-word (b ∷ s) ≡ w → Within in-name (take (run at-word s) s) → Within in-name (take (pick w (suc (run at-word s)) 0) (b ∷ s))
-    go true e i = (word-letter b s e, i)
+    go : (w : Bool) → at (b ∷ s) ≡ w → Within in-name (take (run at s) s) → Within in-name (take (pick w (suc (run at s)) 0) (b ∷ s))
+    go true e i = (letter b s e, i)
     go false e i = tt
 
 -- a word has a first byte, which is no hyphen
@@ -65,19 +60,6 @@ word-begins b s e = go (eqb b (byte "-")) refl
     go : (h : Bool) → eqb b (byte "-") ≡ h → NonEmpty (take (run at-word (b ∷ s)) (b ∷ s))
     go true q = absurd (false≢true (rw (eqb-true b (byte "-") q) at e))
     go false q = rw (q, e) tt
-
-symbol-run : (s : List ℕ) → Within in-name (take (run at-symbol s) s)
-unfolding run pick
-symbol-run [] = tt
-symbol-run (b ∷ s) = go (is-symbol b) refl (symbol-run s)
-  where
-    go : (w : Bool) → is-symbol b ≡ w → Within in-name (take (run at-symbol s) s) → Within in-name (take (pick w (suc (run at-symbol s)) 0) (b ∷ s))
-    go true e i = (symbol-letter b e, i)
-    go false e i = tt
-
-symbol-begins : (b : ℕ) (s : List ℕ) → is-symbol b ≡ true → NonEmpty (take (run at-symbol (b ∷ s)) (b ∷ s))
-unfolding run pick
-symbol-begins b s e = rw e tt
 
 -- a word and the dot after it
 dot-run : (s : List ℕ) → eqb (getD s (run at-word s) 0) (byte ".") ≡ true → Within in-name (take (suc (run at-word s)) s)
@@ -93,43 +75,25 @@ dot-run (b ∷ s) e = go (at-word (b ∷ s)) refl e (dot-run s)
 
 -- ---- tokens
 
--- a token that a name is read from
-unfoldable pub is-spelled : ℕ → Bool
-is-spelled kind = eqb kind ident || eqb kind operator
-
-pub ident-spelled : (kind : ℕ) → eqb kind ident ≡ true → is-spelled kind ≡ true
-unfolding is-spelled
-ident-spelled kind e = rw e
-
-pub operator-spelled : (kind : ℕ) → eqb kind operator ≡ true → is-spelled kind ≡ true
-unfolding is-spelled
-operator-spelled kind e = rw e (or-true (eqb kind ident))
-
 module _ (text : List ℕ) where
   -- if it is one, its bytes are a name's
   abbrev pub Named : Token → Type 0
   Named t = is-spelled (t .kind) ≡ true → Plain (slice text (t .start) (t .end))
 
   module _ (i : ℕ) (h : i < length text) where
-    word-plain : is-word (getD text i 0) ≡ true → Plain (slice text i (run-end at-word text i))
+    run-plain : (at : List ℕ → Bool) → ((b : ℕ) (s : List ℕ) → at (b ∷ s) ≡ true → in-name b ≡ true)
+        → ((s : List ℕ) → NonEmpty (take (run at (getD text i 0 ∷ s)) (getD text i 0 ∷ s))) → Plain (slice text i (run-end at text i))
     unfolding run-end
-    word-plain e =
-        let r = run at-word (drop i text) in
-        let size : i + r - i ≡ r = omega arith in
-        rw (size, drop-cons text i 0 h) (record {
-          letters = word-run (getD text i 0 ∷ drop (suc i) text);
-          some-letter = word-begins (getD text i 0) (drop (suc i) text) e;
-        })
+    run-plain at letter begins =
+        let size : i + run at (drop i text) - i ≡ run at (drop i text) = omega arith in
+        rw (size, drop-cons text i 0 h) (record { letters = name-run at letter (getD text i 0 ∷ drop (suc i) text); some-letter = begins (drop (suc i) text) })
+
+    word-plain : is-word (getD text i 0) ≡ true → Plain (slice text i (run-end at-word text i))
+    word-plain e = run-plain at-word word-letter (λ s. word-begins (getD text i 0) s e)
 
     symbols-plain : is-symbol (getD text i 0) ≡ true → Plain (slice text i (run-end at-symbol text i))
-    unfolding run-end
-    symbols-plain e =
-        let r = run at-symbol (drop i text) in
-        let size : i + r - i ≡ r = omega arith in
-        rw (size, drop-cons text i 0 h) (record {
-          letters = symbol-run (getD text i 0 ∷ drop (suc i) text);
-          some-letter = symbol-begins (getD text i 0) (drop (suc i) text) e;
-        })
+    unfolding run pick
+    symbols-plain e = run-plain at-symbol (λ b s. symbol-letter b) (λ s. rw e tt)
 
     dotted-plain : eqb (getD text i 0) (byte ".") ≡ true → eqb (getD text (run-end at-word text (i + 1)) 0) (byte ".") ≡ true
         → Plain (slice text i (run-end at-word text (i + 1) + 1))
@@ -160,9 +124,11 @@ module _ (text : List ℕ) where
       (λ m. by-cases Named _ _ _ (λ w e. word-plain i h w)
       (λ w. by-cases Named _ _ _ (λ q. by-cases Named _ _ _ (λ r e. absurd (false≢true e)) (λ r e. absurd (false≢true e)))
       (λ q. by-cases Named _ _ _ (λ a e. absurd (false≢true e))
-      (λ a. by-cases Named _ _ _ (λ o e. symbols-plain i h (and-first _ _ o))
+      (λ a. by-cases Named _ _ _ (λ o e. symbols-plain i h (both-true _ _ o .0))
       (λ o. by-cases Named _ _ _
-      (λ d. by-cases Named _ _ _ (λ k e. dotted-plain i h d (and-second (is-word (getD text (i + 1) 0) && eqb (word-at text (i + 1) .kind) ident) _ k)) (λ k e. absurd (false≢true e)))
+      (λ d. by-cases Named _ _ _
+      (λ k e. dotted-plain i h d (both-true (is-word (getD text (i + 1) 0) && eqb (word-at text (i + 1) .kind) ident) _ k .1))
+      (λ k e. absurd (false≢true e)))
       (λ d e. absurd (false≢true e))))))))
       (λ past e. absurd (false≢true e))
 

@@ -9,8 +9,7 @@ use Rattle.meaning.specs.Syntax.{Module}
 use Rattle.meaning.specs.Texts.{Texts}
 use Rattle.meaning.specs.Answer.{Answer, listing, answer}
 use Rattle.promises.specs.VisiblePart.{visible-part}
-use Rattle.promises.specs.Demand.{Acceptance, InTheCall, ByItself, ShortOfRoom, Agreeing, Demand3}
-use Rattle.promises.specs.Enough.{Enough}
+use Rattle.promises.specs.Demand.{Acceptance, InTheCall, ByItself, ShortOfRoom, Agreeing, Demand3, Enough}
 use Rattle.promises.specs.Proof.{demand-3, has-room}
 use Rattle.promises.specs.Alone.{demand-3-alone}
 use Rattle.promises.specs.Reaches.{is-enough}

@@ -266,16 +266,13 @@ module _ (visible hidden : List Item) (plain : Every (λ i. Plain (i .name)) vis
 
   told-conditions : (cs ds : List ResolvedSides) → Every (TypedSides visible hidden) cs → Every (TypedSides visible hidden) ds
       → conditions-text hidden cs ≡ conditions-text hidden ds → cs ≡ ds
-  unfolding conditions-text
+  unfolding conditions-text more-text
   told-conditions [] [] h k e = refl
   told-conditions [] (d ∷ ds) h k e = not-empty e
   told-conditions (c ∷ cs) [] h k e = not-empty (sym e)
   told-conditions (c ∷ cs) (d ∷ ds) h k e =
       let f = append-cancel-left (bytes " when ") _ _ e in
-      let a =
-      told-sides c d (more-text cs) (more-text ds) (h .0) (k .0) (more-closed cs) (more-closed ds)
-      (sym (conditions-from c cs) ∙ f ∙ conditions-from d ds) in
-      ap₂ _∷_ (a .0) (told-more cs ds (h .1) (k .1) (a .1))
+      told-more (c ∷ cs) (d ∷ ds) h k (ap (byte "," ∷_) (sym (conditions-from c cs) ∙ f ∙ conditions-from d ds))
 
   conditions-closed : (cs : List ResolvedSides) → Closed (conditions-text hidden cs)
   unfolding conditions-text in-node in-sort in-name is-word pick is-in

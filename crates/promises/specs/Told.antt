@@ -20,19 +20,16 @@ use Rattle.meaning.specs.Syntax.{node, _then_}
 use Rattle.meaning.specs.Normal.{Slot, Visible, Normal, slot-names, formals, sorts-among}
 use Rattle.meaning.specs.Written.{numbered, sort-text, type-text, function-type-text, origin-text, shape-text, equation-text, shape-rank}
 use Rattle.meaning.specs.Listing.{is-exported, visible-lines, Line, origin-line, kind-key, item-line, exported-lines, formal-lines, parameter-lines, hidden-item-lines, line, lines-text, equation-line, hidden-lines, listing-lines}
-use Rattle.promises.specs.ListingLaws.{first-of, rest-of, not-empty, Within, StartsOutside, starts, told-run, in-name, Plain, PlainOrigin, told-origin, origins-of, SortIn, ShapeIn, told-shape, every-so, every-append, key-letter, Separable, told-lines, all-pass, within-by, before-map, OneLine, in-line-then, plain-in-line, number-in-line, origin-in-line, shape-in-line, PlainEquation, equation-in-line}
-use Rattle.meaning.specs.Grammar.{after, name, function, parameter, equation, modules, is}
+use Rattle.promises.specs.ListingLaws.{first-of, rest-of, not-empty, Within, StartsOutside, starts, told-run, in-name, Plain, PlainOrigin, told-origin, origins-of, SortIn, ShapeIn, told-shape, every-so, every-append, PlainLine, told-lines, by-kind, before-map, OneLine, in-line-then, plain-in-line, number-in-line, origin-in-line, shape-in-line, PlainEquation, equation-in-line}
+use Rattle.meaning.specs.Reader.{listing-keys}
 use Rattle.meaning.specs.Answer.{listing}
 use Rattle.meaning.specs.OrderLaws.{Every, same-self}
 use Rattle.promises.specs.SameListing.{kept-member}
+use Rattle.laws.specs.EveryLaws.{every-map, every-made}
+pub use Rattle.laws.specs.EveryLaws.{every-keep, every-each}
+pub use Rattle.laws.specs.OwnItems.{declared-name}
 
 -- ---- from the listing to the normal form
-
--- the name under which an item was declared
-unfoldable pub declared-name : Declared → Name
-declared-name (declared-sort a) = a
-declared-name (declared-function f i o) = f
-declared-name (declared-variable v s) = v
 
 -- a visible item is no variable, its names are plain, its type has visible sorts alone, and it stands where it was declared
 pub record SoundVisible (i : Item) : Type 0 where
@@ -63,7 +60,6 @@ pub record Sound (n : Normal) : Type 0 where
   pub standing : Every (Stands (n .visible .parameters)) (n .visible .items)
   pub visible : Every SoundVisible (n .visible .items)
   pub hidden : Every (SoundHidden (n .hidden .items)) (n .hidden .items)
-  pub equations : Every PlainEquation (n .hidden .equations)
 
 -- so few hidden items that a number of ten digits tells each: in what is accepted they are at most 512
 abbrev pub Few : Normal → Type 0
@@ -105,29 +101,21 @@ told-visible a b h k r e o =
     let standings = h .standing ∙ ap (λ (p : Origin). p .section) origins ∙ sym (k .standing) in
     λ x. record { standing = standings x; name = t .0 x; shape = shapes x; origin = origins x }
 
-told-each : {A : Type 0} (Good : A → Type 0) (f g : A → Line) → ((a b : A) → Good a → Good b → f a ≡ f b → g a ≡ g b → a ≡ b)
-    → (xs ys : List A) → Every Good xs → Every Good ys
-    → each (λ (x : A). f x ∷ g x ∷ []) xs ≡ each (λ (x : A). f x ∷ g x ∷ []) ys → xs ≡ ys
-unfolding each
-told-each Good f g inj [] [] h k e = refl
-told-each Good f g inj [] (y ∷ ys) h k e = not-empty e
-told-each Good f g inj (x ∷ xs) [] h k e = not-empty (sym e)
-told-each Good f g inj (x ∷ xs) (y ∷ ys) h k e =
-    ap₂ _∷_ (inj x y (h .0) (k .0) (first-of e) (first-of (rest-of e))) (told-each Good f g inj xs ys (h .1) (k .1) (rest-of (rest-of e)))
+-- the two lines of a visible item, exported or in a parameter
+abbrev pub item-lines : String → String → Item → List Line
+item-lines s f i = item-line (kind-key s f "variable" (i .shape)) (i .name) [] (i .shape) ∷ origin-line (i .origin) ∷ []
 
-told-exported : (is js : List Item) → Every SoundVisible is → Every SoundVisible js → each exported-lines is ≡ each exported-lines js → is ≡ js
-unfolding exported-lines origin-line same pick
-told-exported is js h k e =
-    told-each SoundVisible _ _ (λ a b ha hb p q. told-visible a b ha hb
-    (told-key "sort" "function" "variable" refl refl refl (a .shape) (b .shape) (ap (λ (l : Line). l .key) p)) (ap (λ (l : Line). l .value) p)
-    (ap (λ (l : Line). l .value) q)) is js h k e
-
-told-formals : (is js : List Item) → Every SoundVisible is → Every SoundVisible js → each formal-lines is ≡ each formal-lines js → is ≡ js
-unfolding formal-lines origin-line same pick
-told-formals is js h k e =
-    told-each SoundVisible _ _ (λ a b ha hb p q. told-visible a b ha hb
-    (told-key "parameter-sort" "parameter-function" "variable" refl refl refl (a .shape) (b .shape) (ap (λ (l : Line). l .key) p))
-    (ap (λ (l : Line). l .value) p) (ap (λ (l : Line). l .value) q)) is js h k e
+told-items : (s f : String) → same (bytes s) (bytes f) ≡ false → same (bytes s) (bytes "variable") ≡ false → same (bytes f) (bytes "variable") ≡ false
+    → (is js : List Item) → Every SoundVisible is → Every SoundVisible js → each (item-lines s f) is ≡ each (item-lines s f) js → is ≡ js
+unfolding each origin-line
+told-items s f sf sv fv [] [] h k e = refl
+told-items s f sf sv fv [] (j ∷ js) h k e = not-empty e
+told-items s f sf sv fv (i ∷ is) [] h k e = not-empty (sym e)
+told-items s f sf sv fv (i ∷ is) (j ∷ js) h k e =
+    let kinds = told-key s f "variable" sf sv fv (i .shape) (j .shape) (ap (λ (l : Line). l .key) (first-of e)) in
+    let origins = ap (λ (l : Line). l .value) (first-of (rest-of e)) in
+    ap₂ _∷_ (told-visible i j (h .0) (k .0) kinds (ap (λ (l : Line). l .value) (first-of e)) origins)
+    (told-items s f sf sv fv is js (h .1) (k .1) (rest-of (rest-of e)))
 
 -- ---- the hidden items from their lines: first their origins, so that a number means the same in both
 
@@ -209,93 +197,71 @@ module _ (hidden hidden′ : List Item) (same-origins : origins-of hidden ≡ or
 -- ---- the listing's parts from its lines, by the keys
 
 -- the line has one of these keys
-keyed : String → Line → Bool
+unfoldable pub keyed : String → Line → Bool
 keyed ks l = member (l .key) (words (bytes ks))
 
 outside-append : (p : Line → Bool) (xs ys : List Line) → StartsOutside p xs → StartsOutside p ys → StartsOutside p (xs ++ ys)
 outside-append p [] ys h k = k
 outside-append p (x ∷ xs) ys h k = h
 
-pub every-keep : {A : Type 0} (P : A → Type 0) (p : A → Bool) (xs : List A) → Every P xs → Every P (keep p xs)
-unfolding keep
-every-keep P p [] h = tt
-every-keep P p (x ∷ xs) h = let r = every-keep P p xs (h .1) in by-cases (Every P) _ _ _ (λ e. (h .0, r)) (λ e. r)
-
-formals-sound : (p : Name) (v : Visible) → Every SoundVisible (v .items) → Every SoundVisible (formals p v)
+pub formals-sound : (p : Name) (v : Visible) → Every SoundVisible (v .items) → Every SoundVisible (formals p v)
 unfolding formals
 formals-sound p v h = every-keep SoundVisible (λ (i : Item). in-parameter p (i .standing)) (v .items) h
 
-exported-keyed : (is : List Item) → Every SoundVisible is → Within (keyed "sort function origin") (each exported-lines is)
-unfolding each exported-lines origin-line keyed member words same pick kind-key shape-rank
-exported-keyed [] h = tt
-exported-keyed (i ∷ is) h = (go (i .shape) (h .0 .kind), (refl, exported-keyed is (h .1)))
-  where
-    go : (s : Shape) → shape-rank s ≤ 1
-        → keyed "sort function origin" (item-line (kind-key "sort" "function" "variable" s) (i .name) [] s) ≡ true
-    go sort-shape r = refl
-    go (function-shape t) r = refl
-    go (variable-shape v) r = absurd (omega arith)
+module _ (ks : String) where
+  -- one of the keys
+  abbrev Key : List ℕ → Type 0
+  Key k = member k (words (bytes ks)) ≡ true
 
-formals-keyed : (is : List Item) → Every SoundVisible is → Within (keyed "parameter-sort parameter-function origin") (each formal-lines is)
-unfolding each formal-lines origin-line keyed member words same pick kind-key shape-rank
-formals-keyed [] h = tt
-formals-keyed (i ∷ is) h = (go (i .shape) (h .0 .kind), (refl, formals-keyed is (h .1)))
-  where
-    go : (s : Shape) → shape-rank s ≤ 1
-        → keyed "parameter-sort parameter-function origin"
-        (item-line (kind-key "parameter-sort" "parameter-function" "variable" s) (i .name) [] s) ≡ true
-    go sort-shape r = refl
-    go (function-shape t) r = refl
-    go (variable-shape v) r = absurd (omega arith)
+  -- none of them
+  abbrev NoKey : List ℕ → Type 0
+  NoKey k = member k (words (bytes ks)) ≡ false
+
+  pub items-keyed : (s f : String) → Key (bytes s) → Key (bytes f) → Key (bytes "origin") → (is : List Item) → Every SoundVisible is
+      → Within (keyed ks) (each (item-lines s f) is)
+  unfolding each origin-line keyed kind-key shape-rank
+  items-keyed s f p q r [] h = tt
+  items-keyed s f p q r (i ∷ is) h = (go (i .shape) (h .0 .kind), (r, items-keyed s f p q r is (h .1)))
+    where
+      go : (a : Shape) → shape-rank a ≤ 1 → Key (kind-key s f "variable" a)
+      go sort-shape e = p
+      go (function-shape t) e = q
+      go (variable-shape v) e = absurd (omega arith)
+
+  -- what comes after the parameters has none of their keys, nor of the keys before
+  hidden-outside : (hidden : List Item) (k : ℕ) (is : List Item) → NoKey (bytes "hidden-sort") → NoKey (bytes "hidden-function") → NoKey (bytes "variable")
+      → StartsOutside (keyed ks) (hidden-item-lines hidden k is)
+  unfolding hidden-item-lines keyed
+  hidden-outside hidden k [] s f v = tt
+  hidden-outside hidden k (i ∷ is) s f v = by-kind NoKey "hidden-sort" "hidden-function" "variable" s f v (i .shape)
+
+  equations-outside : (hidden : List Item) (es : List ResolvedEquation) → NoKey (bytes "equation") → StartsOutside (keyed ks) (map (equation-line hidden) es)
+  unfolding equation-line keyed
+  equations-outside hidden [] e = tt
+  equations-outside hidden (r ∷ rs) e = e
+
+  parameters-outside : (v : Visible) (ps : List Name) → NoKey (bytes "parameter") → StartsOutside (keyed ks) (each (parameter-lines v) ps)
+  unfolding each parameter-lines keyed
+  parameters-outside v [] e = tt
+  parameters-outside v (p ∷ ps) e = e
 
 hidden-keyed : (hidden : List Item) (k : ℕ) (is : List Item) → Within (keyed "hidden-sort hidden-function variable origin") (hidden-item-lines hidden k is)
-unfolding hidden-item-lines origin-line keyed member words same pick kind-key
+unfolding hidden-item-lines origin-line keyed member words same pick
 hidden-keyed hidden k [] = tt
-hidden-keyed hidden k (i ∷ is) = (go (i .shape), (refl, hidden-keyed hidden (k + 1) is))
-  where
-    go : (s : Shape)
-        → keyed "hidden-sort hidden-function variable origin"
-        (item-line (kind-key "hidden-sort" "hidden-function" "variable" s) (numbered k) hidden s) ≡ true
-    go sort-shape = refl
-    go (function-shape t) = refl
-    go (variable-shape v) = refl
+hidden-keyed hidden k (i ∷ is) =
+    let ks : String = "hidden-sort hidden-function variable origin" in
+    (by-kind (Key ks) "hidden-sort" "hidden-function" "variable" refl refl refl (i .shape), (refl, hidden-keyed hidden (k + 1) is))
 
 equations-keyed : (hidden : List Item) (es : List ResolvedEquation) → Within (keyed "equation") (map (equation-line hidden) es)
 unfolding equation-line keyed member words same pick
-equations-keyed hidden [] = tt
-equations-keyed hidden (e ∷ es) = (refl, equations-keyed hidden es)
-
--- what comes after the parameters has none of their keys, nor of the keys before
-hidden-outside : (ks : String) (hidden : List Item) (k : ℕ) (is : List Item) → member (bytes "hidden-sort") (words (bytes ks)) ≡ false
-    → member (bytes "hidden-function") (words (bytes ks)) ≡ false → member (bytes "variable") (words (bytes ks)) ≡ false
-    → StartsOutside (keyed ks) (hidden-item-lines hidden k is)
-unfolding hidden-item-lines keyed kind-key
-hidden-outside ks hidden k [] s f v = tt
-hidden-outside ks hidden k (i ∷ is) s f v = go (i .shape)
-  where
-    go : (h : Shape) → member (kind-key "hidden-sort" "hidden-function" "variable" h) (words (bytes ks)) ≡ false
-    go sort-shape = s
-    go (function-shape t) = f
-    go (variable-shape r) = v
-
-equations-outside : (ks : String) (hidden : List Item) (es : List ResolvedEquation) → member (bytes "equation") (words (bytes ks)) ≡ false
-    → StartsOutside (keyed ks) (map (equation-line hidden) es)
-unfolding equation-line keyed
-equations-outside ks hidden [] e = tt
-equations-outside ks hidden (r ∷ rs) e = e
-
-parameters-outside : (v : Visible) (ks : String) (ps : List Name) → member (bytes "parameter") (words (bytes ks)) ≡ false
-    → StartsOutside (keyed ks) (each (parameter-lines v) ps)
-unfolding each parameter-lines keyed
-parameters-outside v ks [] e = tt
-parameters-outside v ks (p ∷ ps) e = e
+equations-keyed hidden es = every-made _ _ (λ e. refl) es
 
 module _ (v v′ : Visible) (sound : Every SoundVisible (v .items)) (sound′ : Every SoundVisible (v′ .items)) where
   told-parameters : (ps qs : List Name) (us us′ : List Line) → StartsOutside (keyed "parameter") us → StartsOutside (keyed "parameter") us′
       → StartsOutside (keyed "parameter-sort parameter-function origin") us → StartsOutside (keyed "parameter-sort parameter-function origin") us′
       → each (parameter-lines v) ps ++ us ≡ each (parameter-lines v′) qs ++ us′
       → (ps ≡ qs) × Every (λ p. formals p v ≡ formals p v′) ps × (us ≡ us′)
-  unfolding each parameter-lines keyed member words same pick
+  unfolding each parameter-lines formal-lines keyed member words same pick
   told-parameters [] [] us us′ o o′ f f′ e = (refl, tt, e)
   told-parameters [] (q ∷ qs) us us′ o o′ f f′ e = starts (keyed "parameter") us _ _ o e refl
   told-parameters (p ∷ ps) [] us us′ o o′ f f′ e = starts (keyed "parameter") us′ _ _ o′ (sym e) refl
@@ -309,10 +275,11 @@ module _ (v v′ : Visible) (sound : Every SoundVisible (v .items)) (sound′ : 
       let kept = formals-sound p v sound in
       let kept′ = formals-sound q v′ sound′ in
       let a =
-      told-run (keyed ks) F F′ (R ++ us) (R′ ++ us′) (formals-keyed (formals p v) kept) (formals-keyed (formals q v′) kept′)
-      (outside-append (keyed ks) R us (parameters-outside v ks ps refl) f) (outside-append (keyed ks) R′ us′ (parameters-outside v′ ks qs refl) f′)
+      told-run (keyed ks) F F′ (R ++ us) (R′ ++ us′) (items-keyed ks "parameter-sort" "parameter-function" refl refl refl (formals p v) kept)
+      (items-keyed ks "parameter-sort" "parameter-function" refl refl refl (formals q v′) kept′)
+      (outside-append (keyed ks) R us (parameters-outside ks v ps refl) f) (outside-append (keyed ks) R′ us′ (parameters-outside ks v′ qs refl) f′)
       (sym (append-assoc F R us) ∙ rest-of e ∙ append-assoc F′ R′ us′) in
-      let here = told-formals (formals p v) (formals q v′) kept kept′ (a .0) in
+      let here = told-items "parameter-sort" "parameter-function" refl refl refl (formals p v) (formals q v′) kept kept′ (a .0) in
       let more = told-parameters ps qs us us′ o o′ f f′ (a .1) in
       (ap₂ _∷_ names (more .0), (here ∙ ap (λ w. formals w v′) (sym names), more .1), more .2)
 
@@ -359,15 +326,13 @@ unfolding listing-lines visible-lines hidden-lines
 listing-parts m n = simp append-assoc
 
 module _ (ks : String) (m : Name) (n : Normal) where
-  end-outside : member (bytes "equation") (words (bytes ks)) ≡ false → member (bytes "end") (words (bytes ks)) ≡ false
-      → StartsOutside (keyed ks) (equation-part n ++ end-part m)
+  end-outside : NoKey ks (bytes "equation") → NoKey ks (bytes "end") → StartsOutside (keyed ks) (equation-part n ++ end-part m)
   unfolding keyed
   end-outside e f =
       outside-append (keyed ks) (equation-part n) (end-part m) (equations-outside ks (n .hidden .items) (n .hidden .equations) e) f
 
-  after-parameters : member (bytes "hidden-sort") (words (bytes ks)) ≡ false → member (bytes "hidden-function") (words (bytes ks)) ≡ false
-      → member (bytes "variable") (words (bytes ks)) ≡ false → member (bytes "equation") (words (bytes ks)) ≡ false
-      → member (bytes "end") (words (bytes ks)) ≡ false → StartsOutside (keyed ks) (hidden-part n ++ (equation-part n ++ end-part m))
+  after-parameters : NoKey ks (bytes "hidden-sort") → NoKey ks (bytes "hidden-function") → NoKey ks (bytes "variable") → NoKey ks (bytes "equation")
+      → NoKey ks (bytes "end") → StartsOutside (keyed ks) (hidden-part n ++ (equation-part n ++ end-part m))
   after-parameters s f v e g =
       outside-append (keyed ks) (hidden-part n) (equation-part n ++ end-part m)
       (hidden-outside ks (n .hidden .items) 1 (n .hidden .items) s f v) (end-outside e g)
@@ -377,7 +342,7 @@ after-exported : (m : Name) (n : Normal)
 unfolding member words same pick
 after-exported m n =
     outside-append (keyed "sort function origin") (parameter-part n) (hidden-part n ++ (equation-part n ++ end-part m))
-    (parameters-outside (n .visible) "sort function origin" (slot-names (n .visible .parameters)) refl)
+    (parameters-outside "sort function origin" (n .visible) (slot-names (n .visible .parameters)) refl)
     (after-parameters "sort function origin" m n refl refl refl refl refl)
 
 equation-values : (hidden : List Item) (es : List ResolvedEquation)
@@ -390,7 +355,7 @@ module _ (m m′ : Name) (n n′ : Normal) (sound : Sound n) (sound′ : Sound n
   -- the lines of a listing tell the normal form, but for the parameters' modules, the equations' modules and positions, and what stands at a
   -- node besides its name
   pub told-by-lines : listing-lines m n ≡ listing-lines m′ n′ → SameListed m m′ n n′
-  unfolding keyed member words same pick
+  unfolding exported-lines keyed member words same pick
   told-by-lines e =
       let f = sym (listing-parts m n) ∙ e ∙ listing-parts m′ n′ in
       let exported : Item → Bool = λ i. is-exported (i .standing) in
@@ -399,8 +364,10 @@ module _ (m m′ : Name) (n n′ : Normal) (sound : Sound n) (sound′ : Sound n
       let a =
       told-run (keyed "sort function origin") (exported-part n) (exported-part n′)
       (parameter-part n ++ (hidden-part n ++ (equation-part n ++ end-part m)))
-      (parameter-part n′ ++ (hidden-part n′ ++ (equation-part n′ ++ end-part m′))) (exported-keyed (exported-of (n .visible)) kept)
-      (exported-keyed (exported-of (n′ .visible)) kept′) (after-exported m n) (after-exported m′ n′) (rest-of f) in
+      (parameter-part n′ ++ (hidden-part n′ ++ (equation-part n′ ++ end-part m′)))
+      (items-keyed "sort function origin" "sort" "function" refl refl refl (exported-of (n .visible)) kept)
+      (items-keyed "sort function origin" "sort" "function" refl refl refl (exported-of (n′ .visible)) kept′) (after-exported m n) (after-exported m′ n′)
+      (rest-of f) in
       let b =
       told-parameters (n .visible) (n′ .visible) (sound .visible) (sound′ .visible) (slot-names (n .visible .parameters))
       (slot-names (n′ .visible .parameters))
@@ -422,7 +389,7 @@ module _ (m m′ : Name) (n n′ : Normal) (sound : Sound n) (sound′ : Sound n
       (every-so (SoundHidden (n′ .hidden .items)) _ (n′ .hidden .items) (λ i h. h .origin) (sound′ .hidden)) (c .0) in
       record {
         asked = ap (λ (l : Line). l .value) (first-of f);
-        exported = told-exported (exported-of (n .visible)) (exported-of (n′ .visible)) kept kept′ (a .0);
+        exported = told-items "sort" "function" refl refl refl (exported-of (n .visible)) (exported-of (n′ .visible)) kept kept′ (a .0);
         parameters = b .0;
         inside = b .1;
         hidden =
@@ -435,85 +402,75 @@ module _ (m m′ : Name) (n n′ : Normal) (sound : Sound n) (sound′ : Sound n
 
 -- ---- and so do its bytes
 
-separable : (k : String) {value : List ℕ} → all-pass key-letter (bytes k) ≡ true → OneLine value → Separable (line k value)
-separable k e h = record { key = within-by _ (bytes k) e; value = h .within }
+-- one of the listing's keys
+abbrev Known : List ℕ → Type 0
+Known k = member k listing-keys ≡ true
+
+plain-line : (k : String) {value : List ℕ} → Known (bytes k) → OneLine value → PlainLine (line k value)
+plain-line k e h = record { key = e; value = h .within }
 
 -- an item's first line, of whatever kind
-item-separable : (s f v : String) (called : List ℕ) (hidden : List Item) (shape : Shape) → all-pass key-letter (bytes s) ≡ true
-    → all-pass key-letter (bytes f) ≡ true → all-pass key-letter (bytes v) ≡ true
-    → OneLine (called ++ shape-text hidden shape) → Separable (item-line (kind-key s f v shape) called hidden shape)
-unfolding kind-key
-item-separable s f v called hidden sort-shape p q r h = record { key = within-by _ (bytes s) p; value = h .within }
-item-separable s f v called hidden (function-shape t) p q r h = record { key = within-by _ (bytes f) q; value = h .within }
-item-separable s f v called hidden (variable-shape u) p q r h = record { key = within-by _ (bytes v) r; value = h .within }
+item-plain : (s f v : String) (called : List ℕ) (hidden : List Item) (shape : Shape) → Known (bytes s) → Known (bytes f) → Known (bytes v)
+    → OneLine (called ++ shape-text hidden shape) → PlainLine (item-line (kind-key s f v shape) called hidden shape)
+item-plain s f v called hidden shape p q r h = record { key = by-kind Known s f v p q r shape; value = h .within }
 
-origin-separable : (o : Origin) → PlainOrigin o → Separable (origin-line o)
-unfolding origin-line
-origin-separable o h = separable "origin" refl (origin-in-line o h)
+-- opens what keys are tested by
+unfoldable pub keys-opened : Unit {0}
+unfolding listing-keys words member same pick
+keys-opened = tt
 
-pub every-each : {A B : Type 0} (P : B → Type 0) (Good : A → Type 0) (f : A → List B) → ((a : A) → Good a → Every P (f a)) → (xs : List A)
-    → Every Good xs → Every P (each f xs)
-unfolding each
-every-each P Good f h [] g = tt
-every-each P Good f h (x ∷ xs) g = every-append P (f x) (each f xs) (h x (g .0)) (every-each P Good f h xs (g .1))
+origin-plain : (o : Origin) → PlainOrigin o → PlainLine (origin-line o)
+unfolding origin-line keys-opened
+origin-plain o h = plain-line "origin" refl (origin-in-line o h)
 
-visible-in-line : (i : Item) → SoundVisible i → OneLine (i .name ++ shape-text [] (i .shape))
-visible-in-line i h = in-line-then (i .name) (plain-in-line (i .name) (h .name)) (shape-in-line [] (i .shape) (h .shape))
-
-exported-separable : (i : Item) → SoundVisible i → Every Separable (exported-lines i)
-unfolding exported-lines
-exported-separable i h = (
-  item-separable "sort" "function" "variable" (i .name) [] (i .shape) refl refl refl (visible-in-line i h),
-  (origin-separable (i .origin) (h .origin), tt),
+visible-plain : (s f : String) → Known (bytes s) → Known (bytes f) → (i : Item) → SoundVisible i → Every PlainLine (item-lines s f i)
+unfolding keys-opened
+visible-plain s f p q i h = (
+  item-plain s f "variable" (i .name) [] (i .shape) p q refl
+      (in-line-then (i .name) (plain-in-line (i .name) (h .name)) (shape-in-line [] (i .shape) (h .shape))),
+  (origin-plain (i .origin) (h .origin), tt),
 )
 
-formal-separable : (i : Item) → SoundVisible i → Every Separable (formal-lines i)
-unfolding formal-lines
-formal-separable i h = (
-  item-separable "parameter-sort" "parameter-function" "variable" (i .name) [] (i .shape) refl refl refl (visible-in-line i h),
-  (origin-separable (i .origin) (h .origin), tt),
+parameter-plain : (v : Visible) → Every SoundVisible (v .items) → (p : Name) → Plain p → Every PlainLine (parameter-lines v p)
+unfolding parameter-lines formal-lines keys-opened
+parameter-plain v h p g = (
+  plain-line "parameter" refl (plain-in-line p g),
+  every-each PlainLine SoundVisible _ (visible-plain "parameter-sort" "parameter-function" refl refl) (formals p v) (formals-sound p v h),
 )
 
-parameter-separable : (v : Visible) → Every SoundVisible (v .items) → (p : Name) → Plain p → Every Separable (parameter-lines v p)
-unfolding parameter-lines
-parameter-separable v h p g = (
-  separable "parameter" refl (plain-in-line p g),
-  every-each Separable SoundVisible formal-lines formal-separable (formals p v) (formals-sound p v h),
-)
-
-hidden-separable : (hidden : List Item) (k : ℕ) (is : List Item) → Every (SoundHidden hidden) is → Every Separable (hidden-item-lines hidden k is)
-unfolding hidden-item-lines
-hidden-separable hidden k [] h = tt
-hidden-separable hidden k (i ∷ is) h = (
-  item-separable "hidden-sort" "hidden-function" "variable" (numbered k) hidden (i .shape) refl refl refl
+hidden-plain : (hidden : List Item) (k : ℕ) (is : List Item) → Every (SoundHidden hidden) is → Every PlainLine (hidden-item-lines hidden k is)
+unfolding hidden-item-lines keys-opened
+hidden-plain hidden k [] h = tt
+hidden-plain hidden k (i ∷ is) h = (
+  item-plain "hidden-sort" "hidden-function" "variable" (numbered k) hidden (i .shape) refl refl refl
       (in-line-then (numbered k) (number-in-line k)
       (shape-in-line hidden (i .shape) (shape-wider (sorts-among hidden) hidden (among-hidden hidden) (i .shape) (h .0 .shape)))),
-  (origin-separable (i .origin) (h .0 .origin), hidden-separable hidden (k + 1) is (h .1)),
+  (origin-plain (i .origin) (h .0 .origin), hidden-plain hidden (k + 1) is (h .1)),
 )
 
-equations-separable : (hidden : List Item) (es : List ResolvedEquation) → Every PlainEquation es → Every Separable (map (equation-line hidden) es)
-unfolding equation-line
-equations-separable hidden [] h = tt
-equations-separable hidden (e ∷ es) h = (separable "equation" refl (equation-in-line hidden e (h .0)), equations-separable hidden es (h .1))
+equations-plain : (hidden : List Item) (es : List ResolvedEquation) → Every PlainEquation es → Every PlainLine (map (equation-line hidden) es)
+unfolding equation-line keys-opened
+equations-plain hidden es h = every-map PlainEquation PlainLine _ (λ e k. plain-line "equation" refl (equation-in-line hidden e k)) es h
 
-pub listing-separable : (m : Name) (n : Normal) → Plain m → Sound n → Every Separable (listing-lines m n)
-listing-separable m n g s =
-    subst (Every Separable) (sym (listing-parts m n)) (
-      separable "module" refl (plain-in-line m g),
-      every-append Separable (exported-part n) _
-          (every-each Separable SoundVisible exported-lines exported-separable (exported-of (n .visible))
+pub listing-plain : (m : Name) (n : Normal) → Plain m → Sound n → Every PlainEquation (n .hidden .equations) → Every PlainLine (listing-lines m n)
+unfolding exported-lines keys-opened
+listing-plain m n g s p =
+    subst (Every PlainLine) (sym (listing-parts m n)) (
+      plain-line "module" refl (plain-in-line m g),
+      every-append PlainLine (exported-part n) _
+          (every-each PlainLine SoundVisible _ (visible-plain "sort" "function" refl refl) (exported-of (n .visible))
           (every-keep SoundVisible (λ (i : Item). is-exported (i .standing)) (n .visible .items) (s .visible)))
-          (every-append Separable (parameter-part n) _
-          (every-each Separable Plain (parameter-lines (n .visible)) (parameter-separable (n .visible) (s .visible)) (slot-names (n .visible .parameters))
+          (every-append PlainLine (parameter-part n) _
+          (every-each PlainLine Plain (parameter-lines (n .visible)) (parameter-plain (n .visible) (s .visible)) (slot-names (n .visible .parameters))
           (every-named Plain (n .visible .parameters) (s .parameters)))
-          (every-append Separable (hidden-part n) _ (hidden-separable (n .hidden .items) 1 (n .hidden .items) (s .hidden))
-          (every-append Separable (equation-part n) (end-part m) (equations-separable (n .hidden .items) (n .hidden .equations) (s .equations))
-          (separable "end" refl (plain-in-line m g), tt)))),
+          (every-append PlainLine (hidden-part n) _ (hidden-plain (n .hidden .items) 1 (n .hidden .items) (s .hidden))
+          (every-append PlainLine (equation-part n) (end-part m) (equations-plain (n .hidden .items) (n .hidden .equations) p)
+          (plain-line "end" refl (plain-in-line m g), tt)))),
     )
 
 -- normal forms of different visible items, parameters, hidden items or written equations have different listings
-pub told-by-bytes : (m m′ : Name) (n n′ : Normal) → Plain m → Plain m′ → Sound n → Sound n′ → Few n
-    → lines-text (listing-lines m n) ≡ lines-text (listing-lines m′ n′) → SameListed m m′ n n′
-told-by-bytes m m′ n n′ g g′ s s′ few e =
+pub told-by-bytes : (m m′ : Name) (n n′ : Normal) → Plain m → Plain m′ → Sound n → Sound n′ → Every PlainEquation (n .hidden .equations)
+    → Every PlainEquation (n′ .hidden .equations) → Few n → lines-text (listing-lines m n) ≡ lines-text (listing-lines m′ n′) → SameListed m m′ n n′
+told-by-bytes m m′ n n′ g g′ s s′ p p′ few e =
     told-by-lines m m′ n n′ s s′ few
-    (told-lines (listing-lines m n) (listing-lines m′ n′) (listing-separable m n g s) (listing-separable m′ n′ g′ s′) e)
+    (told-lines (listing-lines m n) (listing-lines m′ n′) (listing-plain m n g s p) (listing-plain m′ n′ g′ s′ p′) e)

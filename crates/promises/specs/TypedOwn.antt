@@ -15,17 +15,14 @@ use Rattle.meaning.specs.Normal.{Slot, is-called}
 use Rattle.meaning.specs.Typing.{Typed, TypedList, head-of, of-shape, found-with, no-arguments, takes, is-variable, joined-typed, equated, joined-sides, made-equation, applied, alone, with-arguments, typed, typed-list, typed-sides, typed-conditions, typed-equations}
 use Rattle.meaning.specs.Written.{shape-rank}
 use Rattle.meaning.specs.OrderLaws.{Every}
-use Rattle.promises.specs.ListingLaws.{Plain, PlainEquation, PlainHead, PlainSides, PlainTerm, PlainTerms, agree-equal, both-true, every-so, sort-equal}
+use Rattle.laws.specs.EveryLaws.{every-so, every-member}
+use Rattle.laws.specs.Outcomes.{Gives, gives-bound}
+use Rattle.promises.specs.ListingLaws.{Plain, PlainEquation, PlainHead, PlainSides, PlainTerm, PlainTerms, agree-equal, both-true, sort-equal}
 use Rattle.promises.specs.Told.{Stands, StandsIn}
-use Rattle.promises.specs.Sound.{Gives, every-member, gives-bound, no-variable}
+use Rattle.promises.specs.Sound.{no-variable}
 use Rattle.promises.specs.WellTyped.{From, TypedEquation, TypedHead, TypedSides, TypedTerm, TypedTerms, head-type, sort-of, sorts-of}
 
 module _ (visible hidden : List Item) where
-  -- an equation with a plain tag, well typed
-  pub record Made (e : ResolvedEquation) : Type 0 where
-    pub tag : Plain (e .tag)
-    pub typed : TypedEquation visible hidden e
-
   -- where the names of the visible items are plain, so are those of the equation
   module _ (plain : Every (λ i. Plain (i .name)) visible) where
     head-plain : (f : Head) → TypedHead visible hidden f → PlainHead f
@@ -44,11 +41,11 @@ module _ (visible hidden : List Item) where
     sides-plain : (e : ResolvedSides) → TypedSides visible hidden e → PlainSides e
     sides-plain e d = (term-plain (e .left) (d .0), term-plain (e .right) (d .1))
 
-    pub made-plain : (e : ResolvedEquation) → Made e → PlainEquation e
-    made-plain e d = record {
+    pub typed-plain : (e : ResolvedEquation) → TypedEquation visible hidden e → PlainEquation e
+    typed-plain e d = record {
       tag = d .tag;
-      conclusion = sides-plain (e .conclusion) (d .typed .conclusion);
-      conditions = every-so (TypedSides visible hidden) PlainSides (e .conditions) sides-plain (d .typed .conditions);
+      conclusion = sides-plain (e .conclusion) (d .conclusion);
+      conditions = every-so (TypedSides visible hidden) PlainSides (e .conditions) sides-plain (d .conditions);
     }
 
 -- of what is found
@@ -146,11 +143,12 @@ module _ (parameters : List Slot) (visible hidden : List Item) where
   all-typed (some e) (some es) h k = (h, k)
 
   made-typed : (home at : ℕ) (tag : Name) → Plain tag → (c : Option ResolvedSides) (ks : Option (List ResolvedSides))
-      → OfFound (TypedSides visible hidden) c → OfFound (Every (TypedSides visible hidden)) ks → Gives (Made visible hidden) (made-equation home at tag c ks)
+      → OfFound (TypedSides visible hidden) c → OfFound (Every (TypedSides visible hidden)) ks
+      → Gives (TypedEquation visible hidden) (made-equation home at tag c ks)
   unfolding made-equation
   made-typed home at tag p none ks h k = tt
   made-typed home at tag p (some c) none h k = tt
-  made-typed home at tag p (some c) (some ks) h k = record { tag = p; typed = record { conclusion = h; conditions = k } }
+  made-typed home at tag p (some c) (some ks) h k = record { tag = p; conclusion = h; conditions = k }
 
   function-takes : (s : Shape) (sorts : List Sort) (t : FunctionType) → takes sorts s ≡ true → s ≡ function-shape t → sorts ≡ t .inputs
   unfolding takes
@@ -204,10 +202,11 @@ module _ (parameters : List Slot) (visible hidden : List Item) where
     conditions-typed (e ∷ es) = all-typed _ _ (sides-typed e) (conditions-typed es)
 
     pub equations-typed : (home at : ℕ) (rs : List Equation) → Every (λ r. Plain (r .tag)) rs
-        → Gives (Every (Made visible hidden)) (typed-equations known home at rs)
+        → Gives (Every (TypedEquation visible hidden)) (typed-equations known home at rs)
     unfolding typed-equations
     equations-typed home at [] h = tt
     equations-typed home at (r ∷ rs) h =
-        gives-bound (Made visible hidden) (Every (Made visible hidden)) _ _
+        gives-bound (TypedEquation visible hidden) (Every (TypedEquation visible hidden)) _ _
         (made-typed home at (r .tag) (h .0) _ _ (sides-typed (r .conclusion)) (conditions-typed (conditions-of r)))
-        (λ x p. gives-bound (Every (Made visible hidden)) (Every (Made visible hidden)) _ _ (equations-typed home (at + 1) rs (h .1)) (λ xs ps. (p, ps)))
+        (λ x p. gives-bound (Every (TypedEquation visible hidden)) (Every (TypedEquation visible hidden)) _ _ (equations-typed home (at + 1) rs (h .1))
+        (λ xs ps. (p, ps)))

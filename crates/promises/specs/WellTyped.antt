@@ -6,11 +6,12 @@ use Rattle.meaning.specs.Lists.{union}
 use Rattle.meaning.specs.Names.{Name}
 use Rattle.meaning.specs.Origins.{Origin, Sort, FunctionType, Head, visible-head, hidden-head, ResolvedTerm, var, app, ResolvedTerms, none-left, _and-then_, ResolvedSides, ResolvedEquation, Shape, function-shape, variable-shape, Item, one-item, one-equation}
 use Rattle.meaning.specs.Normal.{Normal, unite-visible, unite-hidden, unite, move-sort, move-type, move-shape, move-name, move-item, move-hidden-item, move-head, move-term, move-terms, move-sides, move-equation, move-visible, move-hidden, move}
-use Rattle.meaning.specs.Written.{equation-order, visible-order, visible-in-order, hidden-order, hidden-in-order, in-order}
-use Rattle.meaning.specs.OrderLaws.{Every, rearranged-every, rearranged-member, sorted-rearranged}
-use Rattle.promises.specs.ListingLaws.{every-so}
-use Rattle.promises.specs.SameListing.{items-in-order, sorts-in-order}
-use Rattle.promises.specs.Sound.{every-map, every-union, member-map-to, union-left, union-right}
+use Rattle.meaning.specs.Written.{in-order}
+use Rattle.meaning.specs.OrderLaws.{Every, rearranged-every, rearranged-member}
+use Rattle.laws.specs.EveryLaws.{every-so, every-map, every-union, member-map-to}
+use Rattle.promises.specs.ListingLaws.{Plain}
+use Rattle.promises.specs.SameListing.{same-ordered}
+use Rattle.promises.specs.Sound.{union-left, union-right}
 
 -- ---- the sort of a term
 
@@ -52,7 +53,9 @@ module _ (visible hidden : List Item) where
   abbrev pub TypedSides : ResolvedSides → Type 0
   TypedSides e = TypedTerm (e .left) × TypedTerm (e .right) × (sort-of (e .left) ≡ sort-of (e .right))
 
+  -- and the tag is plain
   pub record TypedEquation (e : ResolvedEquation) : Type 0 where
+    pub tag : Plain (e .tag)
     pub conclusion : TypedSides (e .conclusion)
     pub conditions : Every TypedSides (e .conditions)
 
@@ -84,6 +87,7 @@ module _ (visible hidden visible′ hidden′ : List Item) (v : (i : Item) → L
 
   equation-wider : (e : ResolvedEquation) → TypedEquation visible hidden e → TypedEquation visible′ hidden′ e
   equation-wider e d = record {
+    tag = d .tag;
     conclusion = sides-wider (e .conclusion) (d .conclusion);
     conditions = every-so (TypedSides visible hidden) (TypedSides visible′ hidden′) (e .conditions) sides-wider (d .conditions);
   }
@@ -145,6 +149,7 @@ module _ (σ : Name → Name) (φ : Name → FunctionType → Name) (visible hid
   equation-moved : (e : ResolvedEquation) → TypedEquation visible hidden e → TypedEquation visible′ hidden′ (move-equation σ φ e)
   unfolding move-equation
   equation-moved e d = record {
+    tag = d .tag;
     conclusion = sides-moved (e .conclusion) (d .conclusion);
     conditions =
         every-map (TypedSides visible hidden) (TypedSides visible′ hidden′) (move-sides σ φ) sides-moved (e .conditions) (d .conditions);
@@ -189,10 +194,8 @@ module _ (σ : Name → Name) (φ : Name → FunctionType → Name) where
       (moved-member is) (n .hidden .equations) d)
 
 pub in-order-typed : (n : Normal) → WellTyped n → WellTyped (in-order n)
-unfolding in-order visible-in-order hidden-in-order
-in-order-typed n d =
-    let is = n .hidden .items in
-    let v = sorted-rearranged visible-order (n .visible .items) in
-    let h = sorted-rearranged (hidden-order (sorts-in-order is)) is in
-    rearranged-every _ (sorted-rearranged (equation-order (items-in-order is)) (n .hidden .equations))
-    (typed-wider (n .visible .items) is _ _ (λ i m. rearranged-member v m) (λ i m. rearranged-member h m) (n .hidden .equations) d)
+in-order-typed n t =
+    let d = same-ordered n in
+    rearranged-every _ (d .equations)
+    (typed-wider (n .visible .items) (n .hidden .items) _ _ (λ i m. rearranged-member (d .items) m) (λ i m. rearranged-member (d .hidden-items) m)
+    (n .hidden .equations) t)

@@ -1,1 +1,4 @@
+pub mod Lines
+pub mod Front
+pub mod Shown
 pub mod Answers

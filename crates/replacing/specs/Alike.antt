@@ -10,11 +10,11 @@ use lib.ListN.{length}
 use Rattle.meaning.specs.Laws.{by-cases}
 use Rattle.meaning.specs.Lists.{pick, keep, any, sum, union}
 use Rattle.meaning.specs.Names.{Name, same, not-after, member, least, lesser}
-use Rattle.meaning.specs.Numbers.{bad-parameter, formal-unpaired}
+use Rattle.meaning.specs.Numbers.{formal-unpaired}
 use Rattle.meaning.specs.Syntax.{Pair}
 use Rattle.meaning.specs.Origins.{Origin, Sort, visible-sort, hidden-sort, FunctionType, ResolvedTerm, var, app, ResolvedTerms, none-left, _and-then_, ResolvedSides, ResolvedEquation, Shape, sort-shape, function-shape, variable-shape, same-shape, is-function, Item, one-equation}
-use Rattle.meaning.specs.Normal.{Slot, Visible, Normal, names-in, sort-names, is-called, origin-of, slot-names, formals, unite-hidden, unite, move-type, move-item, move-hidden-item, move-equation, move-visible, move-hidden, move}
-use Rattle.meaning.specs.Checks.{lone, Outcome, fine, stop, _>>_, unless, consistent, term-nodes, terms-nodes, sides-nodes, equation-nodes, size, room, checked}
+use Rattle.meaning.specs.Normal.{Slot, Visible, Normal, names-in, sort-names, is-called, origin-of, slot-names, formals, unite-hidden, unite, move-type, move-equation, move-visible, move-hidden, move, move-item, move-hidden-item}
+use Rattle.meaning.specs.Checks.{Outcome, fine, _>>_, unless, consistent, term-nodes, terms-nodes, sides-nodes, equation-nodes, size, room, checked}
 use Rattle.meaning.specs.Clauses.{paired, otherwise, renaming, may-name, renames, wrong-renaming, rename, same-origins, is-among, is-formal-sort, new-sort, new-function, sort-right, sorts-right, kind-right, type-right, all-right, pairs-right, unpaired, without-visible, without, bound-to, bind}
 use Rattle.meaning.specs.OrderLaws.{Every, Rearranged, rearranged-length, rearranged-every, any-none}
 use Rattle.meaning.specs.Mirror.{then-fine, unless-fine, fine-same}
@@ -26,6 +26,7 @@ use Rattle.replacing.specs.Changing.{re-pair, re-origin, re-sort, re-typ
 use Rattle.replacing.specs.Exchanging.{map-twice, map-length, any-map, pick-map, member-kept, origin-kept, shape-kept, called-kept, is-function-kept, equations-united, move-type-kept, move-item-kept, move-hidden-item-kept, move-equation-kept}
 use Rattle.replacing.specs.Reordering.{Tagged, equation-equal, equations-symmetric, sum-rearranged, union-rearranged, none-of}
 use Rattle.replacing.specs.VisibleAlike.{member-rearranged, Once, OneOrigin, consistent-clear, clear-one, Like, like, like-none, any-alike, keep-alike, AlikeVisible, sorts-alike, names-alike, sort-names-alike, member-alike, consistent-alike, formals-alike, origin-of-alike, items-union-alike, unite-visible-alike}
+use Rattle.promises.specs.TwoCalls.{came-through}
 
 -- ---- nothing is left, nothing is wrong
 
@@ -173,41 +174,29 @@ module _ (τ : Name → Name) (keeps : (v w : Name) → same (τ v) (τ w) ≡ s
 
   -- ---- translation
 
+  moved : {A : Type 0} (re move move′ : A → A) → ((x : A) → move′ (re x) ≡ re (move x)) → {xs xs′ : List A} → Like re xs xs′
+      → Like re (map move xs) (map move′ xs′)
+  moved re move move′ h {xs} d = like re (map move xs) (map-twice re move′ move re h xs) (Permᴰ·map move′ (d .arranged))
+
   module _ (σ σ′ : Name → Name) (φ φ′ : Name → FunctionType → Name) (same-σ : (a : Name) → σ′ (τ a) ≡ τ (σ a))
       (same-φ : (f : Name) (t : FunctionType) → φ′ (τ f) (re-type τ t) ≡ τ (φ f t)) where
     moved-tagged : (es : List ResolvedEquation) → Every (Tagged tags) es → Every (Tagged tags) (map (move-equation σ φ) es)
     unfolding move-equation
     moved-tagged es h = every-map (Tagged tags) (Tagged tags) (move-equation σ φ) (λ e t. record { tagged = t .tagged }) es h
 
-    moved-items : {is is′ : List Item} → Like (re-item τ) is is′ → Like (re-item τ) (map (move-item σ φ) is) (map (move-item σ′ φ′) is′)
-    moved-items {is} {is′} d =
-        like (re-item τ) (map (move-item σ φ) is)
-        (map-twice (re-item τ) (move-item σ′ φ′) (move-item σ φ) (re-item τ) (move-item-kept τ keeps σ σ′ φ φ′ same-σ same-φ) is)
-        (Permᴰ·map (move-item σ′ φ′) (d .arranged))
-
-    moved-hidden-items : {is is′ : List Item} → Like (re-item τ) is is′
-        → Like (re-item τ) (map (move-hidden-item σ φ) is) (map (move-hidden-item σ′ φ′) is′)
-    moved-hidden-items {is} {is′} d =
-        like (re-item τ) (map (move-hidden-item σ φ) is)
-        (map-twice (re-item τ) (move-hidden-item σ′ φ′) (move-hidden-item σ φ) (re-item τ)
-        (move-hidden-item-kept τ keeps σ σ′ φ φ′ same-σ same-φ) is)
-        (Permᴰ·map (move-hidden-item σ′ φ′) (d .arranged))
-
-    moved-equations : {es es′ : List ResolvedEquation} → Like (re-equation τ) es es′
-        → Like (re-equation τ) (map (move-equation σ φ) es) (map (move-equation σ′ φ′) es′)
-    moved-equations {es} {es′} d =
-        like (re-equation τ) (map (move-equation σ φ) es)
-        (map-twice (re-equation τ) (move-equation σ′ φ′) (move-equation σ φ) (re-equation τ)
-        (move-equation-kept τ keeps σ σ′ φ φ′ same-σ same-φ) es)
-        (Permᴰ·map (move-equation σ′ φ′) (d .arranged))
-
     pub move-alike : {n n′ : Normal} → Alike n n′ → Every (Tagged tags) (n .hidden .equations) → Alike (move σ φ n) (move σ′ φ′ n′)
     unfolding move move-visible move-hidden
-    move-alike {n} {n′} a t = record {
-      visible = record { parameters = a .visible .parameters; items = items-union-alike τ keeps (like-none _) (moved-items (a .visible .items)) };
-      hidden-items = items-union-alike τ keeps (like-none _) (moved-hidden-items (a .hidden-items));
-      equations = equations-union-alike (like-none _) (moved-equations (a .equations)) (moved-tagged (n .hidden .equations) t);
-    }
+    move-alike {n} {n′} a t =
+        let items = moved (re-item τ) (move-item σ φ) (move-item σ′ φ′) (move-item-kept τ keeps σ σ′ φ φ′ same-σ same-φ) (a .visible .items) in
+        let hidden =
+        moved (re-item τ) (move-hidden-item σ φ) (move-hidden-item σ′ φ′) (move-hidden-item-kept τ keeps σ σ′ φ φ′ same-σ same-φ) (a .hidden-items) in
+        let equations =
+        moved (re-equation τ) (move-equation σ φ) (move-equation σ′ φ′) (move-equation-kept τ keeps σ σ′ φ φ′ same-σ same-φ) (a .equations) in
+        record {
+          visible = record { parameters = a .visible .parameters; items = items-union-alike τ keeps (like-none _) items };
+          hidden-items = items-union-alike τ keeps (like-none _) hidden;
+          equations = equations-union-alike (like-none _) equations (moved-tagged (n .hidden .equations) t);
+        }
 
     pub move-tagged : (n : Normal) → Every (Tagged tags) (n .hidden .equations) → Every (Tagged tags) (move σ φ n .hidden .equations)
     unfolding move move-hidden
@@ -296,34 +285,64 @@ module _ (τ : Name → Name) (keeps : (v w : Name) → same (τ v) (τ w) ≡ s
     equations = a .equations;
   }
 
-  module _ (formal formal′ : List Item) (like-formal : Like (re-item τ) formal formal′) (rs : List Pair) (whole whole′ : Visible)
-      (like-whole : AlikeVisible τ keeps whole whole′) (one-whole : OneOrigin (whole .items)) (actual actual′ : Visible)
-      (like-actual : AlikeVisible τ keeps actual actual′) (one-actual : OneOrigin (actual .items)) where
-    formal-sort-kept : (s : Name) → is-formal-sort formal′ (re-pairs rs) whole′ actual′ (τ s) ≡ is-formal-sort formal rs whole actual s
+  module _ {n n′ a a′ : Normal} (b : Both n n′) (c : Both a a′) (p : Name) (rs : List Pair) where
+    abbrev F : List Item
+    F = formals p (n .visible)
+
+    abbrev F′ : List Item
+    F′ = formals p (n′ .visible)
+
+    abbrev whole : Visible
+    whole = n .visible
+
+    abbrev whole′ : Visible
+    whole′ = n′ .visible
+
+    abbrev actual : Visible
+    actual = a .visible
+
+    abbrev actual′ : Visible
+    actual′ = a′ .visible
+
+    abbrev σ : Name → Name
+    σ = new-sort F rs whole actual
+
+    abbrev σ′ : Name → Name
+    σ′ = new-sort F′ (re-pairs rs) whole′ actual′
+
+    abbrev φ : Name → FunctionType → Name
+    φ = new-function F rs whole actual
+
+    abbrev φ′ : Name → FunctionType → Name
+    φ′ = new-function F′ (re-pairs rs) whole′ actual′
+
+    like-F : Like (re-item τ) F F′
+    like-F = formals-alike τ keeps p (b .alike .visible)
+
+    formal-sort-kept : (s : Name) → is-formal-sort F′ (re-pairs rs) whole′ actual′ (τ s) ≡ is-formal-sort F rs whole actual s
     unfolding is-formal-sort
-    formal-sort-kept s = any-alike (re-item τ) (is-called (τ s)) (is-called s) (called-kept τ keeps s) (sorts-alike τ keeps like-formal)
+    formal-sort-kept s = any-alike (re-item τ) (is-called (τ s)) (is-called s) (called-kept τ keeps s) (sorts-alike τ keeps like-F)
 
-    pub new-sort-kept : (s : Name) → new-sort formal′ (re-pairs rs) whole′ actual′ (τ s) ≡ τ (new-sort formal rs whole actual s)
+    same-σ : (s : Name) → σ′ (τ s) ≡ τ (σ s)
     unfolding new-sort
-    new-sort-kept s =
+    same-σ s =
         ap₂ (λ (b : Bool) (w : Name). pick b w (τ s)) (formal-sort-kept s) (renaming-kept rs s)
-        ∙ pick-map τ (is-formal-sort formal rs whole actual s) (renaming rs s) s
+        ∙ pick-map τ (is-formal-sort F rs whole actual s) (renaming rs s) s
 
-    pub new-function-kept : (f : Name) (t : FunctionType)
-        → new-function formal′ (re-pairs rs) whole′ actual′ (τ f) (re-type τ t) ≡ τ (new-function formal rs whole actual f t)
+    same-φ : (f : Name) (t : FunctionType) → φ′ (τ f) (re-type τ t) ≡ τ (φ f t)
     unfolding new-function re-item re-shape
-    new-function-kept f t =
+    same-φ f t =
         ap₂ (λ (b : Bool) (w : Name). pick b w (τ f))
         (any-alike (re-item τ) (λ (i : Item). is-called (τ f) i && same-shape (function-shape (re-type τ t)) (i .shape))
         (λ (i : Item). is-called f i && same-shape (function-shape t) (i .shape))
-        (λ i. ap₂ (λ (b c : Bool). b && c) (called-kept τ keeps f i) (shape-kept τ keeps (function-shape t) (i .shape))) like-formal)
+        (λ i. ap₂ (λ (b c : Bool). b && c) (called-kept τ keeps f i) (shape-kept τ keeps (function-shape t) (i .shape))) like-F)
         (renaming-kept rs f)
-        ∙ pick-map τ (any (λ (i : Item). is-called f i && same-shape (function-shape t) (i .shape)) formal) (renaming rs f) f
+        ∙ pick-map τ (any (λ (i : Item). is-called f i && same-shape (function-shape t) (i .shape)) F) (renaming rs f) f
 
     among-kept : (o : Option Name) → is-among (sort-names actual′) (Option·map τ o) ≡ is-among (sort-names actual) o
     unfolding is-among
     among-kept none = refl
-    among-kept (some w) = member-alike τ keeps w (sort-names-alike τ keeps like-actual)
+    among-kept (some w) = member-alike τ keeps w (sort-names-alike τ keeps (c .alike .visible))
 
     origins-kept : (o p : Option Origin) → same-origins (Option·map (re-origin τ) o) (Option·map (re-origin τ) p) ≡ same-origins o p
     unfolding same-origins
@@ -332,7 +351,7 @@ module _ (τ : Name → Name) (keeps : (v w : Name) → same (τ v) (τ w) ≡ s
     origins-kept (some o) none = refl
     origins-kept (some o) (some p) = origin-kept τ keeps o p
 
-    sort-right-kept : (s : Sort) → sort-right formal′ (re-pairs rs) whole′ actual′ (re-sort τ s) ≡ sort-right formal rs whole actual s
+    sort-right-kept : (s : Sort) → sort-right F′ (re-pairs rs) whole′ actual′ (re-sort τ s) ≡ sort-right F rs whole actual s
     unfolding sort-right re-sort
     sort-right-kept (hidden-sort o) = refl
     sort-right-kept (visible-sort s) =
@@ -340,111 +359,83 @@ module _ (τ : Name → Name) (keeps : (v w : Name) → same (τ v) (τ w) ≡ s
           formal-sort-kept s,
           paired-kept rs s,
           among-kept (paired rs s),
-          origin-of-alike τ keeps like-whole one-whole s,
-          origin-of-alike τ keeps like-actual one-actual s,
+          origin-of-alike τ keeps (b .alike .visible) (b .one) s,
+          origin-of-alike τ keeps (c .alike .visible) (c .one) s,
           origins-kept (origin-of whole s) (origin-of actual s),
         )
 
-    sorts-right-kept : (t : FunctionType) → sorts-right formal′ (re-pairs rs) whole′ actual′ (re-type τ t) ≡ sorts-right formal rs whole actual t
+    sorts-right-kept : (t : FunctionType) → sorts-right F′ (re-pairs rs) whole′ actual′ (re-type τ t) ≡ sorts-right F rs whole actual t
     unfolding sorts-right re-type
     sorts-right-kept t =
-        ap not (any-map (re-sort τ) (λ (s : Sort). not (sort-right formal′ (re-pairs rs) whole′ actual′ s))
-        (λ (s : Sort). not (sort-right formal rs whole actual s)) (λ s. ap not (sort-right-kept s)) (t .output ∷ t .inputs))
+        ap not (any-map (re-sort τ) (λ (s : Sort). not (sort-right F′ (re-pairs rs) whole′ actual′ s))
+        (λ (s : Sort). not (sort-right F rs whole actual s)) (λ s. ap not (sort-right-kept s)) (t .output ∷ t .inputs))
 
     kind-right-kept : (w : Name) (s : Shape)
-        → kind-right formal′ (re-pairs rs) whole′ actual′ (τ w) (re-shape τ s) ≡ kind-right formal rs whole actual w s
+        → kind-right F′ (re-pairs rs) whole′ actual′ (τ w) (re-shape τ s) ≡ kind-right F rs whole actual w s
     unfolding kind-right re-shape re-item
-    kind-right-kept w sort-shape = member-alike τ keeps w (sort-names-alike τ keeps like-actual)
+    kind-right-kept w sort-shape = member-alike τ keeps w (sort-names-alike τ keeps (c .alike .visible))
     kind-right-kept w (variable-shape s) = refl
     kind-right-kept w (function-shape t) =
         any-alike (re-item τ) (λ (i : Item). is-called (τ w) i && is-function (i .shape)) (λ (i : Item). is-called w i && is-function (i .shape))
-        (λ i. ap₂ (λ (b c : Bool). b && c) (called-kept τ keeps w i) (is-function-kept τ keeps (i .shape))) (like-actual .items)
+        (λ i. ap₂ (λ (b c : Bool). b && c) (called-kept τ keeps w i) (is-function-kept τ keeps (i .shape))) (c .alike .visible .items)
 
     type-right-kept : (w : Name) (s : Shape)
-        → type-right formal′ (re-pairs rs) whole′ actual′ (τ w) (re-shape τ s) ≡ type-right formal rs whole actual w s
+        → type-right F′ (re-pairs rs) whole′ actual′ (τ w) (re-shape τ s) ≡ type-right F rs whole actual w s
     unfolding type-right re-shape re-item
     type-right-kept w sort-shape = refl
     type-right-kept w (variable-shape s) = refl
     type-right-kept w (function-shape t) =
         ap₂ (λ (b c : Bool). b && c) (sorts-right-kept t)
         (any-alike (re-item τ)
-        (λ (i : Item). is-called (τ w) i && same-shape (function-shape (move-type (new-sort formal′ (re-pairs rs) whole′ actual′) (new-function formal′ (re-pairs rs) whole′ actual′) (re-type τ t))) (i .shape))
-        (λ (i : Item). is-called w i && same-shape (function-shape (move-type (new-sort formal rs whole actual) (new-function formal rs whole actual) t)) (i .shape))
+        (λ (i : Item). is-called (τ w) i && same-shape (function-shape (move-type σ′ φ′ (re-type τ t))) (i .shape))
+        (λ (i : Item). is-called w i && same-shape (function-shape (move-type σ φ t)) (i .shape))
         (λ i. ap₂ (λ (b c : Bool). b && c) (called-kept τ keeps w i)
         (ap (λ (u : FunctionType). same-shape (function-shape u) (re-shape τ (i .shape)))
-        (move-type-kept τ keeps (new-sort formal rs whole actual) (new-sort formal′ (re-pairs rs) whole′ actual′)
-        (new-function formal rs whole actual) (new-function formal′ (re-pairs rs) whole′ actual′) new-sort-kept new-function-kept t)
-        ∙ shape-kept τ keeps (function-shape (move-type (new-sort formal rs whole actual) (new-function formal rs whole actual) t)) (i .shape)))
-        (like-actual .items))
+        (move-type-kept τ keeps σ σ′
+        φ φ′ same-σ same-φ t)
+        ∙ shape-kept τ keeps (function-shape (move-type σ φ t)) (i .shape)))
+        (c .alike .visible .items))
 
     all-right-kept : (right right′ : Name → Shape → Bool) → ((w : Name) (s : Shape) → right′ (τ w) (re-shape τ s) ≡ right w s) → (r : Pair)
-        → all-right formal′ (re-pairs rs) whole′ actual′ right′ (re-pair τ r) ≡ all-right formal rs whole actual right r
+        → all-right F′ (re-pairs rs) whole′ actual′ right′ (re-pair τ r) ≡ all-right F rs whole actual right r
     unfolding all-right re-pair re-item
     all-right-kept right right′ kept r =
         ap not (any-alike (re-item τ) (λ (i : Item). is-called (τ (r .old)) i && not (right′ (τ (r .new)) (i .shape)))
         (λ (i : Item). is-called (r .old) i && not (right (r .new) (i .shape)))
-        (λ i. ap₂ (λ (b c : Bool). b && not c) (called-kept τ keeps (r .old) i) (kept (r .new) (i .shape))) like-formal)
+        (λ i. ap₂ (λ (b c : Bool). b && not c) (called-kept τ keeps (r .old) i) (kept (r .new) (i .shape))) like-F)
 
-    pair-right-kept : (seen : List Name) (r : Pair) → RightPair formal rs whole actual seen r
-        → RightPair formal′ (re-pairs rs) whole′ actual′ (map τ seen) (re-pair τ r)
+    pair-right-kept : (seen : List Name) (r : Pair) → RightPair F rs whole actual seen r
+        → RightPair F′ (re-pairs rs) whole′ actual′ (map τ seen) (re-pair τ r)
     unfolding re-pair
     pair-right-kept seen r h = record {
-      formal-there = any-alike (re-item τ) (is-called (τ (r .old))) (is-called (r .old)) (called-kept τ keeps (r .old)) like-formal ∙ h .formal-there;
+      formal-there = any-alike (re-item τ) (is-called (τ (r .old))) (is-called (r .old)) (called-kept τ keeps (r .old)) like-F ∙ h .formal-there;
       not-before = ap not (member-kept τ keeps (r .old) seen) ∙ h .not-before;
       actual-there =
-          any-alike (re-item τ) (is-called (τ (r .new))) (is-called (r .new)) (called-kept τ keeps (r .new)) (like-actual .items) ∙ h .actual-there;
-      kinds = all-right-kept (kind-right formal rs whole actual) (kind-right formal′ (re-pairs rs) whole′ actual′) kind-right-kept r ∙ h .kinds;
-      types = all-right-kept (type-right formal rs whole actual) (type-right formal′ (re-pairs rs) whole′ actual′) type-right-kept r ∙ h .types;
+          any-alike (re-item τ) (is-called (τ (r .new))) (is-called (r .new)) (called-kept τ keeps (r .new)) (c .alike .visible .items) ∙ h .actual-there;
+      kinds = all-right-kept (kind-right F rs whole actual) (kind-right F′ (re-pairs rs) whole′ actual′) kind-right-kept r ∙ h .kinds;
+      types = all-right-kept (type-right F rs whole actual) (type-right F′ (re-pairs rs) whole′ actual′) type-right-kept r ∙ h .types;
     }
 
-    pub pairs-right-kept : (seen : List Name) (xs : List Pair) → pairs-right formal rs whole actual seen xs ≡ fine tt
-        → pairs-right formal′ (re-pairs rs) whole′ actual′ (map τ seen) (re-pairs xs) ≡ fine tt
+    pairs-right-kept : (seen : List Name) (xs : List Pair) → pairs-right F rs whole actual seen xs ≡ fine tt
+        → pairs-right F′ (re-pairs rs) whole′ actual′ (map τ seen) (re-pairs xs) ≡ fine tt
     unfolding pairs-right re-pair _>>_
     pairs-right-kept seen [] e = refl
     pairs-right-kept seen (x ∷ xs) e =
         let both = then-fine _ _ tt e in
-        let right = pair-right-kept seen x (pair-fine formal rs whole actual seen x (both .0)) in
-        rw (fine-pair formal′ (re-pairs rs) whole′ actual′ (map τ seen) (re-pair τ x) right) (pairs-right-kept (x .old ∷ seen) xs (both .1))
+        let right = pair-right-kept seen x (pair-fine F rs whole actual seen x (both .0)) in
+        rw (fine-pair F′ (re-pairs rs) whole′ actual′ (map τ seen) (re-pair τ x) right) (pairs-right-kept (x .old ∷ seen) xs (both .1))
 
-    pub none-unpaired : unpaired formal rs whole actual ≡ none → unpaired formal′ (re-pairs rs) whole′ actual′ ≡ none
+    none-unpaired : unpaired F rs whole actual ≡ none → unpaired F′ (re-pairs rs) whole′ actual′ ≡ none
     unfolding unpaired re-pair
     none-unpaired e =
         let d =
         keep-alike τ (λ (w : Name). not (any (λ (r : Pair). same w (r .old)) (re-pairs rs))) (λ (w : Name). not (any (λ (r : Pair). same w (r .old)) rs))
         (λ w. ap not (any-map (re-pair τ) (λ (r : Pair). same (τ w) (r .old)) (λ (r : Pair). same w (r .old)) (λ r. keeps w (r .old)) rs))
-        (names-alike τ keeps like-formal) in
+        (names-alike τ keeps like-F) in
         least-none left (nothing-left left (subst (λ (r : List Name). Rearranged (map τ r) left) (none-least _ e) (d .arranged)))
       where
         left : List Name
-        left = keep (λ (w : Name). not (any (λ (r : Pair). same w (r .old)) (re-pairs rs))) (names-in formal′)
-
-  module _ {n n′ a a′ : Normal} (b : Both n n′) (c : Both a a′) (p : Name) (rs : List Pair) where
-    abbrev F : List Item
-    F = formals p (n .visible)
-
-    abbrev F′ : List Item
-    F′ = formals p (n′ .visible)
-
-    abbrev σ : Name → Name
-    σ = new-sort F rs (n .visible) (a .visible)
-
-    abbrev σ′ : Name → Name
-    σ′ = new-sort F′ (re-pairs rs) (n′ .visible) (a′ .visible)
-
-    abbrev φ : Name → FunctionType → Name
-    φ = new-function F rs (n .visible) (a .visible)
-
-    abbrev φ′ : Name → FunctionType → Name
-    φ′ = new-function F′ (re-pairs rs) (n′ .visible) (a′ .visible)
-
-    like-F : Like (re-item τ) F F′
-    like-F = formals-alike τ keeps p (b .alike .visible)
-
-    same-σ : (s : Name) → σ′ (τ s) ≡ τ (σ s)
-    same-σ = new-sort-kept F F′ like-F rs (n .visible) (n′ .visible) (b .alike .visible) (b .one) (a .visible) (a′ .visible) (c .alike .visible) (c .one)
-
-    same-φ : (f : Name) (t : FunctionType) → φ′ (τ f) (re-type τ t) ≡ τ (φ f t)
-    same-φ = new-function-kept F F′ like-F rs (n .visible) (n′ .visible) (b .alike .visible) (b .one) (a .visible) (a′ .visible) (c .alike .visible) (c .one)
+        left = keep (λ (w : Name). not (any (λ (r : Pair). same w (r .old)) (re-pairs rs))) (names-in F′)
 
     still-tagged : Every (Tagged tags) (without p n .hidden .equations)
     unfolding without
@@ -453,24 +444,14 @@ module _ (τ : Name → Name) (keeps : (v w : Name) → same (τ v) (τ w) ≡ s
     bound-alike : (k : Normal) → bound-to p rs n a ≡ fine k → Follows k (bound-to p (re-pairs rs) n′ a′)
     unfolding bound-to _>>_ unless
     bound-alike k e =
-        let f = then-fine (pairs-right F rs (n .visible) (a .visible) [] rs) _ k e in
-        let g = then-fine (unless formal-unpaired (unpaired F rs (n .visible) (a .visible))) _ k (f .1) in
-        rw (
-          pairs-right-kept F F′ like-F rs (n .visible) (n′ .visible) (b .alike .visible) (b .one) (a .visible) (a′ .visible) (c .alike .visible) (c .one) [] rs
-              (f .0),
-          none-unpaired F F′ like-F rs (n .visible) (n′ .visible) (b .alike .visible) (b .one) (a .visible) (a′ .visible) (c .alike .visible) (c .one)
-              (unless-fine _ _ (g .0)),
-        )
+        let f = then-fine (pairs-right F rs whole actual [] rs) _ k e in
+        let g = then-fine (unless formal-unpaired (unpaired F rs whole actual)) _ k (f .1) in
+        rw (pairs-right-kept [] rs (f .0), none-unpaired (unless-fine _ _ (g .0)))
         (union-follows (move-alike σ σ′ φ φ′ same-σ same-φ (without-alike p (b .alike)) still-tagged) (c .alike)
         (move-tagged σ σ′ φ φ′ same-σ same-φ (without p n) still-tagged) (c .tagged) k (g .1))
 
     pub bind-alike : (k : Normal) → bind p rs n a ≡ fine k → Follows k (bind p (re-pairs rs) n′ a′)
     unfolding bind slot-names pick
     bind-alike k e =
-        rw (← member-rearranged p (Permᴰ·map (λ (q : Slot). q .name) (b .alike .visible .parameters)))
-        (go (member p (slot-names (n .visible .parameters))) (bound-to p rs n a) (bound-to p (re-pairs rs) n′ a′) e bound-alike)
-      where
-        go : (x : Bool) (o o′ : Outcome Normal) → pick x o (stop bad-parameter (lone p)) ≡ fine k → ((j : Normal) → o ≡ fine j → Follows j o′)
-            → Follows k (pick x o′ (stop bad-parameter (lone p)))
-        go true o o′ q h = h k q
-        go false o o′ q h = let z : _≡_ {A = ℕ} 0 1 = cc in absurd (omega arith)
+        let q = came-through (member p (slot-names (n .visible .parameters))) _ _ _ k e in
+        rw (← member-rearranged p (Permᴰ·map (λ (q : Slot). q .name) (b .alike .visible .parameters)), q .0) (bound-alike k (q .1))

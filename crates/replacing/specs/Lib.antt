@@ -8,10 +8,8 @@ pub mod VisibleAlike
 pub mod Alike
 pub mod OwnAlike
 pub mod ModulesAlike
-pub mod Changed
 -- the names of a normal form
 pub mod NamesFrom
-pub mod ReplacedNames
 -- the proof, and texts that meet the premises
 pub mod Replaced
 pub mod ReplacedInstance

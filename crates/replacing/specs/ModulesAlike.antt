@@ -1,37 +1,42 @@
 -- Evaluating respects a change of names that keeps different names different and makes no renaming harder, and does not mind the order of
--- items: module by module in text order, with normal forms that are alike in both calls.
-use mathlib.Core.Path.{_≡_, refl, sym, ap, ap₂, subst, _∙_}
-use Prim.Native.Nat.{ℕ, suc, _+_}
+-- items: module by module in text order, with normal forms that are alike in both calls. So what is accepted stays so, after as many modules, with
+-- the normal form under that change (`changed`).
+use mathlib.Core.Path.{_≡_, ap, _∙_, refl, sym, ap₂, subst}
+use Prim.Native.Nat.{ℕ, _+_}
 use native.Mathlib.Omega.{arith}
-use mathlib.Core.Bool.{Bool, true, false, _||_}
+use mathlib.Core.List.{List, [], _∷_, map, Permᴰ·symm, _++_, map-append, List·Permᴰ·nil, List·Permᴰ·trans, Permᴰ·refl, Permᴰ·map, Permᴰ·append-right, Permᴰ·append-left}
+use mathlib.Core.Bool.{Bool, _||_}
 use mathlib.Core.Option.{Option, none, some, Option·map}
-use mathlib.Core.List.{List, [], _∷_, _++_, map, map-append, List·Permᴰ·nil, List·Permᴰ·trans, Permᴰ·refl, Permᴰ·symm, Permᴰ·map, Permᴰ·append-right, Permᴰ·append-left}
-use lib.ListN.{length}
-use Rattle.meaning.specs.Lists.{pick, any, each, repeated}
 use Rattle.meaning.specs.Names.{Name, same, member}
-use Rattle.meaning.specs.Numbers.{declared-twice, asked-absent}
-use Rattle.meaning.specs.Syntax.{Function, Signature, Parameter, Clause, renamed-by, bound-by, Import, Equation, Module, variables-of}
-use Rattle.meaning.specs.Origins.{ResolvedEquation, Item, one-equation}
-use Rattle.meaning.specs.Normal.{Visible, Normal, nothing-visible, nothing-hidden, empty, sort-names, unite-hidden, unite}
+use Rattle.meaning.specs.Numbers.{accepted, declared-twice}
+use Rattle.meaning.specs.Syntax.{Equation, Module, Function, Signature, Parameter, Clause, renamed-by, bound-by, Import, variables-of}
+use Rattle.meaning.specs.Normal.{Normal, Visible, nothing-visible, nothing-hidden, empty, sort-names, unite-hidden, unite}
 use Rattle.meaning.specs.Written.{in-order}
-use Rattle.meaning.specs.Checks.{lone, Outcome, fine, stop, _>>=_, _>>_, unless, consistent, Size, size, add-sizes, room, total-room, checked}
+use Rattle.meaning.specs.Reached.{Placed, reached, normalised, normalise, Ended, refused-at, total-of, module-names}
+use Rattle.meaning.specs.OrderLaws.{Every, Rearranged, rearranged-every, rearranged-member}
+use Rattle.meaning.specs.Lists.{pick, any, each, repeated}
+use Rattle.meaning.specs.Origins.{ResolvedEquation, Item, one-equation}
+use Rattle.meaning.specs.Checks.{Outcome, fine, stop, _>>=_, _>>_, unless, consistent, Size, size, add-sizes, room, total-room, checked}
 use Rattle.meaning.specs.Own.{own-visible, own-hidden-items, constants}
 use Rattle.meaning.specs.Typing.{made-equation, typed-equations}
 use Rattle.meaning.specs.Evaluate.{Evaluated, clause-names, import-names, named-by, names-right, same-function, name-of-function, once-in, once-in-parameters, declared-once, normal-of, clause, clauses, expressions, united, imported, seen-sorts, joined-visible, own-checks, own-equations, joined-hidden, joined-own, evaluate}
-use Rattle.meaning.specs.Reached.{wanted, Placed, reached-among, reached, Ended, normalised, refused-at, end-or, total-of, in-turn, module-names, normalise, short-or-blank}
-use Rattle.meaning.specs.OrderLaws.{Every, Rearranged, rearranged-every, rearranged-member}
 use Rattle.meaning.specs.Mirror.{then-fine, bind-fine, unless-fine, fine-same}
+use Rattle.promises.specs.ListingLaws.{every-so}
+use Rattle.promises.specs.SameListing.{SameNormal}
+use Rattle.promises.specs.SoundEvaluation.{PlainModule, call-accepted, Whole, empty-whole, Accepted, evaluated-accepted}
+use Rattle.promises.specs.AcceptedForms.{accepted-one-order, same-ordered}
 use Rattle.promises.specs.Demand.{InTurn}
 use Rattle.promises.specs.Told.{SoundVisible}
-use Rattle.promises.specs.Sound.{Gives, every-union}
-use Rattle.promises.specs.SoundEvaluation.{WholeEnv, PlainModule, Accepted, evaluated-accepted}
-use Rattle.promises.specs.AcceptedForms.{same-ordered}
-use Rattle.replacing.specs.Changing.{re-function, re-signature, re-parameter, re-clause, re-import, re-module, re-item, re-equation}
-use Rattle.replacing.specs.Exchanging.{map-map, pick-map, any-map, agree-map, member-kept}
+use Rattle.promises.specs.TwoCalls.{pick-both, went-on, in-turn-so, in-turn-each, every-first, in-turn-map, PlacedAlike, reached-alike, module-names-alike, evaluated, Beside, Goes, Ends, freed-here, normalise-two, one-on, reached-such}
+use Rattle.promises.specs.Sound.{Gives, every-any, every-union}
+use Rattle.promises.specs.Members.{member-append}
+use Rattle.replacing.specs.Changing.{re-module, re-visible, re-hidden, re-normal, re-function, re-signature, re-parameter, re-clause, re-import, re-item, re-equation}
+use Rattle.replacing.specs.Alike.{Alike, Both, Follows, size-alike, room-alike, equations-union-alike, union-follows, Easier, rename-alike, bind-alike}
+use Rattle.replacing.specs.Exchanging.{pick-map, any-map, agree-map, member-kept}
 use Rattle.replacing.specs.Reordering.{Tagged}
 use Rattle.replacing.specs.VisibleAlike.{Like, like, like-none, consistent-clear, once-rearranged, clear-one, AlikeVisible, member-alike, sort-names-alike, consistent-alike, items-union-alike}
-use Rattle.replacing.specs.Alike.{Alike, Both, Follows, size-alike, room-alike, equations-union-alike, union-follows, Easier, rename-alike, bind-alike}
-use Rattle.replacing.specs.OwnAlike.{member-append, each-map, variables-kept, own-visible-alike, own-hidden-kept, available-kept, constants-alike, variables-right, equations-kept, finds-alike}
+use Rattle.replacing.specs.OwnAlike.{each-map, variables-kept, own-visible-alike, own-hidden-kept, available-kept, constants-alike, variables-right, equations-kept, finds-alike}
+use lib.ListN.{getD}
 
 -- ---- lists
 
@@ -55,14 +60,10 @@ module _ (τ : Name → Name) (keeps : (v w : Name) → same (τ v) (τ w) ≡ s
   abbrev Leads : Normal → Outcome Normal → Type 0
   Leads k o = Follows τ keeps tags k o
 
-  pub record EvaluatedAlike (e e′ : Evaluated) : Type 0 where
-    pub name : e .name ≡ e′ .name
-    pub both : Twin (e .normal) (e′ .normal)
-
   abbrev pub EnvAlike : List Evaluated → List Evaluated → Type 0
-  EnvAlike env env′ = InTurn EvaluatedAlike env env′
+  EnvAlike env env′ = InTurn (Beside Twin) env env′
 
-  empty-both : Twin empty empty
+  pub empty-both : Twin empty empty
   unfolding empty nothing-visible nothing-hidden
   empty-both = record {
     alike = record { visible = record { parameters = List·Permᴰ·nil; items = like-none _ }; hidden-items = like-none _; equations = like-none _ };
@@ -72,17 +73,12 @@ module _ (τ : Name → Name) (keeps : (v w : Name) → same (τ v) (τ w) ≡ s
   }
 
   normal-of-alike : (env env′ : List Evaluated) → EnvAlike env env′ → (w : Name) → Twin (normal-of env w) (normal-of env′ w)
-  unfolding normal-of pick
+  unfolding normal-of
   normal-of-alike [] [] h w = empty-both
   normal-of-alike [] (e′ ∷ es′) h w = absurd h
   normal-of-alike (e ∷ es) [] h w = absurd h
   normal-of-alike (e ∷ es) (e′ ∷ es′) h w =
-      subst (λ (x : Name). Twin (normal-of (e ∷ es) w) (pick (same w x) (e′ .normal) (normal-of es′ w))) (h .0 .name)
-      (go (same w (e .name)) (normal-of-alike es es′ (h .1) w))
-    where
-      go : (b : Bool) → Twin (normal-of es w) (normal-of es′ w) → Twin (pick b (e .normal) (normal-of es w)) (pick b (e′ .normal) (normal-of es′ w))
-      go true k = h .0 .both
-      go false k = k
+      rw (h .0 .name) (pick-both Twin (same w (e′ .name)) _ _ _ _ (h .0 .normal) (normal-of-alike es es′ (h .1) w))
 
   -- ---- import expressions
 
@@ -304,14 +300,6 @@ module _ (τ : Name → Name) (keeps : (v w : Name) → same (τ v) (τ w) ≡ s
 
   -- ---- one module
 
-  name-kept : (m : Module) → re-module τ m .name ≡ m .name
-  unfolding re-module
-  name-kept m = refl
-
-  imports-kept : (m : Module) → re-module τ m .imports ≡ map (re-import τ) (m .imports)
-  unfolding re-module
-  imports-kept m = refl
-
   each-same : {A B C : Type 0} (g : A → B) (f : B → List C) (f′ : A → List C) → ((x : A) → f (g x) ≡ f′ x) → (xs : List A)
       → each f (map g xs) ≡ each f′ xs
   unfolding each
@@ -357,16 +345,10 @@ module _ (τ : Name → Name) (keeps : (v w : Name) → same (τ v) (τ w) ≡ s
       → once-in-parameters seen (map (re-parameter τ) ps) ≡ fine tt
   unfolding once-in-parameters re-parameter _>>_ pick
   once-in-parameters-kept seen [] e = refl
-  once-in-parameters-kept seen (p ∷ ps) e = go (member (p .name) seen) e (once-in-parameters-kept (p .name ∷ seen) ps)
-    where
-      go : (b : Bool) → pick b (stop declared-twice (lone (p .name))) (once-in (p .signature) >> once-in-parameters (p .name ∷ seen) ps) ≡ fine tt
-          → (once-in-parameters (p .name ∷ seen) ps ≡ fine tt → once-in-parameters (p .name ∷ seen) (map (re-parameter τ) ps) ≡ fine tt)
-          → pick b (stop declared-twice (lone (p .name)))
-          (once-in (re-signature τ (p .signature)) >> once-in-parameters (p .name ∷ seen) (map (re-parameter τ) ps)) ≡ fine tt
-      go true q i = let z : _≡_ {A = ℕ} 0 1 = cc in absurd (omega arith)
-      go false q i =
-          let a = then-fine (once-in (p .signature)) _ tt q in
-          rw (once-in-kept (p .signature) (a .0)) (i (a .1))
+  once-in-parameters-kept seen (p ∷ ps) e =
+      let q = went-on (member (p .name) seen) _ _ _ tt e in
+      let a = then-fine (once-in (p .signature)) _ tt (q .1) in
+      rw (q .0, once-in-kept (p .signature) (a .0)) (once-in-parameters-kept (p .name ∷ seen) ps (a .1))
 
   declared-once-kept : (m : Module) → declared-once m ≡ fine tt → declared-once (re-module τ m) ≡ fine tt
   unfolding declared-once re-module _>>_
@@ -387,7 +369,7 @@ module _ (τ : Name → Name) (keeps : (v w : Name) → same (τ v) (τ w) ≡ s
   evaluate-alike : (declared earlier : List Name) (home : ℕ) (total : Size) (env env′ : List Evaluated) → EnvAlike env env′ → (m : Module)
       → EasyModule m → HasTags tags home 0 (m .equations) → (k : Normal) → evaluate declared earlier home total env m ≡ fine k
       → Every SoundVisible (k .visible .items) → Leads k (evaluate declared earlier home total env′ (re-module τ m))
-  unfolding evaluate
+  unfolding evaluate re-module
   evaluate-alike declared earlier home total env env′ h m easy t k e sound =
       let a = then-fine (names-right declared earlier (named-by m)) _ k e in
       let c = then-fine (declared-once m) _ k (a .1) in
@@ -396,112 +378,136 @@ module _ (τ : Name → Name) (keeps : (v w : Name) → same (τ v) (τ w) ≡ s
       let s = joined-own-alike (r .2) m home total t k (f .2) sound in (
         s .0,
         evaluates-so declared earlier home total env′ (re-module τ m) (r .0) (s .0) (ap (names-right declared earlier) (named-by-kept m) ∙ a .0)
-            (declared-once-kept m (c .0)) (ap (imported env′) (imports-kept m) ∙ r .1) (s .1),
+            (declared-once-kept m (c .0)) (r .1) (s .1),
         s .2,
       )
 
   -- ---- all modules in turn
 
-  unfoldable pub re-placed : Placed → Placed
-  re-placed x = record { self = re-module τ (x .self); number = x .number; earlier = x .earlier }
-
-  module-names-kept : (ms : List Module) → module-names (map (re-module τ) ms) ≡ module-names ms
-  unfolding module-names re-module
-  module-names-kept ms = map-map (re-module τ) (λ (m : Module). m .name) ms
-
-  wanted-kept : (asked : Name) (ms : List Module) → wanted asked (map (re-module τ) ms) ≡ wanted asked ms
-  unfolding wanted
-  wanted-kept asked [] = refl
-  wanted-kept asked (m ∷ ms) =
-      let later = wanted-kept asked ms in
-      λ i. pick (member (name-kept m i) (later i)) (named-by-kept m i ++ later i) (later i)
-
-  reached-kept : (asked : Name) (k : ℕ) (earlier : List Name) (ms : List Module)
-      → reached-among asked k earlier (map (re-module τ) ms) ≡ map re-placed (reached-among asked k earlier ms)
-  unfolding reached-among re-placed
-  reached-kept asked k earlier [] = refl
-  reached-kept asked k earlier (m ∷ ms) =
-      (λ i. pick (member (name-kept m i) (wanted-kept asked ms i))
-      (record { self = re-module τ m; number = k; earlier = earlier } ∷ reached-among asked (k + 1) (name-kept m i ∷ earlier) (map (re-module τ) ms))
-      (reached-among asked (k + 1) (name-kept m i ∷ earlier) (map (re-module τ) ms)))
-      ∙ (λ i. pick (member (m .name) (wanted asked ms))
-      (record { self = re-module τ m; number = k; earlier = earlier } ∷ reached-kept asked (k + 1) (m .name ∷ earlier) ms i)
-      (reached-kept asked (k + 1) (m .name ∷ earlier) ms i))
-      ∙ pick-map (map re-placed) (member (m .name) (wanted asked ms))
-      (record { self = m; number = k; earlier = earlier } ∷ reached-among asked (k + 1) (m .name ∷ earlier) ms)
-      (reached-among asked (k + 1) (m .name ∷ earlier) ms)
-
-  totals-kept : (env env′ : List Evaluated) → EnvAlike env env′ → total-of env′ ≡ total-of env
+  totals-kept : (env env′ : List Evaluated) → EnvAlike env env′ → total-of env ≡ total-of env′
   unfolding total-of
   totals-kept [] [] h = refl
   totals-kept [] (e′ ∷ es′) h = absurd h
   totals-kept (e ∷ es) [] h = absurd h
-  totals-kept (e ∷ es) (e′ ∷ es′) h = ap₂ add-sizes (size-alike τ keeps tags (h .0 .both .alike)) (totals-kept es es′ (h .1))
-
-  counts-kept : (env env′ : List Evaluated) → EnvAlike env env′ → length env′ ≡ length env
-  counts-kept [] [] h = refl
-  counts-kept [] (e′ ∷ es′) h = absurd h
-  counts-kept (e ∷ es) [] h = absurd h
-  counts-kept (e ∷ es) (e′ ∷ es′) h = ap suc (counts-kept es es′ (h .1))
+  totals-kept (e ∷ es) (e′ ∷ es′) h = ap₂ add-sizes (sym (size-alike τ keeps tags (h .0 .normal .alike))) (totals-kept es es′ (h .1))
 
   pub record GoodPlaced (x : Placed) : Type 0 where
     pub plain : PlainModule (x .self)
     pub easy : EasyModule (x .self)
     pub has-tags : HasTags tags (x .number) 0 (x .self .equations)
 
+  abbrev Changed : Module → Module → Type 0
+  Changed m m′ = re-module τ m ≡ m′
+
+  called : (m m′ : Module) → Changed m m′ → m .name ≡ m′ .name
+  unfolding re-module
+  called m m′ r = ap (λ (x : Module). x .name) r
+
+  naming : (m m′ : Module) → Changed m m′ → (w : Name) → member w (named-by m) ≡ member w (named-by m′)
+  naming m m′ r w = ap (member w) (sym (named-by-kept m) ∙ ap named-by r)
+
+  abbrev WholeTwin : Normal → Normal → Type 0
+  WholeTwin n n′ = Twin n n′ × Whole n
+
+  abbrev ChangedPlaced : Placed → Placed → Type 0
+  ChangedPlaced x x′ = PlacedAlike Changed x x′ × (GoodPlaced x × Unit {0})
+
+  evaluated-alike : (declared : List Name) (env env′ : List Evaluated) → InTurn (Beside WholeTwin) env env′ → (x x′ : Placed) → ChangedPlaced x x′
+      → Goes WholeTwin (Unit {0}) (evaluated declared env x) (evaluated declared env′ x′)
+  evaluated-alike declared env env′ h x x′ p =
+      subst (Goes WholeTwin (Unit {0}) (evaluated declared env x))
+      (λ i. evaluate declared (p .0 .earlier i) (p .0 .number i) (totals-kept env env′ twins i) env′ (p .0 .self i))
+      (go (evaluated declared env x) refl
+      (evaluated-accepted declared (x .earlier) (x .number) (total-of env) env (x .self) (p .1 .0 .plain)
+      (every-first _ _ (λ e e′ b. b .normal .1) env env′ h)))
+    where
+      twins : EnvAlike env env′
+      twins = in-turn-so _ _ (λ e e′ b. record { name = b .name; normal = b .normal .0 }) env env′ h
+
+      other : Outcome Normal
+      other = evaluate declared (x .earlier) (x .number) (total-of env) env′ (re-module τ (x .self))
+
+      go : (o : Outcome Normal) → evaluated declared env x ≡ o → Gives Accepted o → Goes WholeTwin (Unit {0}) o other
+      go (stop k w) q a = freed-here WholeTwin (Unit {0}) k w other tt
+      go (fine k) q a =
+          let r =
+          evaluate-alike declared (x .earlier) (x .number) (total-of env) env env′ twins (x .self) (p .1 .0 .easy) (p .1 .0 .has-tags) k q
+          (a .whole .sound .visible) in
+          subst (Goes WholeTwin (Unit {0}) (fine k)) (sym (r .1)) (r .2, a .whole)
+
   abbrev pub EndsAlike : ℕ → Normal → Ended → Type 0
   EndsAlike count n r = (n′ : Normal) × (r ≡ normalised count n′) × Twin n n′
 
-  in-turn-alike : (declared : List Name) (env env′ : List Evaluated) → EnvAlike env env′ → WholeEnv env → (last last′ : Normal) → Twin last last′
-      → (xs : List Placed) → Every GoodPlaced xs → (count : ℕ) (n : Normal) → in-turn declared env last xs ≡ normalised count n
-      → EndsAlike count n (in-turn declared env′ last′ (map re-placed xs))
-  unfolding in-turn end-or re-placed
-  in-turn-alike declared env env′ h w last last′ b [] g count n e =
-      (last′, ap (λ (c : ℕ). normalised c last′) (counts-kept env env′ h ∙ counts-same e), subst (λ (x : Normal). Twin x last′) (last-same e) b)
-    where
-      counts-same : normalised (length env) last ≡ normalised count n → length env ≡ count
-      counts-same e = cc
-
-      last-same : normalised (length env) last ≡ normalised count n → last ≡ n
-      last-same e = cc
-  in-turn-alike declared env env′ h w last last′ b (x ∷ xs) g count n e =
-      go (evaluate declared (x .earlier) (x .number) (total-of env) env (x .self)) refl e
-      (evaluated-accepted declared (x .earlier) (x .number) (total-of env) env (x .self) (g .0 .plain) w)
-      (λ k k′ t a. in-turn-alike declared _ _
-      (record { name = sym (name-kept (x .self)); both = t }, h) (a .whole, w) k k′ t xs (g .1) count n)
-    where
-      more : Normal → Ended
-      more k = in-turn declared (record { name = x .self .name; normal = k } ∷ env) k xs
-
-      more′ : Normal → Ended
-      more′ k =
-          in-turn declared (record { name = re-module τ (x .self) .name; normal = k } ∷ env′) k (map re-placed xs)
-
-      go : (o : Outcome Normal) → evaluate declared (x .earlier) (x .number) (total-of env) env (x .self) ≡ o
-          → end-or (length env + 1) (x .self .name) more o ≡ normalised count n → Gives Accepted o
-          → ((k k′ : Normal) → Twin k k′ → Accepted k → more k ≡ normalised count n → EndsAlike count n (more′ k′))
-          → EndsAlike count n
-          (end-or (length env′ + 1) (re-module τ (x .self) .name) more′
-          (evaluate declared (x .earlier) (x .number) (total-of env′) env′ (re-module τ (x .self))))
-      go (stop k v) q e a i = let z : _≡_ {A = ℕ} 0 1 = cc in absurd (omega arith)
-      go (fine k) q e a i =
-          let r =
-          evaluate-alike declared (x .earlier) (x .number) (total-of env) env env′ h (x .self) (g .0 .easy) (g .0 .has-tags) k q
-          (a .whole .sound .visible) in
-          rw (totals-kept env env′ h, r .1) (i k (r .0) (r .2) a e)
-
   pub normalise-alike : (asked : Name) (ms : List Module) → Every GoodPlaced (reached asked ms) → (count : ℕ) (n : Normal)
       → normalise asked ms ≡ normalised count n → EndsAlike count n (normalise asked (map (re-module τ) ms))
-  unfolding normalise reached pick
   normalise-alike asked ms g count n e =
-      rw (module-names-kept ms, reached-kept asked 0 [] ms)
-      (go (member asked (module-names ms)) e)
+      let ms′ = map (re-module τ) ms in
+      let changed = in-turn-map Changed (re-module τ) (λ m. refl) ms in
+      go (normalise asked ms′) (subst (λ (r : Ended). Ends WholeTwin (Unit {0}) r (normalise asked ms′)) e
+      (normalise-two WholeTwin (Unit {0}) ChangedPlaced (λ x x′ p. called _ _ (p .0 .self)) (module-names ms) (evaluated-alike (module-names ms))
+      asked ms ms′ refl (sym (module-names-alike Changed called naming ms ms′ changed))
+      (in-turn-each (PlacedAlike Changed) GoodPlaced (λ x. Unit {0}) (reached asked ms) (reached asked ms′)
+      (reached-alike Changed called naming asked ms ms′ changed) g (every-any (reached asked ms′))) (empty-both, empty-whole)))
     where
-      go : (b : Bool)
-          → pick b (in-turn (module-names ms) [] empty (reached asked ms)) (refused-at asked-absent 0 asked (lone (short-or-blank asked)))
-          ≡ normalised count n
-          → EndsAlike count n
-          (pick b (in-turn (module-names ms) [] empty (map re-placed (reached-among asked 0 [] ms)))
-          (refused-at asked-absent 0 asked (lone (short-or-blank asked))))
-      go true q = in-turn-alike (module-names ms) [] [] tt tt empty empty empty-both (reached-among asked 0 [] ms) g count n q
-      go false q = let z : _≡_ {A = ℕ} 0 1 = cc in absurd (omega arith)
+      go : (r : Ended) → Ends WholeTwin (Unit {0}) (normalised count n) r → EndsAlike count n r
+      go (normalised c k) h = (k, ap (λ (c : ℕ). normalised c k) (sym (h .0)), h .1 .0)
+      go (refused-at j c m w) h = absurd h
+
+-- ---- the tags of a text's equations
+
+abbrev tags-in : List Equation → List Name
+tags-in es = map (λ (e : Equation). e .tag) es
+
+abbrev equations-in : List Module → ℕ → List Equation
+equations-in ms home = getD (map (λ (m : Module). m .equations) ms) home []
+
+-- the tag of the equation at a position of a module
+pub tags-of : List Module → ℕ → ℕ → Name
+tags-of ms home at = getD (tags-in (equations-in ms home)) at []
+
+had-tags : (tags : ℕ → ℕ → Name) (home at : ℕ) (es : List Equation) → ((j : ℕ) → tags home (at + j) ≡ getD (tags-in es) j []) → HasTags tags home at es
+had-tags tags home at [] h = tt
+had-tags tags home at (r ∷ rs) h =
+    let n = one-on (tags home) (λ j. getD (tags-in (r ∷ rs)) j []) at h in (n .0, had-tags tags home (at + 1) rs (n .1))
+
+every-both : {A : Type 0} (P Q : A → Type 0) (xs : List A) → Every P xs → Every Q xs → Every (λ x. P x × Q x) xs
+every-both P Q [] h k = tt
+every-both P Q (x ∷ xs) h k = ((h .0, k .0), every-both P Q xs (h .1) (k .1))
+
+-- ---- the theorem
+
+turned : (τ : Name → Name) (keeps : (v w : Name) → same (τ v) (τ w) ≡ same v w) (tags : ℕ → ℕ → Name) (n n′ : Normal)
+    → Alike τ keeps tags n n′ → SameNormal n′ (re-normal τ n)
+unfolding re-normal re-visible re-hidden
+turned τ keeps tags n n′ a = record {
+  parameters = Permᴰ·symm (a .visible .parameters);
+  items = Permᴰ·symm (a .visible .items .arranged);
+  hidden-items = Permᴰ·symm (a .hidden-items .arranged);
+  equations = Permᴰ·symm (a .equations .arranged);
+}
+
+pub good-placed : (τ : Name → Name) (keeps : (v w : Name) → same (τ v) (τ w) ≡ same v w) (asked : Name) (ms : List Module)
+    → Every PlainModule ms → Every (EasyModule τ keeps (tags-of ms)) ms → Every (GoodPlaced τ keeps (tags-of ms)) (reached asked ms)
+unfolding reached tags-of
+good-placed τ keeps asked ms plain easy =
+    every-so _ (GoodPlaced τ keeps (tags-of ms)) (reached asked ms) (λ x h. record {
+      plain = h .0 .0;
+      easy = h .0 .1;
+      has-tags = had-tags (tags-of ms) (x .number) 0 (x .self .equations) (λ j.
+          ap₂ (λ (es : List Equation) (k : ℕ). getD (tags-in es) k []) (h .1) (from-none j));
+    })
+    (reached-such (λ m. PlainModule m × EasyModule τ keeps (tags-of ms) m) (λ (m : Module). m .equations) [] (equations-in ms) asked 0 [] ms
+    (every-both PlainModule (EasyModule τ keeps (tags-of ms)) ms plain easy) (λ j. ap (equations-in ms) (from-none j)))
+  where
+    from-none : (j : ℕ) → 0 + j ≡ j
+    from-none j = omega arith
+
+pub changed : (τ : Name → Name) (keeps : (v w : Name) → same (τ v) (τ w) ≡ same v w) (asked : Name) (ms : List Module)
+    → Every PlainModule ms → Every PlainModule (map (re-module τ) ms) → Every (EasyModule τ keeps (tags-of ms)) ms
+    → (count : ℕ) (n : Normal) → normalise asked ms ≡ normalised count n
+    → normalise asked (map (re-module τ) ms) ≡ normalised count (in-order (re-normal τ n))
+changed τ keeps asked ms plain plain′ easy count n e =
+    let tags = tags-of ms in
+    let t = normalise-alike τ keeps tags asked ms (good-placed τ keeps asked ms plain easy) count n e in
+    let accepted = call-accepted asked (map (re-module τ) ms) count (t .0) plain′ (t .1) in
+    t .1 ∙ ap (normalised count) (accepted-one-order (t .0) (re-normal τ n) (accepted .normal) (turned τ keeps tags n (t .0) (t .2 .alike)))

@@ -24,6 +24,7 @@ use Rattle.replacing.specs.Changing.{re-function, re-signature, re-param
 use Rattle.replacing.specs.Exchanging.{map-map, map-twice, pick-map, any-map, first-map, member-kept, sort-kept, sorts-kept, called-kept}
 use Rattle.replacing.specs.Reordering.{first-image}
 use Rattle.replacing.specs.VisibleAlike.{consistent-clear, Like, like, member-map-from, AlikeVisible, keep-alike, names-alike}
+use Rattle.promises.specs.Members.{member-append}
 
 -- ---- lists
 
@@ -53,16 +54,6 @@ first-append p (x ∷ xs) ys = ap (λ (r : Option _). pick (p x) (some x) r) (fi
     go : (b : Bool) → pick b (some x) (or-else (first p xs) (first p ys)) ≡ or-else (pick b (some x) (first p xs)) (first p ys)
     go true = refl
     go false = refl
-
-pub member-append : (w : Name) (xs ys : List Name) → member w (xs ++ ys) ≡ (member w xs || member w ys)
-unfolding member pick
-member-append w [] ys = refl
-member-append w (x ∷ xs) ys = go (same w x) (member-append w xs ys)
-  where
-    go : (b : Bool) → member w (xs ++ ys) ≡ (member w xs || member w ys)
-        → pick b true (member w (xs ++ ys)) ≡ (pick b true (member w xs) || member w ys)
-    go true h = refl
-    go false h = h
 
 module _ (τ : Name → Name) (keeps : (v w : Name) → same (τ v) (τ w) ≡ same v w) where
   unfoldable pub re-variable : Variable → Variable

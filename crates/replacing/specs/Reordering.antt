@@ -2,17 +2,20 @@
 use mathlib.Core.Path.{_≡_, refl, sym, ap, ap₂, subst, _∙_}
 use Prim.Native.Nat.{ℕ, _+_}
 use native.Mathlib.Omega.{arith}
-use mathlib.Core.Bool.{Bool, true, false, not, _&&_, _||_, true≢false, false≢true}
-use mathlib.Core.Option.{none, some, Option·map}
+use mathlib.Core.Bool.{Bool, true, false, not, _&&_, _||_, false≢true}
+use mathlib.Core.Option.{none, some, Option·map, Option}
 use mathlib.Core.List.{List, [], _∷_, _++_, map, append-assoc, List·Memᴰ, List·Memᴰ·head, List·Memᴰ·tail, List·Permᴰ·nil, List·Permᴰ·cons, List·Permᴰ·swap, List·Permᴰ·trans, Permᴰ·refl, Permᴰ·symm, Permᴰ·append-right, Permᴰ·append-left}
 use lib.Dec.{eqb}
-use borrow.Author.Tests.{eqb-true, eq-eqb}
 use Rattle.meaning.specs.Lists.{pick, any, first, agree, sum, union}
 use Rattle.meaning.specs.Names.{Name, same, by-name}
-use Rattle.meaning.specs.Origins.{Section, export-section, hidden-section, parameter-section, same-origin, same-sort, FunctionType, same-type, Head, visible-head, hidden-head, same-head, ResolvedTerm, var, app, ResolvedTerms, none-left, _and-then_, same-term, same-terms, ResolvedSides, same-sides, ResolvedEquation, Shape, sort-shape, function-shape, variable-shape, same-shape, is-sort, is-function, Item, in-parameter, one-item, one-equation}
+use Rattle.meaning.specs.Origins.{Section, export-section, hidden-section, parameter-section, same-sort, FunctionType, same-type, Head, visible-head, hidden-head, same-head, ResolvedTerm, var, app, ResolvedTerms, none-left, _and-then_, same-term, same-terms, ResolvedSides, same-sides, ResolvedEquation, Shape, sort-shape, function-shape, variable-shape, same-shape, is-sort, is-function, Item, in-parameter, one-item, one-equation}
 use Rattle.meaning.specs.Checks.{at-odds, least-at-odds, other-origin, sorts-clash, functions-clash, other-output, in-one-parameter, both-in-one, overloaded}
 use Rattle.meaning.specs.OrderLaws.{Every, Pairwise, Rearranged, rearranged-every, rearranged-member, sorted-rearranged, pairwise-rearranged, same-self, same-equal}
-use Rattle.promises.specs.ListingLaws.{both-true, section-self, origin-equal, origin-self, shape-equal, shape-self, sort-equal, sort-self, agree-equal, agree-self}
+use Rattle.promises.specs.ListingLaws.{both-true, section-self, origin-equal, origin-self, shape-equal, shape-self, sort-equal, sort-self, agree-self, type-equal}
+use Rattle.promises.specs.Deciding.{Decides, numbers-decided, names-decided, lists-decided, symmetric, both-decided, by-parts}
+use Rattle.promises.specs.Members.{both-true as both-passed}
+use Rattle.promises.specs.TwoCalls.{pick-both}
+use Rattle.replacing.specs.Exchanging.{pick-map}
 
 -- ---- tests
 
@@ -44,14 +47,10 @@ module _ {A : Type 0} where
       → Option·map f (first p xs) ≡ Option·map f (first p ys)
   unfolding first pick
   first-image f p List·Permᴰ·nil one = refl
-  first-image {B} f p (List·Permᴰ·cons {a = a} {b = b} {l₁ = xs} {l₂ = ys} e d) one =
-      go (p a) (first-image f p d (λ u v m k. one u v (List·Memᴰ·tail m) (List·Memᴰ·tail k)))
+  first-image f p (List·Permᴰ·cons {a = a} {l₂ = ys} e d) one =
+      pick-both (λ (o o′ : Option A). Option·map f o ≡ Option·map f o′) (p a) _ _ _ _ refl
+      (first-image f p d (λ u v m k. one u v (List·Memᴰ·tail m) (List·Memᴰ·tail k)))
       ∙ (λ i. Option·map f (pick (p (e i)) (some (e i)) (first p ys)))
-    where
-      go : (x : Bool) → Option·map f (first p xs) ≡ Option·map f (first p ys)
-          → Option·map f (pick x (some a) (first p xs)) ≡ Option·map f (pick x (some a) (first p ys))
-      go true h = refl
-      go false h = h
   first-image f p (List·Permᴰ·swap {a = a} {b = b} {l = l} e g) one =
       go (p a) (p b) refl refl ∙ (λ i. Option·map f (pick (p (g i)) (some (g i)) (pick (p (e i)) (some (e i)) (first p l))))
     where
@@ -65,17 +64,10 @@ module _ {A : Type 0} where
       first-image f p d one
       ∙ first-image f p d′ (λ a b m k. one a b (rearranged-member (Permᴰ·symm d) m) (rearranged-member (Permᴰ·symm d) k))
 
--- ---- tests of being the same
-
-pub test-symmetric : {A : Type 0} (e : A → A → Bool) → ((a b : A) → e a b ≡ true → a ≡ b) → ((a : A) → e a a ≡ true) → (a b : A)
-    → e a b ≡ e b a
-test-symmetric {A} e equal self a b = go (e a b) (e b a) refl refl
-  where
-    go : (x y : Bool) → e a b ≡ x → e b a ≡ y → x ≡ y
-    go true true q r = refl
-    go true false q r = absurd (true≢false (sym (self b) ∙ ap (λ (z : A). e b z) (sym (equal a b q)) ∙ r))
-    go false true q r = absurd (true≢false (sym (self a) ∙ ap (λ (z : A). e a z) (sym (equal b a r)) ∙ q))
-    go false false q r = refl
+  any-append : (p : A → Bool) (xs ys : List A) → any p (xs ++ ys) ≡ (any p xs || any p ys)
+  unfolding any
+  any-append p [] ys = refl
+  any-append p (x ∷ xs) ys = ap (pick (p x) true) (any-append p xs ys) ∙ pick-map (λ (b : Bool). b || any p ys) (p x) true (any p xs)
 
 -- ---- unions, where what the test finds the same are one, as far as they pass P
 
@@ -85,35 +77,13 @@ module _ {A : Type 0} (e : A → A → Bool) (symmetric : (a b : A) → e a b �
   unfolding union pick
   union-left-rearranged [] d = d
   union-left-rearranged (y ∷ ys) {xs} {xs′} d =
-      subst (λ (c : Bool). Rearranged (union e xs (y ∷ ys)) (pick c (union e xs′ ys) (union e (xs′ ++ (y ∷ [])) ys))) (any-rearranged (e y) d)
-      (go (any (e y) xs) (union-left-rearranged ys d) (union-left-rearranged ys (Permᴰ·append-right (y ∷ []) d)))
-    where
-      go : (c : Bool) → Rearranged (union e xs ys) (union e xs′ ys) → Rearranged (union e (xs ++ (y ∷ [])) ys) (union e (xs′ ++ (y ∷ [])) ys)
-          → Rearranged (pick c (union e xs ys) (union e (xs ++ (y ∷ [])) ys)) (pick c (union e xs′ ys) (union e (xs′ ++ (y ∷ [])) ys))
-      go true h k = h
-      go false h k = k
-
-  any-end : (p : A → Bool) (xs : List A) (y : A) → any p (xs ++ (y ∷ [])) ≡ (any p xs || p y)
-  unfolding any pick
-  any-end p [] y = go (p y)
-    where
-      go : (b : Bool) → pick b true false ≡ b
-      go true = refl
-      go false = refl
-  any-end p (x ∷ xs) y = go (p x) (any-end p xs y)
-    where
-      go : (b : Bool) → any p (xs ++ (y ∷ [])) ≡ (any p xs || p y) → pick b true (any p (xs ++ (y ∷ []))) ≡ (pick b true (any p xs) || p y)
-      go true h = refl
-      go false h = h
+      rw (any-rearranged (e y) d)
+      (pick-both Rearranged (any (e y) xs′) _ _ _ _ (union-left-rearranged ys d) (union-left-rearranged ys (Permᴰ·append-right (y ∷ []) d)))
 
   union-swapped : (y z : A) → P y → P z → (l xs : List A) → Rearranged (union e xs (y ∷ z ∷ l)) (union e xs (z ∷ y ∷ l))
-  unfolding union pick
+  unfolding union any pick
   union-swapped y z hy hz l xs =
-      subst (λ (c : Bool). Rearranged (union e xs (y ∷ z ∷ l)) (pick (any (e z) xs) (union e xs (y ∷ l)) (pick c (union e (xs ++ (z ∷ [])) l) (union e ((xs ++ (z ∷ [])) ++ (y ∷ [])) l))))
-      (sym (any-end (e y) xs z))
-      (subst (λ (c : Bool). Rearranged (pick (any (e y) xs) (union e xs (z ∷ l)) (pick c (union e (xs ++ (y ∷ [])) l) (union e ((xs ++ (y ∷ [])) ++ (z ∷ [])) l)))
-      (pick (any (e z) xs) (union e xs (y ∷ l)) (pick (any (e y) xs || e y z) (union e (xs ++ (z ∷ [])) l) (union e ((xs ++ (z ∷ [])) ++ (y ∷ [])) l))))
-      (sym (any-end (e z) xs y)) (go (any (e y) xs) (any (e z) xs) (e y z) (e z y) refl (symmetric y z)))
+      rw (any-append (e z) xs (y ∷ []), any-append (e y) xs (z ∷ []), symmetric z y) (go (any (e y) xs) (any (e z) xs) (e y z) refl)
     where
       both-new : Rearranged ((xs ++ (y ∷ [])) ++ (z ∷ [])) ((xs ++ (z ∷ [])) ++ (y ∷ []))
       both-new =
@@ -121,31 +91,21 @@ module _ {A : Type 0} (e : A → A → Bool) (symmetric : (a b : A) → e a b �
           (subst (λ (r : List A). Rearranged (xs ++ (y ∷ z ∷ [])) r) (sym (append-assoc xs (z ∷ []) (y ∷ [])))
           (Permᴰ·append-left xs (List·Permᴰ·swap refl refl)))
 
-      one-new : y ≡ z → Rearranged (union e (xs ++ (y ∷ [])) l) (union e (xs ++ (z ∷ [])) l)
-      one-new q = union-left-rearranged l (Permᴰ·append-left xs (List·Permᴰ·cons q List·Permᴰ·nil))
-
-      go : (b c s t : Bool) → e y z ≡ s → s ≡ t
-          → Rearranged (pick b (pick c (union e xs l) (union e (xs ++ (z ∷ [])) l)) (pick (c || t) (union e (xs ++ (y ∷ [])) l) (union e ((xs ++ (y ∷ [])) ++ (z ∷ [])) l)))
-          (pick c (pick b (union e xs l) (union e (xs ++ (y ∷ [])) l)) (pick (b || s) (union e (xs ++ (z ∷ [])) l) (union e ((xs ++ (z ∷ [])) ++ (y ∷ [])) l)))
-      go true true s t q r = Permᴰ·refl _
-      go true false s t q r = Permᴰ·refl _
-      go false true s t q r = Permᴰ·refl _
-      go false false true true q r = one-new (equal y z hy hz q)
-      go false false true false q r = absurd (true≢false r)
-      go false false false true q r = absurd (false≢true r)
-      go false false false false q r = union-left-rearranged l both-new
+      go : (b c s : Bool) → e y z ≡ s
+          → Rearranged (pick b (pick c (union e xs l) (union e (xs ++ (z ∷ [])) l)) (pick (c || pick s true false) (union e (xs ++ (y ∷ [])) l) (union e ((xs ++ (y ∷ [])) ++ (z ∷ [])) l)))
+          (pick c (pick b (union e xs l) (union e (xs ++ (y ∷ [])) l)) (pick (b || pick s true false) (union e (xs ++ (z ∷ [])) l) (union e ((xs ++ (z ∷ [])) ++ (y ∷ [])) l)))
+      go true true s q = Permᴰ·refl _
+      go true false s q = Permᴰ·refl _
+      go false true s q = Permᴰ·refl _
+      go false false true q = union-left-rearranged l (Permᴰ·append-left xs (List·Permᴰ·cons (equal y z hy hz q) List·Permᴰ·nil))
+      go false false false q = union-left-rearranged l both-new
 
   union-right-rearranged : {ys ys′ : List A} → Rearranged ys ys′ → Every P ys → (xs : List A) → Rearranged (union e xs ys) (union e xs ys′)
   unfolding union pick
   union-right-rearranged List·Permᴰ·nil h xs = Permᴰ·refl xs
   union-right-rearranged (List·Permᴰ·cons {a = a} {b = b} {l₁ = l} {l₂ = m} q d) h xs =
       subst (λ (x : A). Rearranged (union e xs (a ∷ l)) (union e xs (x ∷ m))) q
-      (go (any (e a) xs) (union-right-rearranged d (h .1) xs) (union-right-rearranged d (h .1) (xs ++ (a ∷ []))))
-    where
-      go : (c : Bool) → Rearranged (union e xs l) (union e xs m) → Rearranged (union e (xs ++ (a ∷ [])) l) (union e (xs ++ (a ∷ [])) m)
-          → Rearranged (pick c (union e xs l) (union e (xs ++ (a ∷ [])) l)) (pick c (union e xs m) (union e (xs ++ (a ∷ [])) m))
-      go true h k = h
-      go false h k = k
+      (pick-both Rearranged (any (e a) xs) _ _ _ _ (union-right-rearranged d (h .1) xs) (union-right-rearranged d (h .1) (xs ++ (a ∷ []))))
   union-right-rearranged (List·Permᴰ·swap {a = a} {b = b} {a′ = a′} {b′ = b′} {l = l} q r) h xs =
       subst (λ (x : A). Rearranged (union e xs (a ∷ b ∷ l)) (union e xs (x ∷ b′ ∷ l))) r
       (subst (λ (x : A). Rearranged (union e xs (a ∷ b ∷ l)) (union e xs (b ∷ x ∷ l))) q (union-swapped a b (h .0) (h .1 .0) l xs))
@@ -165,14 +125,17 @@ and-swapped false true = refl
 and-swapped false false = refl
 
 pub names-symmetric : (v w : Name) → same v w ≡ same w v
-names-symmetric = test-symmetric same same-equal same-self
+names-symmetric = symmetric names-decided
+
+sort-decided : Decides same-sort
+sort-decided = record { self = sort-self; equal = sort-equal }
+
+shape-decided : Decides same-shape
+shape-decided = record { self = shape-self; equal = shape-equal }
 
 origins-symmetric : (a b : Item) → other-origin a b ≡ other-origin b a
 unfolding other-origin
-origins-symmetric a b = ap not (test-symmetric same-origin origin-equal origin-self (a .origin) (b .origin))
-
-shapes-symmetric : (s t : Shape) → same-shape s t ≡ same-shape t s
-shapes-symmetric = test-symmetric same-shape shape-equal shape-self
+origins-symmetric a b = ap not (symmetric (record { self = origin-self; equal = origin-equal }) (a .origin) (b .origin))
 
 pub sorts-clash-symmetric : (a b : Item) → sorts-clash a b ≡ sorts-clash b a
 unfolding sorts-clash
@@ -183,14 +146,8 @@ kind-symmetric : (s t : Shape) → (is-function s && same-shape s t) ≡ (is-fun
 kind-symmetric s t = go (same-shape s t) refl
   where
     go : (c : Bool) → same-shape s t ≡ c → (is-function s && same-shape s t) ≡ (is-function t && same-shape t s)
-    go true q = ap₂ (λ (x y : Bool). x && y) (ap is-function (shape-equal s t q)) (shapes-symmetric s t)
-    go false q = rw (sym (shapes-symmetric s t) ∙ q, q) (none (is-function s) (is-function t))
-      where
-        none : (x y : Bool) → (x && false) ≡ (y && false)
-        none true true = refl
-        none true false = refl
-        none false true = refl
-        none false false = refl
+    go true q = ap₂ (λ (x y : Bool). x && y) (ap is-function (shape-equal s t q)) (symmetric shape-decided s t)
+    go false q = rw (symmetric shape-decided t s, q) (and-swapped (is-function s) false ∙ and-swapped false (is-function t))
 
 pub functions-clash-symmetric : (a b : Item) → functions-clash a b ≡ functions-clash b a
 unfolding functions-clash
@@ -203,10 +160,7 @@ outputs-symmetric sort-shape (function-shape t) = refl
 outputs-symmetric sort-shape (variable-shape r) = refl
 outputs-symmetric (function-shape t) sort-shape = refl
 outputs-symmetric (function-shape t) (function-shape u) =
-    rw (
-      test-symmetric (agree same-sort) (agree-equal same-sort sort-equal) (agree-self same-sort sort-self) (t .inputs) (u .inputs),
-      test-symmetric same-sort sort-equal sort-self (t .output) (u .output),
-    )
+    rw (symmetric (lists-decided sort-decided) (t .inputs) (u .inputs), symmetric sort-decided (t .output) (u .output))
 outputs-symmetric (function-shape t) (variable-shape r) = refl
 outputs-symmetric (variable-shape s) sort-shape = refl
 outputs-symmetric (variable-shape s) (function-shape u) = refl
@@ -269,14 +223,6 @@ pub item-self : (a : Item) → one-item a a ≡ true
 unfolding one-item
 item-self a = rw (section-self (a .standing), same-self (a .name), shape-self (a .shape), origin-self (a .origin))
 
-type-equal : (a b : FunctionType) → same-type a b ≡ true → a ≡ b
-unfolding same-type
-type-equal a b e =
-    let r = both-true _ _ e in
-    let inputs = agree-equal same-sort sort-equal (a .inputs) (b .inputs) (r .0) in
-    let output = sort-equal (a .output) (b .output) (r .1) in
-    λ i. record { inputs = inputs i; output = output i }
-
 type-self : (a : FunctionType) → same-type a a ≡ true
 unfolding same-type
 type-self a = rw (agree-self same-sort sort-self (a .inputs), sort-self (a .output))
@@ -293,11 +239,6 @@ unfolding same-head
 head-self (visible-head f t) = rw (same-self f, type-self t)
 head-self (hidden-head o t) = rw (origin-self o, type-self t)
 
-both-picked : (b r : Bool) → pick b r false ≡ true → (b ≡ true) × (r ≡ true)
-unfolding pick
-both-picked true r e = (refl, e)
-both-picked false r e = absurd (false≢true e)
-
 mutual
   unfolding same-term
 
@@ -306,14 +247,14 @@ mutual
   term-equal (var o s) (app g ys) e = absurd (false≢true e)
   term-equal (app f xs) (var p t) e = absurd (false≢true e)
   term-equal (app f xs) (app g ys) e =
-      let r = both-picked (same-head f g) (same-terms xs ys) e in ap₂ app (head-equal f g (r .0)) (terms-equal xs ys (r .1))
+      let r = both-passed (same-head f g) (same-terms xs ys) e in ap₂ app (head-equal f g (r .0)) (terms-equal xs ys (r .1))
 
   terms-equal : (a b : ResolvedTerms) → same-terms a b ≡ true → a ≡ b
   terms-equal none-left none-left e = refl
   terms-equal none-left (y and-then ys) e = absurd (false≢true e)
   terms-equal (x and-then xs) none-left e = absurd (false≢true e)
   terms-equal (x and-then xs) (y and-then ys) e =
-      let r = both-picked (same-term x y) (same-terms xs ys) e in ap₂ _and-then_ (term-equal x y (r .0)) (terms-equal xs ys (r .1))
+      let r = both-passed (same-term x y) (same-terms xs ys) e in ap₂ _and-then_ (term-equal x y (r .0)) (terms-equal xs ys (r .1))
 
 mutual
   unfolding same-term pick
@@ -326,54 +267,39 @@ mutual
   terms-self none-left = refl
   terms-self (x and-then xs) = rw (term-self x) (terms-self xs)
 
-sides-equal : (a b : ResolvedSides) → same-sides a b ≡ true → a ≡ b
+sides-decided : Decides same-sides
 unfolding same-sides
-sides-equal a b e =
-    let r = both-true _ _ e in
-    let l = term-equal (a .left) (b .left) (r .0) in
-    let g = term-equal (a .right) (b .right) (r .1) in
-    λ i. record { left = l i; right = g i }
-
-sides-self : (a : ResolvedSides) → same-sides a a ≡ true
-unfolding same-sides
-sides-self a = rw (term-self (a .left), term-self (a .right))
+sides-decided =
+    by-parts (both-decided terms-decided terms-decided) (λ e. (e .left, e .right)) (λ p. record { left = p .0; right = p .1 }) (λ e. refl)
+  where
+    terms-decided : Decides same-term
+    terms-decided = record { self = term-self; equal = term-equal }
 
 -- an equation's tag is not compared: it is that of its module and position
 pub record Tagged (tags : ℕ → ℕ → Name) (e : ResolvedEquation) : Type 0 where
   pub tagged : tags (e .home) (e .position) ≡ e .tag
 
+abbrev Compared : Type 0
+Compared = ((ℕ × ℕ) × ResolvedSides) × List ResolvedSides
+
+abbrev compared : ResolvedEquation → Compared
+compared e = (((e .home, e .position), e .conclusion), e .conditions)
+
+compared-decided : Decides (λ (u v : Compared).
+    ((eqb (u .0 .0 .0) (v .0 .0 .0) && eqb (u .0 .0 .1) (v .0 .0 .1)) && same-sides (u .0 .1) (v .0 .1)) && agree same-sides (u .1) (v .1))
+compared-decided = both-decided (both-decided (both-decided numbers-decided numbers-decided) sides-decided) (lists-decided sides-decided)
+
 pub equation-equal : (tags : ℕ → ℕ → Name) (a b : ResolvedEquation) → Tagged tags a → Tagged tags b → one-equation a b ≡ true → a ≡ b
 unfolding one-equation
 equation-equal tags a b h k e =
-    let r = both-true _ _ e in
-    let s = both-true _ _ (r .0) in
-    let t = both-true _ _ (s .0) in
-    let homes = eqb-true (a .home) (b .home) (t .0) in
-    let positions = eqb-true (a .position) (b .position) (t .1) in
-    let tag : a .tag ≡ b .tag = sym (h .tagged) ∙ (λ i. tags (homes i) (positions i)) ∙ k .tagged in
-    let conclusions = sides-equal (a .conclusion) (b .conclusion) (s .1) in
-    let conditions = agree-equal same-sides sides-equal (a .conditions) (b .conditions) (r .1) in
-    λ i. record { home = homes i; position = positions i; tag = tag i; conclusion = conclusions i; conditions = conditions i }
+    let q = compared-decided .equal (compared a) (compared b) e in
+    let tag : a .tag ≡ b .tag = sym (h .tagged) ∙ (λ i. tags (q i .0 .0 .0) (q i .0 .0 .1)) ∙ k .tagged in
+    λ i. record { home = q i .0 .0 .0; position = q i .0 .0 .1; tag = tag i; conclusion = q i .0 .1; conditions = q i .1 }
 
 pub equation-self : (a : ResolvedEquation) → one-equation a a ≡ true
 unfolding one-equation
-equation-self a =
-    rw (
-      eq-eqb (a .home) (a .home) refl,
-      eq-eqb (a .position) (a .position) refl,
-      sides-self (a .conclusion),
-      agree-self same-sides sides-self (a .conditions),
-    )
-
-numbers-symmetric : (a b : ℕ) → eqb a b ≡ eqb b a
-numbers-symmetric = test-symmetric eqb eqb-true (λ a. eq-eqb a a refl)
+equation-self a = compared-decided .self (compared a)
 
 pub equations-symmetric : (a b : ResolvedEquation) → one-equation a b ≡ one-equation b a
 unfolding one-equation
-equations-symmetric a b =
-    rw (
-      numbers-symmetric (a .home) (b .home),
-      numbers-symmetric (a .position) (b .position),
-      test-symmetric same-sides sides-equal sides-self (a .conclusion) (b .conclusion),
-      test-symmetric (agree same-sides) (agree-equal same-sides sides-equal) (agree-self same-sides sides-self) (a .conditions) (b .conditions),
-    )
+equations-symmetric a b = symmetric compared-decided (compared a) (compared b)

@@ -1,42 +1,253 @@
--- The proof: two names that change places, of which the second is fresh; then the answer of a call.
-use mathlib.Core.Path.{_≡_, refl, sym, ap, subst, _∙_}
-use mathlib.Core.Logic.{_⊎_, inl, inr}
+-- The proof: two names that change places, of which the second is used nowhere, and so takes the first one's place in the modules and in what they
+-- evaluate to; then the answer of a call.
+use mathlib.Core.Path.{_≡_, refl, sym, ap, ap₂, _∙_, subst}
 use Prim.Native.Nat.{ℕ, _≤_}
+use mathlib.Core.Bool.{false, Bool, true, true≢false}
+use mathlib.Core.List.{List, [], _∷_, _++_, map}
+use mathlib.Core.Logic.{_⊎_, inl, inr}
 use native.Mathlib.Omega.{arith}
-use mathlib.Core.Bool.{Bool, true, false, _||_, true≢false}
-use mathlib.Core.List.{List, [], _∷_, _++_}
 use lib.Dec.{leb}
 use borrow.Author.Tests.{leb-false, le-ltb}
 use lib.ListN.{length}
 use Rattle.meaning.specs.Lists.{pick, each}
-use Rattle.meaning.specs.Names.{Name, same, is-operator, member}
-use Rattle.meaning.specs.Numbers.{memory-size, accepted, lent-short}
-use Rattle.meaning.specs.Syntax.{Parameter, Pair, Clause, renamed-by, bound-by, Import, VariableGroup, Module}
-use Rattle.meaning.specs.Origins.{Shape, sort-shape, function-shape, variable-shape}
+use Rattle.meaning.specs.Names.{Name, same, member, is-operator}
+use Rattle.meaning.specs.Syntax.{Function, Signature, Parameter, Pair, Clause, renamed-by, bound-by, Import, VariableGroup, Term, node, Terms, no-terms, _then_, Sides, Equation, Module}
+use Rattle.meaning.specs.Origins.{Declared, declared-sort, declared-function, declared-variable, Origin, Sort, visible-sort, hidden-sort, FunctionType, Head, visible-head, hidden-head, ResolvedTerm, var, app, ResolvedTerms, none-left, _and-then_, ResolvedSides, ResolvedEquation, Shape, sort-shape, function-shape, variable-shape, Item}
 use Rattle.meaning.specs.Normal.{Normal}
+use Rattle.meaning.specs.Reached.{normalised, normalise, Ended, refused-at}
+use Rattle.meaning.specs.OrderLaws.{Every, same-equal, same-self}
+use Rattle.meaning.specs.Numbers.{memory-size, accepted, lent-short}
 use Rattle.meaning.specs.Written.{in-order}
 use Rattle.meaning.specs.Clauses.{arguments-fit, may-name}
 use Rattle.meaning.specs.Checks.{lone}
-use Rattle.meaning.specs.Reached.{Ended, normalised, refused-at, normalise}
 use Rattle.meaning.specs.Texts.{Texts}
 use Rattle.meaning.specs.Listing.{lines-text, listing-lines}
 use Rattle.meaning.specs.Answer.{Answer, refusal, of-ended, of-read, within, answer}
-use Rattle.meaning.specs.OrderLaws.{Every, same-equal, same-self}
-use Rattle.promises.specs.Demand.{ReadAs}
+use Rattle.laws.specs.Walk.{ClauseNames}
 use Rattle.promises.specs.ListingLaws.{every-so}
+use Rattle.promises.specs.Members.{refuted, found-first, found-later}
+use Rattle.promises.specs.Public.{map-agree}
+use Rattle.promises.specs.Demand.{ReadAs}
 use Rattle.promises.specs.Proof.{Short, answer-ended}
 use Rattle.promises.specs.SoundEvaluation.{PlainModule}
 use Rattle.promises.specs.PlainText.{read-plain}
 use Rattle.promises.specs.Counts.{refused-from-six}
-use Rattle.replacing.specs.Changing.{re-type, re-sort, re-shape, signature-names, pair-names, clause-pairs, import-pairs, equation-names, names-used}
-use Rattle.replacing.specs.Replacing.{Replacement, renewed, Accepts, TooShort, SameApart, ReplacedAnswer}
-use Rattle.replacing.specs.NamesFrom.{split-each}
-use Rattle.replacing.specs.ReplacedNames.{exchange, exchange-replaces, exchange-replaces-normal}
-use Rattle.replacing.specs.Exchanging.{map-length}
+use Rattle.replacing.specs.NamesFrom.{DeclaredOf, SortOf, TypeOf, ShapeOf, ItemOf, HeadOf, TermOf, TermsOf, SidesOf, EquationOf, NormalOf, split, split-each, module-of, names-from}
 use Rattle.replacing.specs.Reordering.{names-symmetric}
-use Rattle.replacing.specs.OwnAlike.{member-append}
-use Rattle.replacing.specs.ModulesAlike.{EasyClause, EasyImport, EasyModule}
-use Rattle.replacing.specs.Changed.{tags-of, changed}
+use Rattle.replacing.specs.Changing.{re-function, re-signature, re-parameter, re-pair, re-clause, re-import, re-group, re-raw, re-raws, re-raw-sides, re-raw-equation, re-module, function-names, signature-names, pair-names, clause-pairs, import-pairs, term-names, terms-names, sides-names, equation-names, names-used, re-declared, re-origin, re-sort, re-type, re-shape, re-item, re-head, re-term, re-terms, re-sides, re-equation, re-visible, re-hidden, re-normal}
+use Rattle.replacing.specs.Replacing.{replace, Replacement, renewed, Accepts, TooShort, SameApart, ReplacedAnswer}
+use Rattle.replacing.specs.Exchanging.{map-length}
+use Rattle.replacing.specs.ModulesAlike.{EasyClause, EasyModule, tags-of, changed}
+
+unfoldable pub exchange : Name → Name → Name → Name
+exchange o f w = pick (same w o) f (pick (same w f) o w)
+
+-- ---- two changes of names that agree on the names of a module
+
+module _ (τ τ′ : Name → Name) where
+  abbrev Agree : List Name → Type 0
+  Agree ws = Every (λ w. τ w ≡ τ′ w) ws
+
+  all-agree : {A : Type 0} (names : A → List Name) (re re′ : A → A) → ((x : A) → Agree (names x) → re x ≡ re′ x) → (xs : List A)
+      → Agree (each names xs) → map re xs ≡ map re′ xs
+  all-agree names re re′ h xs k = map-agree re re′ xs (every-so _ _ xs h (split-each _ names xs k))
+
+  function-agrees : (f : Function) → Agree (function-names f) → re-function τ f ≡ re-function τ′ f
+  unfolding function-names re-function
+  function-agrees f h = λ i. record { name = h .0 i; inputs = map-agree τ τ′ (f .inputs) (h .1 .1) i; output = h .1 .0 i }
+
+  signature-agrees : (s : Signature) → Agree (signature-names s) → re-signature τ s ≡ re-signature τ′ s
+  unfolding signature-names re-signature
+  signature-agrees s h =
+      let r = split _ (s .sorts) (each function-names (s .functions)) h in
+      let functions = all-agree function-names (re-function τ) (re-function τ′) function-agrees (s .functions) (r .1) in
+      λ i. record { sorts = map-agree τ τ′ (s .sorts) (r .0) i; functions = functions i }
+
+  pairs-agree : (rs : List Pair) → Every (λ r. Agree (pair-names r)) rs → map (re-pair τ) rs ≡ map (re-pair τ′) rs
+  unfolding pair-names re-pair
+  pairs-agree rs h = map-agree (re-pair τ) (re-pair τ′) rs (every-so _ _ rs (λ r h i. record { old = h .0 i; new = h .1 .0 i }) h)
+
+  clause-agrees : (c : Clause) → Every (λ r. Agree (pair-names r)) (clause-pairs c) → re-clause τ c ≡ re-clause τ′ c
+  unfolding clause-pairs re-clause
+  clause-agrees (renamed-by rs) h = ap renamed-by (pairs-agree rs h)
+  clause-agrees (bound-by p rs m) h = ap (λ (xs : List Pair). bound-by p xs m) (pairs-agree rs h)
+
+  import-agrees : (i : Import) → Every (λ r. Agree (pair-names r)) (import-pairs i) → re-import τ i ≡ re-import τ′ i
+  unfolding import-pairs re-import
+  import-agrees i h =
+      let clauses =
+      map-agree (re-clause τ) (re-clause τ′) (i .clauses) (every-so _ _ (i .clauses) clause-agrees (split-each _ clause-pairs (i .clauses) h)) in
+      λ j. record { name = i .name; clauses = clauses j }
+
+  mutual
+    unfolding term-names re-raw
+
+    term-agrees : (t : Term) → Agree (term-names t) → re-raw τ t ≡ re-raw τ′ t
+    term-agrees (node f xs) h = ap₂ node (h .0) (terms-agree xs (h .1))
+
+    terms-agree : (ts : Terms) → Agree (terms-names ts) → re-raws τ ts ≡ re-raws τ′ ts
+    terms-agree no-terms h = refl
+    terms-agree (x then xs) h = let r = split _ (term-names x) (terms-names xs) h in ap₂ _then_ (term-agrees x (r .0)) (terms-agree xs (r .1))
+
+  sides-agree : (e : Sides) → Agree (sides-names e) → re-raw-sides τ e ≡ re-raw-sides τ′ e
+  unfolding sides-names re-raw-sides
+  sides-agree e h =
+      let r = split _ (term-names (e .left)) (term-names (e .right)) h in
+      λ i. record { left = term-agrees (e .left) (r .0) i; right = term-agrees (e .right) (r .1) i }
+
+  equation-agrees : (e : Equation) → Agree (equation-names e) → re-raw-equation τ e ≡ re-raw-equation τ′ e
+  unfolding equation-names re-raw-equation
+  equation-agrees e h =
+      let r = split _ (each sides-names (e .before)) (sides-names (e .conclusion) ++ each sides-names (e .after)) h in
+      let s = split _ (sides-names (e .conclusion)) (each sides-names (e .after)) (r .1) in
+      let all = all-agree sides-names (re-raw-sides τ) (re-raw-sides τ′) sides-agree in
+      λ i. record {
+        tag = e .tag;
+        before = all (e .before) (r .0) i;
+        conclusion = sides-agree (e .conclusion) (s .0) i;
+        after = all (e .after) (s .1) i;
+      }
+
+  module-agrees : (m : Module) → Agree (names-used m) → re-module τ m ≡ re-module τ′ m
+  unfolding names-used re-module re-parameter re-group
+  module-agrees m h =
+      let formal = each (λ (p : Parameter). signature-names (p .signature)) (m .parameters) in
+      let paired = each pair-names (each import-pairs (m .imports)) in
+      let grouped = each (λ (g : VariableGroup). g .sort ∷ g .names) (m .groups) in
+      let equated = each equation-names (m .equations) in
+      let a = split _ formal (signature-names (m .exports) ++ (paired ++ (signature-names (m .hidden) ++ (grouped ++ equated)))) h in
+      let b = split _ (signature-names (m .exports)) (paired ++ (signature-names (m .hidden) ++ (grouped ++ equated))) (a .1) in
+      let c = split _ paired (signature-names (m .hidden) ++ (grouped ++ equated)) (b .1) in
+      let d = split _ (signature-names (m .hidden)) (grouped ++ equated) (c .1) in
+      let e = split _ grouped equated (d .1) in
+      let parameters = all-agree (λ p. signature-names (p .signature)) (re-parameter τ) (re-parameter τ′)
+      (λ p h i. record { name = p .name; signature = signature-agrees (p .signature) h i }) (m .parameters) (a .0) in
+      let pairs = split-each _ import-pairs (m .imports) (split-each _ pair-names (each import-pairs (m .imports)) (c .0)) in
+      let groups = all-agree (λ g. g .sort ∷ g .names) (re-group τ) (re-group τ′)
+      (λ g h i. record { names = map-agree τ τ′ (g .names) (h .1) i; sort = h .0 i }) (m .groups) (e .0) in
+      let equations = all-agree equation-names (re-raw-equation τ) (re-raw-equation τ′) equation-agrees (m .equations) (e .1) in
+      λ i. record {
+        name = m .name;
+        parameters = parameters i;
+        exports = signature-agrees (m .exports) (b .0) i;
+        imports = map-agree (re-import τ) (re-import τ′) (m .imports) (every-so _ _ (m .imports) import-agrees pairs) i;
+        hidden = signature-agrees (m .hidden) (d .0) i;
+        groups = groups i;
+        equations = equations i;
+      }
+
+  modules-agree : (ms : List Module) → Agree (each names-used ms) → map (re-module τ) ms ≡ map (re-module τ′) ms
+  modules-agree = all-agree names-used (re-module τ) (re-module τ′) module-agrees
+
+  -- ---- and on those of a normal form
+
+  abbrev Agreed : Name → Type 0
+  Agreed w = τ w ≡ τ′ w
+
+  all-agreed : {A : Type 0} (Of : A → Type 0) (re re′ : A → A) → ((x : A) → Of x → re x ≡ re′ x) → (xs : List A) → Every Of xs → map re xs ≡ map re′ xs
+  all-agreed Of re re′ h xs k = map-agree re re′ xs (every-so Of _ xs h k)
+
+  declared-agrees : (d : Declared) → DeclaredOf Agreed d → re-declared τ d ≡ re-declared τ′ d
+  unfolding re-declared
+  declared-agrees (declared-sort a) h = ap declared-sort h
+  declared-agrees (declared-function f i o) h = λ j. declared-function (h .0 j) (map-agree τ τ′ i (h .1) j) (h .2 j)
+  declared-agrees (declared-variable v s) h = ap₂ declared-variable (h .0) (h .1)
+
+  origin-agrees : (o : Origin) → DeclaredOf Agreed (o .declared) → re-origin τ o ≡ re-origin τ′ o
+  unfolding re-origin
+  origin-agrees o h = λ i. record { home = o .home; section = o .section; declared = declared-agrees (o .declared) h i }
+
+  sort-agrees : (s : Sort) → SortOf Agreed s → re-sort τ s ≡ re-sort τ′ s
+  unfolding re-sort
+  sort-agrees (visible-sort a) h = ap visible-sort h
+  sort-agrees (hidden-sort o) h = ap hidden-sort (origin-agrees o h)
+
+  type-agrees : (t : FunctionType) → TypeOf Agreed t → re-type τ t ≡ re-type τ′ t
+  unfolding re-type
+  type-agrees t h =
+      λ i. record { inputs = all-agreed _ (re-sort τ) (re-sort τ′) sort-agrees (t .inputs) (h .0) i; output = sort-agrees (t .output) (h .1) i }
+
+  shape-agrees : (s : Shape) → ShapeOf Agreed s → re-shape τ s ≡ re-shape τ′ s
+  unfolding re-shape
+  shape-agrees sort-shape h = refl
+  shape-agrees (function-shape t) h = ap function-shape (type-agrees t h)
+  shape-agrees (variable-shape s) h = ap variable-shape (sort-agrees s h)
+
+  item-agrees : (i : Item) → ItemOf Agreed i → re-item τ i ≡ re-item τ′ i
+  unfolding re-item
+  item-agrees i h =
+      λ j. record { standing = i .standing; name = h .name j; shape = shape-agrees (i .shape) (h .shape) j; origin = origin-agrees (i .origin) (h .origin) j }
+
+  head-agrees : (f : Head) → HeadOf Agreed f → re-head τ f ≡ re-head τ′ f
+  unfolding re-head
+  head-agrees (visible-head f t) h = ap₂ visible-head (h .0) (type-agrees t (h .1))
+  head-agrees (hidden-head o t) h = ap₂ hidden-head (origin-agrees o (h .0)) (type-agrees t (h .1))
+
+  mutual
+    unfolding re-term
+
+    resolved-agrees : (t : ResolvedTerm) → TermOf Agreed t → re-term τ t ≡ re-term τ′ t
+    resolved-agrees (var o s) h = ap₂ var (origin-agrees o (h .0)) (sort-agrees s (h .1))
+    resolved-agrees (app f xs) h = ap₂ app (head-agrees f (h .0)) (all-resolved-agree xs (h .1))
+
+    all-resolved-agree : (ts : ResolvedTerms) → TermsOf Agreed ts → re-terms τ ts ≡ re-terms τ′ ts
+    all-resolved-agree none-left h = refl
+    all-resolved-agree (x and-then xs) h = ap₂ _and-then_ (resolved-agrees x (h .0)) (all-resolved-agree xs (h .1))
+
+  resolved-sides-agree : (e : ResolvedSides) → SidesOf Agreed e → re-sides τ e ≡ re-sides τ′ e
+  unfolding re-sides
+  resolved-sides-agree e h = λ i. record { left = resolved-agrees (e .left) (h .0) i; right = resolved-agrees (e .right) (h .1) i }
+
+  resolved-equation-agrees : (e : ResolvedEquation) → EquationOf Agreed e → re-equation τ e ≡ re-equation τ′ e
+  unfolding re-equation
+  resolved-equation-agrees e h =
+      let conditions = all-agreed _ (re-sides τ) (re-sides τ′) resolved-sides-agree (e .conditions) (h .1) in
+      λ i. record {
+        home = e .home;
+        position = e .position;
+        tag = e .tag;
+        conclusion = resolved-sides-agree (e .conclusion) (h .0) i;
+        conditions = conditions i;
+      }
+
+  normal-agrees : (n : Normal) → NormalOf Agreed n → re-normal τ n ≡ re-normal τ′ n
+  unfolding re-normal re-visible re-hidden
+  normal-agrees n h =
+      let items = all-agreed _ (re-item τ) (re-item τ′) item-agrees in
+      let equations = all-agreed _ (re-equation τ) (re-equation τ′) resolved-equation-agrees (n .hidden .equations) (h .equations) in
+      λ i. record {
+        visible = record { parameters = n .visible .parameters; items = items (n .visible .items) (h .visible) i };
+        hidden = record { items = items (n .hidden .items) (h .hidden) i; equations = equations i };
+      }
+
+-- ---- a fresh name
+
+abbrev Other : Name → Name → Type 0
+Other f w = same f w ≡ false
+
+all-other : (f : Name) (ws : List Name) → member f ws ≡ false → Every (Other f) ws
+unfolding member
+all-other f [] e = tt
+all-other f (w ∷ ws) e =
+    (refuted _ (λ q. sym (found-first (same f w) _ q) ∙ e), all-other f ws (refuted _ (λ q. sym (found-later (same f w) _ q) ∙ e)))
+
+module _ (o f : Name) where
+  replaces : (w : Name) → same f w ≡ false → exchange o f w ≡ replace o f w
+  unfolding exchange replace pick
+  replaces w e = rw (names-symmetric w f ∙ e)
+
+  all-replaced : (ws : List Name) → member f ws ≡ false → Every (λ w. exchange o f w ≡ replace o f w) ws
+  all-replaced ws e = every-so (Other f) _ ws replaces (all-other f ws e)
+
+  pub exchange-replaces : (ms : List Module) → member f (each names-used ms) ≡ false
+      → map (re-module (exchange o f)) ms ≡ map (re-module (replace o f)) ms
+  exchange-replaces ms e = modules-agree (exchange o f) (replace o f) ms (all-replaced (each names-used ms) e)
+
+  pub exchange-replaces-normal : (asked : Name) (ms : List Module) (count : ℕ) (n : Normal) → Every PlainModule ms → member f (each names-used ms) ≡ false
+      → normalise asked ms ≡ normalised count n → re-normal (exchange o f) n ≡ re-normal (replace o f) n
+  exchange-replaces-normal asked ms count n plain e q =
+      normal-agrees (exchange o f) (replace o f) n
+      (names-from (λ w. exchange o f w ≡ replace o f w) asked ms count n plain (all-replaced (each names-used ms) e) q)
 
 -- ---- two names that change places
 
@@ -90,53 +301,13 @@ module _ (o f : Name) where
 
 -- ---- a fresh name is in no pair
 
-or-none : (x y : Bool) → (x || y) ≡ false → (x ≡ false) × (y ≡ false)
-or-none true y e = absurd (true≢false e)
-or-none false y e = (refl, e)
-
-module _ (w : Name) where
-  not-in : (xs ys : List Name) → member w (xs ++ ys) ≡ false → (member w xs ≡ false) × (member w ys ≡ false)
-  not-in xs ys e = or-none _ _ (sym (member-append w xs ys) ∙ e)
-
-  not-in-each : {A : Type 0} (g : A → List Name) (xs : List A) → member w (each g xs) ≡ false → Every (λ x. member w (g x) ≡ false) xs
-  unfolding each
-  not-in-each g [] e = tt
-  not-in-each g (x ∷ xs) e = let r = not-in (g x) (each g xs) e in (r .0, not-in-each g xs (r .1))
-
-  pair-fresh : (r : Pair) → member w (pair-names r) ≡ false → same w (r .new) ≡ false
-  unfolding pair-names member pick
-  pair-fresh r e = go (same w (r .old)) (same w (r .new)) e
-    where
-      go : (b c : Bool) → pick b true (pick c true false) ≡ false → c ≡ false
-      go true c q = absurd (true≢false q)
-      go false true q = absurd (true≢false q)
-      go false false q = refl
-
-  pairs-fresh : (m : Module) → member w (names-used m) ≡ false → Every (λ i. Every (λ r. same w (r .new) ≡ false) (import-pairs i)) (m .imports)
-  unfolding names-used
-  pairs-fresh m e =
-      let formal = each (λ (p : Parameter). signature-names (p .signature)) (m .parameters) in
-      let paired = each pair-names (each import-pairs (m .imports)) in
-      let last =
-      signature-names (m .hidden) ++ (each (λ (g : VariableGroup). g .sort ∷ g .names) (m .groups) ++ each equation-names (m .equations)) in
-      let a = not-in formal (signature-names (m .exports) ++ (paired ++ last)) e in
-      let b = not-in (signature-names (m .exports)) (paired ++ last) (a .1) in
-      let c = not-in paired last (b .1) in
-      split-each (λ r. same w (r .new) ≡ false) import-pairs (m .imports)
-      (every-so _ _ (each import-pairs (m .imports)) pair-fresh (not-in-each pair-names (each import-pairs (m .imports)) (c .0)))
-
 module _ (o f : Name) (tags : ℕ → ℕ → Name) (plain : is-operator f ≡ false) where
-  clause-easy : (c : Clause) → Every (λ r. same f (r .new) ≡ false) (clause-pairs c) → EasyClause (exchange o f) (exchange-keeps o f) tags c
-  unfolding clause-pairs
+  clause-easy : (c : Clause) → ClauseNames (Other f) c → EasyClause (exchange o f) (exchange-keeps o f) tags c
   clause-easy (renamed-by rs) h = every-so _ _ rs (λ r q s. easier o f plain (r .new) q s) h
   clause-easy (bound-by p rs m) h = tt
 
-  import-easy : (i : Import) → Every (λ r. same f (r .new) ≡ false) (import-pairs i) → EasyImport (exchange o f) (exchange-keeps o f) tags i
-  unfolding import-pairs
-  import-easy i h = every-so _ _ (i .clauses) clause-easy (split-each (λ r. same f (r .new) ≡ false) clause-pairs (i .clauses) h)
-
-  module-easy : (m : Module) → member f (names-used m) ≡ false → EasyModule (exchange o f) (exchange-keeps o f) tags m
-  module-easy m e = every-so _ _ (m .imports) import-easy (pairs-fresh f m e)
+  module-easy : (m : Module) → Every (Other f) (names-used m) → EasyModule (exchange o f) (exchange-keeps o f) tags m
+  module-easy m h = every-so _ _ (m .imports) (λ i k. every-so _ _ (i .clauses) clause-easy k) (module-of (Other f) m h .imports)
 
 -- ---- the theorem
 
@@ -146,12 +317,14 @@ replacement operator plain texts texts′ ms r asked count n e =
     let τ = exchange operator plain in
     let keeps = exchange-keeps operator plain in
     let exchanged = exchange-replaces operator plain ms (r .fresh) in
-    let easy = every-so _ _ ms (module-easy operator plain (tags-of ms) (r .is-none)) (not-in-each plain names-used ms (r .fresh)) in
+    let easy =
+    every-so _ _ ms (module-easy operator plain (tags-of ms) (r .is-none))
+    (split-each (Other plain) names-used ms (all-other plain (each names-used ms) (r .fresh))) in
     let plain-before = read-plain texts ms (r .read-as .reads) in
     let plain-after = subst (Every PlainModule) (sym exchanged) (read-plain texts′ _ (r .read-as′ .reads)) in
     ap (normalise asked) (sym exchanged)
     ∙ changed τ keeps asked ms plain-before plain-after easy count n e
-    ∙ ap (λ (k : Normal). normalised count (in-order k)) (exchange-replaces-normal operator plain asked ms count n (r .fresh) e)
+    ∙ ap (λ (k : Normal). normalised count (in-order k)) (exchange-replaces-normal operator plain asked ms count n plain-before (r .fresh) e)
 
 -- ---- the answer
 

@@ -44,13 +44,11 @@ same-apart =
 
 -- ---- computed: the name stands behind `a` now, and the numbers of the hidden functions have changed places
 
-pub operator-listing : listing (answer memory-size program-output (bytes "M") with-operator) ≡ bytes "module=M\nsort=A\norigin=[X,export,sort,A]\nfunction=_*_:A#A->A\norigin=[X,export,function,_+_:A#A->A]\nfunction=_+_:A#A->A\norigin=[X,export,function,_+_:A#A->A]\nfunction=a:->A\norigin=[X,export,function,a:->A]\nhidden-sort={1}\norigin=[H,hidden,sort,B]\nhidden-function={2}:{1}#{1}->{1}\norigin=[H,hidden,function,_+_:B#B->B]\nhidden-function={3}:->{1}\norigin=[H,hidden,function,b:->B]\nhidden-function={4}:A->A\norigin=[S,hidden,function,d:T->T]\nhidden-function={5}:A->A\norigin=[X,hidden,function,-_:A->A]\nvariable={6}:A\norigin=[S,hidden,variable,t:->T]\nequation=[e] _*_({5}(a),a)=a\nequation=[e] _+_({5}(a),a)=a\nequation=[f] _*_(a,_*_(a,a))=a\nequation=[f] _+_(a,_+_(a,a))=a\nequation=[i] _+_({4}({6}),{6})={6}\nequation=[h] {2}({3},{3})={3}\nend=M\n"
-unfolding all-opened with-operator
-operator-listing = refl
-
-pub function-listing : listing (answer memory-size program-output (bytes "M") with-function) ≡ bytes "module=M\nsort=A\norigin=[X,export,sort,A]\nfunction=_*_:A#A->A\norigin=[X,export,function,plus:A#A->A]\nfunction=a:->A\norigin=[X,export,function,a:->A]\nfunction=plus:A#A->A\norigin=[X,export,function,plus:A#A->A]\nhidden-sort={1}\norigin=[H,hidden,sort,B]\nhidden-function={2}:->{1}\norigin=[H,hidden,function,b:->B]\nhidden-function={3}:{1}#{1}->{1}\norigin=[H,hidden,function,plus:B#B->B]\nhidden-function={4}:A->A\norigin=[S,hidden,function,d:T->T]\nhidden-function={5}:A->A\norigin=[X,hidden,function,-_:A->A]\nvariable={6}:A\norigin=[S,hidden,variable,t:->T]\nequation=[e] _*_({5}(a),a)=a\nequation=[e] plus({5}(a),a)=a\nequation=[f] _*_(a,_*_(a,a))=a\nequation=[f] plus(a,plus(a,a))=a\nequation=[i] plus({4}({6}),{6})={6}\nequation=[h] {3}({2},{2})={2}\nend=M\n"
-unfolding all-opened with-function
-function-listing = refl
+pub listings :
+    (listing (answer memory-size program-output (bytes "M") with-operator) ≡ bytes "module=M\nsort=A\norigin=[X,export,sort,A]\nfunction=_*_:A#A->A\norigin=[X,export,function,_+_:A#A->A]\nfunction=_+_:A#A->A\norigin=[X,export,function,_+_:A#A->A]\nfunction=a:->A\norigin=[X,export,function,a:->A]\nhidden-sort={1}\norigin=[H,hidden,sort,B]\nhidden-function={2}:{1}#{1}->{1}\norigin=[H,hidden,function,_+_:B#B->B]\nhidden-function={3}:->{1}\norigin=[H,hidden,function,b:->B]\nhidden-function={4}:A->A\norigin=[S,hidden,function,d:T->T]\nhidden-function={5}:A->A\norigin=[X,hidden,function,-_:A->A]\nvariable={6}:A\norigin=[S,hidden,variable,t:->T]\nequation=[e] _*_({5}(a),a)=a\nequation=[e] _+_({5}(a),a)=a\nequation=[f] _*_(a,_*_(a,a))=a\nequation=[f] _+_(a,_+_(a,a))=a\nequation=[i] _+_({4}({6}),{6})={6}\nequation=[h] {2}({3},{3})={3}\nend=M\n")
+    × (listing (answer memory-size program-output (bytes "M") with-function) ≡ bytes "module=M\nsort=A\norigin=[X,export,sort,A]\nfunction=_*_:A#A->A\norigin=[X,export,function,plus:A#A->A]\nfunction=a:->A\norigin=[X,export,function,a:->A]\nfunction=plus:A#A->A\norigin=[X,export,function,plus:A#A->A]\nhidden-sort={1}\norigin=[H,hidden,sort,B]\nhidden-function={2}:->{1}\norigin=[H,hidden,function,b:->B]\nhidden-function={3}:{1}#{1}->{1}\norigin=[H,hidden,function,plus:B#B->B]\nhidden-function={4}:A->A\norigin=[S,hidden,function,d:T->T]\nhidden-function={5}:A->A\norigin=[X,hidden,function,-_:A->A]\nvariable={6}:A\norigin=[S,hidden,variable,t:->T]\nequation=[e] _*_({5}(a),a)=a\nequation=[e] plus({5}(a),a)=a\nequation=[f] _*_(a,_*_(a,a))=a\nequation=[f] plus(a,plus(a,a))=a\nequation=[i] plus({4}({6}),{6})={6}\nequation=[h] {3}({2},{2})={2}\nend=M\n")
+unfolding all-opened with-operator with-function
+listings = (refl, refl)
 
 -- ---- why depth is among the sizes: operands in a row open no bracket, as calls they open one each
 

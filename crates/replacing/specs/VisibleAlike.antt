@@ -17,7 +17,8 @@ use Rattle.promises.specs.Sound.{compatible, every-any, union-left, union-right
 use Rattle.promises.specs.SameListing.{keep-rearranged, kept-member}
 use Rattle.replacing.specs.Changing.{re-origin, re-sort, re-type, re-shape, re-item}
 use Rattle.replacing.specs.Exchanging.{any-map, keep-map, first-map, member-kept, origin-kept, sort-kept, sorts-kept, shape-kept, is-sort-kept, is-function-kept, item-kept, called-kept, names-in-kept, items-united}
-use Rattle.replacing.specs.Reordering.{item-self, test-symmetric, any-rearranged, first-image, union-rearranged, names-symmetric, sorts-clash-symmetric, functions-clash-symmetric, overloaded-symmetric, least-at-odds-none, pairwise-map}
+use Rattle.replacing.specs.Reordering.{item-self, any-rearranged, first-image, union-rearranged, names-symmetric, sorts-clash-symmetric, functions-clash-symmetric, overloaded-symmetric, least-at-odds-none, pairwise-map}
+use Rattle.promises.specs.Deciding.{symmetric}
 
 -- ---- names among names, in whatever order
 
@@ -287,7 +288,7 @@ module _ (τ : Name → Name) (keeps : (v w : Name) → same (τ v) (τ w) ≡ s
       → Like (re-item τ) (union one-item xs ys) (union one-item xs′ ys′)
   items-union-alike {xs} {xs′} {ys} {ys′} d k =
       like (re-item τ) (union one-item xs ys) (items-united τ keeps xs ys)
-      (union-rearranged one-item (test-symmetric one-item item-equal item-self) (λ i. Unit {0}) (λ a b x y e. item-equal a b e) (d .arranged)
+      (union-rearranged one-item (symmetric (record { self = item-self; equal = item-equal })) (λ i. Unit {0}) (λ a b x y e. item-equal a b e) (d .arranged)
       (k .arranged) (every-any (map (re-item τ) ys)))
 
   pub unite-visible-alike : {a a′ b b′ : Visible} → AlikeVisible a a′ → AlikeVisible b b′ → OneOrigin (unite-visible a b .items)

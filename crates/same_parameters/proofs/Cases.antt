@@ -4,13 +4,13 @@ use Prim.Native.Nat.{ℕ, _+_, _-_, _*_, _/_, _%_, _≤_, _<_}
 use mathlib.Core.Bool.{Bool, true, false, not}
 use mathlib.Core.List.{List, _∷_}
 use native.Mathlib.Omega.{arith}
-use lib.Dec.{eqb, ltb}
+use lib.Dec.{ltb}
 use lib.ListN.{getD, take}
 use borrow.Author.Needs.{needs}
-use borrow.Author.Tests.{eq-eqb, ne-eqb, eqb-false, lt-ltb, le-ltb}
+use borrow.Author.Tests.{eq-eqb, ne-eqb, lt-ltb, le-ltb}
 use Rattle.meaning.specs.Lists.{pick, any, before, all-among}
 use Rattle.meaning.specs.Names.{Name, same}
-use Rattle.meaning.specs.Origins.{same-origin, FunctionType, sort-shape, function-shape, variable-shape, Item, in-parameter, one-item}
+use Rattle.meaning.specs.Origins.{same-origin, FunctionType, Shape, Item, in-parameter, one-item}
 use Rattle.meaning.specs.Normal.{Visible, origin-of, formals, same-slot, origins-agree, sort-agrees, shape-agrees, types-agree, same-formals, is-parameter-of}
 use Rattle.names.specs.Word.{name-of}
 use Rattle.tables.specs.declared.Row.{Row}
@@ -19,7 +19,9 @@ use Rattle.forms.specs.declared.Form.{Form}
 use Rattle.forms.specs.Forms.{slot-at, slots-at, items-at, visible-at}
 use Rattle.clauses.specs.Searches.{sort-called}
 use Rattle.clauses.specs.SortOrigins.{origin-among, origin-there, origin-nowhere}
-use Rattle.clauses.specs.Walks.{seek-start, seek-end, seek-again, seek-found, Finding, find-start, find-end, find-again, find-here, found-below, all-pass, inputs-pass, fitting-start, fitting-again, fitting-not, fitting-all, fitting-end}
+use Rattle.walks.specs.Shapes.{shape-function, by-kind}
+use Rattle.walks.specs.Rows.{Finding, find-start, find-again, nowhere, somewhere, found-below, seek-start, seek-end, seek-again, seek-found}
+use Rattle.clauses.specs.Walks.{all-pass, inputs-pass, fitting-start, fitting-again, fitting-not, fitting-all, fitting-end}
 use Rattle.same_parameters.specs.Formals.{missing, at-odds, none-missing, none-at-odds}
 
 -- ---- a row that stands in the parameter
@@ -54,38 +56,7 @@ module _ (text tape : List ℕ) (p : ℕ) (x : Row) (b : Bool) (e : b ≡ in-par
       pub missing-one : count ≤ at → true ≡ lost
       missing-one l = sym (sought ∙ ap not (le-ltb at count l))
 
-  module _ (u v : Visible) where
-    pub odds-elsewhere : b ≡ false → false ≡ at-odds (name-of text p) u v item
-    unfolding at-odds pick
-    odds-elsewhere h = rw (standing, h)
-
-    module _ (h : b ≡ true) (c : Bool) (f : c ≡ shape-agrees u v (shape-of text tape (x .kind) (x .sorts))) where
-      shaped : c ≡ shape-agrees u v (item .shape)
-      unfolding item-of
-      shaped = f
-
-      pub odds-not : c ≡ true → false ≡ at-odds (name-of text p) u v item
-      unfolding at-odds pick
-      odds-not q = rw (standing, h, ← shaped, q)
-
-      pub odds-one : c ≡ false → true ≡ at-odds (name-of text p) u v item
-      unfolding at-odds pick
-      odds-one q = rw (standing, h, ← shaped, q)
-
 -- ---- all rows: those before i do not pass the test
-
-module _ (test : Item → Bool) (text tape w : List ℕ) (b n i : ℕ) (inv : Finding test text tape w b n i) where
-  abbrev items : List Item
-  items = items-at text tape w b n
-
-  none-passes : n ≤ i → true ≡ not (any test items)
-  none-passes h =
-      let end = find-end test text tape w b n i h inv in
-      ap not (sym (le-ltb n n (omega arith)) ∙ found-below text tape w b n n test end)
-
-  one-passes : (y : Row) (r : Bool) → i < n → y ≡ row-at w (b + i * 16) → r ≡ test (item-of text tape y) → r ≡ true → false ≡ not (any test items)
-  one-passes y r h e f q =
-      let here = find-here test text tape w b n i y r h inv e f q in ap not (sym (lt-ltb i n h) ∙ found-below text tape w b n i test here)
 
 module _ (text tape w : List ℕ) (p : ℕ) (f g : Form) (i : ℕ) where
   abbrev name : Name
@@ -106,11 +77,11 @@ module _ (text tape w : List ℕ) (p : ℕ) (f g : Form) (i : ℕ) where
     among = none-missing name one other
 
     pub among-all : f .«visible_count» ≤ i → true ≡ all-among one-item (formals name one) (formals name other)
-    among-all h = none-passes test text tape w (f .visible) (f .«visible_count») i inv h ∙ among
+    among-all h = ap not (nowhere test text tape w (f .visible) (f .«visible_count») i h inv) ∙ among
 
     pub among-not : (y : Row) (r : Bool) → i < f .«visible_count» → y ≡ row-at w (f .visible + i * 16) → r ≡ test (item-of text tape y) → r ≡ true
         → false ≡ all-among one-item (formals name one) (formals name other)
-    among-not y r h e q z = one-passes test text tape w (f .visible) (f .«visible_count») i inv y r h e q z ∙ among
+    among-not y r h e q z = ap not (somewhere test text tape w (f .visible) (f .«visible_count») i y r h inv e q z) ∙ among
 
   module _ (inv : Finding (at-odds name one other) text tape w (f .visible) (f .«visible_count») i) where
     agreeing : not (any (at-odds name one other) (items-at text tape w (f .visible) (f .«visible_count»))) ≡ types-agree name one other
@@ -118,11 +89,11 @@ module _ (text tape w : List ℕ) (p : ℕ) (f g : Form) (i : ℕ) where
     agreeing = none-at-odds name one other
 
     pub types-all : f .«visible_count» ≤ i → true ≡ types-agree name one other
-    types-all h = none-passes (at-odds name one other) text tape w (f .visible) (f .«visible_count») i inv h ∙ agreeing
+    types-all h = ap not (nowhere (at-odds name one other) text tape w (f .visible) (f .«visible_count») i h inv) ∙ agreeing
 
     pub types-not : (y : Row) (r : Bool) → i < f .«visible_count» → y ≡ row-at w (f .visible + i * 16) → r ≡ at-odds name one other (item-of text tape y)
         → r ≡ true → false ≡ types-agree name one other
-    types-not y r h e q z = one-passes (at-odds name one other) text tape w (f .visible) (f .«visible_count») i inv y r h e q z ∙ agreeing
+    types-not y r h e q z = ap not (somewhere (at-odds name one other) text tape w (f .visible) (f .«visible_count») i y r h inv e q z) ∙ agreeing
 
 -- ---- the sort of one name in both
 
@@ -171,22 +142,14 @@ module _ (text tape : List ℕ) (u v : Visible) where
     type = type-of text tape (kind - 2) sorts
 
     pub shape-other : kind < 2 → true ≡ shape-agrees u v (shape-of text tape kind sorts)
-    unfolding shape-of shape-agrees type-of pick
-    shape-other h = go (eqb kind 0) refl (eqb kind 1) refl
-      where
-        go : (a : Bool) → eqb kind 0 ≡ a → (b : Bool) → eqb kind 1 ≡ b
-            → true ≡ shape-agrees u v (pick a sort-shape (pick b (variable-shape (type .output)) (function-shape type)))
-        go true e b f = refl
-        go false e true f = refl
-        go false e false f = let no-sort = eqb-false kind 0 e in let no-variable = eqb-false kind 1 f in absurd (omega arith)
+    unfolding shape-agrees
+    shape-other h =
+        by-kind text tape kind sorts (λ (s : Shape). true ≡ shape-agrees u v s) (λ e. refl) (λ e. refl) (λ l. absurd (omega (arith, h, l)))
 
     module _ (h : 2 ≤ kind) (b : Bool) (e : b ≡ sort-agrees u v (sort-of text tape (getD sorts 8 0))) where
       typed : shape-agrees u v (shape-of text tape kind sorts) ≡ all-pass (sort-agrees u v) (type .output ∷ type .inputs)
-      unfolding shape-of shape-agrees all-pass pick
-      typed =
-          let no-sort : kind ≡ 0 → ⊥ = λ q. omega (arith, h, q) in
-          let no-variable : kind ≡ 1 → ⊥ = λ q. omega (arith, h, q) in
-          rw (ne-eqb kind 0 no-sort, ne-eqb kind 1 no-variable)
+      unfolding shape-agrees all-pass
+      typed = rw (shape-function text tape kind sorts h)
 
       pub shape-output : b ≡ false → false ≡ shape-agrees u v (shape-of text tape kind sorts)
       unfolding all-pass type-of any pick
@@ -248,7 +211,7 @@ module _ (text tape w : List ℕ) (f : Form) (v : Visible) (q : ℕ) (b : Bool)
   unfolding is-parameter-of
   parameter-one p r h g k = rw (← there, h) (k ∙ ap (λ (a : Name). same-formals a (visible-at text tape w f) v) (named p g))
 
-pub ruleset rows = (missing-elsewhere, missing-not, missing-one, odds-elsewhere, odds-not, odds-one, needs)
+pub ruleset rows = (missing-elsewhere, missing-not, missing-one, needs)
 
 pub ruleset walks = (find-start, find-again, among-all, among-not, types-all, types-not, needs)
 

@@ -16,22 +16,6 @@ pub is-scratch : 1025672 ≡ scratch-start
 unfolding scratch-start
 is-scratch = refl
 
-pub is-placed : (f : Form) (c : ℕ) → record {
-  parameters = c;
-  «parameter_count» = f .«parameter_count»;
-  visible = c + f .«parameter_count» * 2;
-  «visible_count» = f .«visible_count»;
-  hidden = c + f .«parameter_count» * 2 + f .«visible_count» * 16;
-  «hidden_count» = f .«hidden_count»;
-  equations = c + f .«parameter_count» * 2 + f .«visible_count» * 16 + f .«hidden_count» * 16;
-  «equation_count» = f .«equation_count»;
-  nodes = c + f .«parameter_count» * 2 + f .«visible_count» * 16 + f .«hidden_count» * 16 + f .«equation_count» * 8;
-  «node_count» = f .«node_count»;
-}
-    ≡ place-form f c
-unfolding place-form
-is-placed f c = refl
-
 pub keep-there : (size t : ℕ) (f place : Form) (c scratch : ℕ) → place ≡ place-form f c → scratch ≡ scratch-start
     → KeepRoom size t f (place-form f c) scratch-start (order-place f scratch-start) → KeepRoom size t f place scratch (order-place f scratch)
 keep-there size t f place c scratch e d room = rw (e, d) room
@@ -44,4 +28,4 @@ pub row-written : (w w′ : List ℕ) (table k : ℕ) (f : Form) → table ≡ t
     → w′ ≡ sets w (table-start + k * 16) (form-words f)
 row-written w w′ table k f e put = rw (← e) put
 
-pub ruleset cases = (row-written, is-scratch, is-placed, keep-there, kept-there, space-small, keep-room, store-done, needs)
+pub ruleset cases = (row-written, is-scratch, keep-there, kept-there, space-small, keep-room, store-done, needs)

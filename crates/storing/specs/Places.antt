@@ -4,8 +4,7 @@ use Prim.Native.Nat.{ℕ, _+_, _*_, _≤_}
 use native.Mathlib.Omega.{arith}
 use Rattle.meaning.specs.Numbers.{module-limit, memory-size}
 use Rattle.forms.specs.declared.Form.{Form}
-use Rattle.forms.specs.declared.Block.{Block}
-use Rattle.forms.specs.Blocks.{BlockLaid, MadeThere}
+use Rattle.forms.specs.Blocks.{MadeThere}
 use Rattle.layout.specs.Layout.{block-at, joining-block, kept-start, table-start, Laid}
 use Rattle.ordering.specs.Nodes.{kept-form}
 use Rattle.ordering.specs.Kept.{KeepRoom, order-place}
@@ -37,18 +36,7 @@ placed-form f cursor = refl
 
 pub placed-between : (f : Form) (cursor : ℕ) → Between cursor (cursor + form-space f) (place-form f cursor)
 unfolding place-form
-placed-between f cursor = record {
-  parameters = omega arith;
-  visible = omega arith;
-  hidden = omega arith;
-  equations = omega arith;
-  nodes = omega arith;
-  parameters-end = omega arith;
-  visible-end = omega arith;
-  hidden-end = omega arith;
-  equations-end = omega arith;
-  nodes-end = omega arith;
-}
+placed-between f cursor = omega arith
 
 -- ---- notes and order table
 
@@ -81,22 +69,16 @@ pub record StoreRoom (size t k : ℕ) (f : Form) (cursor : ℕ) : Type 0 where
   pub space : cursor + form-space f ≤ table-start
   pub number : k ≤ module-limit
 
-block-ends : (size t : ℕ) (b : Block) (names rows hidden-rows sources : ℕ) → BlockLaid size t b names rows hidden-rows sources → b .low ≤ b .high
-block-ends size t b names rows hidden-rows sources l =
-    omega (arith, l .first, l .parameters, l .visible, l .hidden, l .equations, l .nodes, l .visible-notes, l .hidden-notes, l .order)
-
 joining-equations : 256 ≤ joining-block .«equation_room»
 unfolding joining-block block-at
 joining-equations = omega arith
 
 module _ (size t k : ℕ) (f : Form) (cursor : ℕ) (room : StoreRoom size t k f cursor) where
   joining-below : joining-block .high ≤ kept-start
-  joining-below =
-      let l = room .laid in
-      omega (arith, l .joining-first, l .first-second, l .second-kept, block-ends _ _ _ _ _ _ _ (l .first), block-ends _ _ _ _ _ _ _ (l .second))
+  joining-below = omega (arith, room .laid)
 
   pub tape-below : t ≤ kept-start
-  tape-below = omega (arith, room .laid .joining .tape, block-ends _ _ _ _ _ _ _ (room .laid .joining), joining-below)
+  tape-below = omega (arith, room .laid)
 
   made-here : Between (joining-block .low) (joining-block .high) f
   made-here =

@@ -16,14 +16,14 @@ use Rattle.forms.specs.Memory.{part, Kept}
 use Rattle.forms.specs.Forms.{Stands}
 use Rattle.forms.specs.Blocks.{Fits}
 use Rattle.forms.specs.FormLaws.{kept-sets, tape-same}
-use Rattle.forms.specs.Frames.{stands-kept}
+use Rattle.frames.specs.Changes.{still-stands}
 use Rattle.layout.specs.Layout.{table-start}
 use Rattle.keeping.specs.Keeping.{form-words, form-back}
 use Rattle.ordering.specs.Kept.{order-place}
 use Rattle.ordering.specs.Nodes.{Distinct}
 use Rattle.ordering.specs.Keeps.{Keeps}
-use Rattle.environment.specs.Environment.{Between, below-outside, kept-form, number-of, EnvStands}
-use Rattle.environment.specs.Growing.{TableBelow, Grown, RowThere, table-end, table-more, env-more}
+use Rattle.environment.specs.Environment.{Between, below-outside, kept-form, TableBelow, number-of, EnvStands}
+use Rattle.environment.specs.Growing.{Grown, RowThere, table-end, table-more, env-more}
 use Rattle.storing.specs.Places.{form-space, place-form, placed-form, placed-between, scratch-start, scratch-room, scratch-behind, StoreRoom, tape-below}
 
 -- the form f was stored as module k's, from the cursor c up to r: but for that, for the module's row and for what is behind the table all stays,
@@ -38,7 +38,7 @@ pub record Stored (text : List ℕ) (t k : ℕ) (f : Form) (c r : ℕ) (w w′ :
 
 placed-fits : (f : Form) (c : ℕ) → Fits f → Fits (place-form f c)
 unfolding place-form
-placed-fits f c x = record { parameters = x .parameters; items = x .items; equations = x .equations }
+placed-fits f c x = omega arith
 
 module _ (text : List ℕ) (t k : ℕ) (f : Form) (c r : ℕ) (g : Form) (w u w′ : List ℕ) (room : StoreRoom (length w) t k f c)
     (keeps : Keeps text t f (place-form f c) scratch-start g w u) (put : w′ ≡ sets u (table-start + k * 16) (form-words g)) (next : r ≡ c + form-space f) where
@@ -93,7 +93,7 @@ module _ (text : List ℕ) (t k : ℕ) (f : Form) (c r : ℕ) (g : Form) (w u w�
     tape = tape-same w w′ t size (λ i h l. below i (omega (arith, room .start, tape-below (length w) t k f c room)));
     stored = λ n stands distinct.
         subst (λ (h : Form). Stands text (part w′ 0 t) w′ h (in-order n)) (sym row-back)
-        (stands-kept text t u w′ b (b + 10) g (in-order n) (omega (arith, room .start, room .space, tape-below (length w) t k f c room)) written
+        (still-stands {t = t} (omega (arith, room .start, room .space, tape-below (length w) t k f c room)) written
         (below-outside b (b + 10) c (c + form-space f) g (omega (arith, room .space))
         (subst (Between c (c + form-space f)) (sym is-placed) (placed-between f c)))
         (keeps .meant n stands distinct));

@@ -4,7 +4,8 @@ use mathlib.Core.Bool.{Bool, true, false}
 use mathlib.Core.List.{List}
 use Rattle.meaning.specs.Lists.{each, agree}
 use Rattle.meaning.specs.Syntax.{Signature, Parameter, Import, Module}
-use Rattle.asking_again.specs.Same.{same-signature, same-parameter, same-import, same-module, Decides, signatures-decided, parameters-decided, imports-decided, modules-decided}
+use Rattle.promises.specs.Deciding.{Decides}
+use Rattle.asking_again.specs.Same.{same-signature, same-parameter, same-import, same-module, signatures-decided, parameters-decided, imports-decided, modules-decided}
 use Rattle.tape.specs.Tape.{Entry, flat-signature, flat-parameter, flat-import, flat-module}
 use Rattle.alike.specs.Alike.{same-entry}
 use Rattle.alike.specs.AlikeLaws.{runs-decided}

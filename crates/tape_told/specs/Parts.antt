@@ -7,9 +7,8 @@ use mathlib.Core.List.{List, [], _∷_, _++_, map}
 use lib.Dec.{eqb}
 use Rattle.meaning.specs.Lists.{pick, each}
 use Rattle.meaning.specs.Names.{Name}
-use Rattle.meaning.specs.OrderLaws.{Every}
-use Rattle.limits.specs.EveryLaws.{every-append, every-made}
 use Rattle.tape.specs.Tape.{Entry, entry}
+use Rattle.walks.specs.Flat.{All, all-map}
 
 -- the entries up to the first whose role fails
 unfoldable front : (ℕ → Bool) → List Entry → List Entry
@@ -27,8 +26,11 @@ but r s = not (eqb r s)
 
 -- ---- entries whose roles all pass, and entries of which the first, if any, fails
 
+abbrev pub Passing : (ℕ → Bool) → ℕ → Type 0
+Passing p r = p r ≡ true
+
 abbrev pub Passes : (ℕ → Bool) → List Entry → Type 0
-Passes p es = Every (λ e. p (e .role) ≡ true) es
+Passes p es = All (Passing p) es
 
 abbrev pub Ends : (ℕ → Bool) → List Entry → Type 0
 Ends p [] = Unit {0}
@@ -67,10 +69,7 @@ module _ (p : ℕ → Bool) where
   ends-names r h (n ∷ ns) = h
 
   pub passes-names : (r : ℕ) → p r ≡ true → (ns : List Name) → Passes p (map (entry r) ns)
-  passes-names r h ns = every-made (λ (e : Entry). p (e .role) ≡ true) (entry r) (λ n. h) ns
-
-  pub passes-append : (xs ys : List Entry) → Passes p xs → Passes p ys → Passes p (xs ++ ys)
-  passes-append xs ys h k = every-append (λ (e : Entry). p (e .role) ≡ true) xs ys h k
+  passes-names r h ns = all-map (Passing p) r h ns
 
 -- ---- one entry
 

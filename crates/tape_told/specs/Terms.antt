@@ -10,22 +10,11 @@ use borrow.Author.Tests.{eqb-true}
 use Rattle.meaning.specs.Lists.{pick, each}
 use Rattle.meaning.specs.Names.{Name, is-operator}
 use Rattle.meaning.specs.Syntax.{Term, node, Terms, no-terms, _then_, Sides, Equation}
-use Rattle.limits.specs.EveryLaws.{every-each}
 use Rattle.tape.specs.Tape.{Entry, entry, role-with, closing, flat-node, how-many, flat-term, flat-terms, flat-sides, flat-equation}
-use Rattle.tape_told.specs.Parts.{Passes, Ends, passes-append, cons-cut, entry-name, no-cons, other-role, but, blocks-told}
+use Rattle.walks.specs.Flat.{all-role, all-behind-tag}
+use Rattle.tape_told.specs.Parts.{Passing, Ends, cons-cut, entry-name, no-cons, other-role, but, blocks-told}
 
 -- ---- roles
-
--- a test that the four roles of a name in a term pass: with arguments it has one of three
-role-passes : (p : ℕ → Bool) → p 21 ≡ true → p 25 ≡ true → p 26 ≡ true → (f : Name) (n : ℕ) → p (role-with f n) ≡ true
-unfolding role-with pick
-role-passes p h k l f n = go (is-operator f) (eqb n 1) (eqb n 2)
-  where
-    go : (x y z : Bool) → p (pick x (pick y 25 (pick z 26 21)) 21) ≡ true
-    go true true z = k
-    go true false true = l
-    go true false false = h
-    go false y z = h
 
 -- where the arguments are not closed the role says how many there are
 role-count : (f : Name) (n m : ℕ) → role-with f n ≡ role-with f m → eqb (role-with f n) 21 ≡ false → n ≡ m
@@ -69,7 +58,7 @@ apart p (x ∷ xs) (y ∷ ys) e s q = other-role p y x ys xs s e (sym q)
 term-starts : (t : Term) → Starts begins-term (flat-term t)
 unfolding flat-term flat-node how-many pick
 term-starts (node f no-terms) = refl
-term-starts (node f (t then ts)) = role-passes begins-term refl refl refl f _
+term-starts (node f (t then ts)) = all-role (Passing begins-term) refl refl refl f _
 
 no-arguments : (ts : Terms) → how-many ts ≡ 0 → ts ≡ no-terms
 unfolding how-many
@@ -125,8 +114,8 @@ module _ (f g : Name) (ts us : Terms) (xs ys : List Entry) (later : TermsTold ts
           let name = entry-name 20 20 f g (h .0) in
           let none-left = no-arguments ts e ∙ sym (no-arguments us e′) in
           ((λ i. node (name i) (none-left i)), h .1)
-      go zero (suc m) e e′ q = other-role (but 20) _ _ _ _ (role-passes (but 20) refl refl refl g (suc m)) refl (sym q)
-      go (suc n) zero e e′ q = other-role (but 20) _ _ _ _ (role-passes (but 20) refl refl refl f (suc n)) refl q
+      go zero (suc m) e e′ q = other-role (but 20) _ _ _ _ (all-role (Passing (but 20)) refl refl refl g (suc m)) refl (sym q)
+      go (suc n) zero e e′ q = other-role (but 20) _ _ _ _ (all-role (Passing (but 20)) refl refl refl f (suc n)) refl q
       go (suc n) (suc m) e e′ q = some-cut n m e e′ q
 
 mutual
@@ -208,46 +197,7 @@ equation-told a b q =
     let after = conditions-told (a .after) (b .after) (k .2) in
     λ i. record { tag = tag i; before = k .0 i; conclusion = k .1 i; after = after i }
 
-module _ (p : ℕ → Bool) (h20 : p 20 ≡ true) (h21 : p 21 ≡ true) (h22 : p 22 ≡ true) (h25 : p 25 ≡ true) (h26 : p 26 ≡ true) where
-  closing-passes : (r : ℕ) → Passes p (closing r)
-  unfolding closing pick
-  closing-passes r = go (eqb r 21)
-    where
-      go : (b : Bool) → Passes p (pick b (entry 22 [] ∷ []) [])
-      go true = (h22, tt)
-      go false = tt
-
-  node-passes : (f : Name) (n : ℕ) (es : List Entry) → Passes p es → Passes p (flat-node f n es)
-  unfolding flat-node
-  node-passes f zero es h = (h20, tt)
-  node-passes f (suc n) es h = (role-passes p h21 h25 h26 f (suc n), passes-append p es (closing _) h (closing-passes _))
-
-  mutual
-    unfolding flat-term
-
-    term-passes : (t : Term) → Passes p (flat-term t)
-    term-passes (node f ts) = node-passes f (how-many ts) (flat-terms ts) (terms-pass ts)
-
-    terms-pass : (ts : Terms) → Passes p (flat-terms ts)
-    terms-pass no-terms = tt
-    terms-pass (t then ts) = passes-append p (flat-term t) (flat-terms ts) (term-passes t) (terms-pass ts)
-
-  sides-pass : (r : ℕ) → p r ≡ true → (s : Sides) → Passes p (flat-sides r s)
-  unfolding flat-sides
-  sides-pass r h s =
-      passes-append p (flat-term (s .left)) _ (term-passes (s .left)) (passes-append p (flat-term (s .right)) _ (term-passes (s .right)) (h, tt))
-
-  -- what follows an equation's tag
-  pub equation-passes : p 23 ≡ true → p 24 ≡ true → (e : Equation)
-      → Passes p (each (flat-sides 23) (e .before) ++ (flat-sides 24 (e .conclusion) ++ each (flat-sides 23) (e .after)))
-  equation-passes h23 h24 e =
-      passes-append p (each (flat-sides 23) (e .before)) _ (conditions (e .before))
-      (passes-append p (flat-sides 24 (e .conclusion)) _ (sides-pass 24 h24 (e .conclusion)) (conditions (e .after)))
-    where
-      conditions : (ss : List Sides) → Passes p (each (flat-sides 23) ss)
-      conditions ss = every-each (λ (x : Entry). p (x .role) ≡ true) (flat-sides 23) (sides-pass 23 h23) ss
-
 pub equations-told : (as′ bs : List Equation) → each flat-equation as′ ≡ each flat-equation bs → as′ ≡ bs
 unfolding flat-equation
 equations-told as′ bs q =
-    blocks-told (but 19) flat-equation (λ e. (refl, equation-passes (but 19) refl refl refl refl refl refl refl e)) equation-told as′ bs q
+    blocks-told (but 19) flat-equation (λ e. (refl, all-behind-tag (Passing (but 19)) refl refl refl refl refl refl refl e)) equation-told as′ bs q

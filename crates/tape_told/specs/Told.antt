@@ -5,15 +5,11 @@ use mathlib.Core.Bool.{Bool, true, false}
 use mathlib.Core.List.{List, [], _∷_, _++_, map, append-assoc}
 use lib.Dec.{eqb, leb}
 use Rattle.meaning.specs.Lists.{pick, each}
-use Rattle.meaning.specs.Names.{Name}
 use Rattle.meaning.specs.Syntax.{Function, Signature, Parameter, Pair, Clause, renamed-by, bound-by, Import, VariableGroup, Module}
-use Rattle.limits.specs.EveryLaws.{every-each}
 use Rattle.tape.specs.Tape.{Entry, entry, flat-function, flat-signature, flat-parameter, flat-pair, flat-clause, flat-import, flat-group, flat-equation, flat-module}
-use Rattle.tape_told.specs.Parts.{but, Passes, Ends, cut, ends-append, ends-each, ends-names, passes-names, passes-append, cons-cut, entry-name, no-cons, other-role, names-told, Block, blocks-told}
+use Rattle.tape_told.specs.Parts.{but, Passing, Passes, Ends, cut, ends-append, ends-each, ends-names, passes-names, cons-cut, entry-name, no-cons, other-role, names-told, Block, blocks-told}
 use Rattle.tape_told.specs.Terms.{equations-told}
-
-each-passes : {A : Type 0} (p : ℕ → Bool) (flat : A → List Entry) → ((a : A) → Passes p (flat a)) → (as′ : List A) → Passes p (each flat as′)
-each-passes p flat h as′ = every-each (λ (e : Entry). p (e .role) ≡ true) flat h as′
+use Rattle.walks.specs.Flat.{all-type, all-signature, all-parameters, all-groups, all-pairs, all-bound, all-clauses, each-import}
 
 -- ---- functions: after the name the inputs, and then the output
 
@@ -28,18 +24,7 @@ function-told role f g q =
     let output = entry-name 10 10 _ _ (cons-cut _ _ _ _ (k .1) .0) in
     λ i. record { name = name i; inputs = inputs i; output = output i }
 
--- what follows its name passes
-function-passes : (p : ℕ → Bool) → p 9 ≡ true → p 10 ≡ true → (f : Function) → Passes p (map (entry 9) (f .inputs) ++ (entry 10 (f .output) ∷ []))
-function-passes p h k f = passes-append p (map (entry 9) (f .inputs)) _ (passes-names p 9 h (f .inputs)) (k, tt)
-
 -- ---- signatures: sorts with the one role, then functions with the other
-
-pub signature-passes : (p : ℕ → Bool) (sr fr : ℕ) → p sr ≡ true → p fr ≡ true → p 9 ≡ true → p 10 ≡ true → (s : Signature)
-    → Passes p (flat-signature sr fr s)
-unfolding flat-signature flat-function
-signature-passes p sr fr hs hf h9 h10 s =
-    passes-append p (map (entry sr) (s .sorts)) _ (passes-names p sr hs (s .sorts))
-    (each-passes p (flat-function fr) (λ f. (hf, function-passes p h9 h10 f)) (s .functions))
 
 signature-ends : (p : ℕ → Bool) (sr fr : ℕ) → p sr ≡ false → p fr ≡ false → (s : Signature) → Ends p (flat-signature sr fr s)
 unfolding flat-signature flat-function
@@ -54,7 +39,7 @@ signature-told sr fr self other head h9 h10 a b q =
     (passes-names (eqb sr) sr self (a .sorts)) (passes-names (eqb sr) sr self (b .sorts))
     (ends-each (eqb sr) (flat-function fr) (λ f. other) (a .functions)) (ends-each (eqb sr) (flat-function fr) (λ f. other) (b .functions)) q in
     let sorts = names-told sr _ _ (h .0) in
-    let functions = blocks-told (but fr) (flat-function fr) (λ f. (head, function-passes (but fr) h9 h10 f)) (function-told fr) _ _ (h .1) in
+    let functions = blocks-told (but fr) (flat-function fr) (λ f. (head, all-type (Passing (but fr)) h9 h10 f)) (function-told fr) _ _ (h .1) in
     λ i. record { sorts = sorts i; functions = functions i }
 
 pub exports-told : (a b : Signature) → flat-signature 5 6 a ≡ flat-signature 5 6 b → a ≡ b
@@ -73,12 +58,7 @@ parameter-told a b q =
 pub parameters-told : (as′ bs : List Parameter) → each flat-parameter as′ ≡ each flat-parameter bs → as′ ≡ bs
 unfolding flat-parameter
 parameters-told as′ bs q =
-    blocks-told (but 2) flat-parameter (λ a. (refl, signature-passes (but 2) 3 4 refl refl refl refl (a .signature))) parameter-told as′ bs q
-
-pub parameters-pass : (p : ℕ → Bool) → p 2 ≡ true → p 3 ≡ true → p 4 ≡ true → p 9 ≡ true → p 10 ≡ true → (as′ : List Parameter)
-    → Passes p (each flat-parameter as′)
-unfolding flat-parameter
-parameters-pass p h2 h3 h4 h9 h10 as′ = each-passes p flat-parameter (λ a. (h2, signature-passes p 3 4 h3 h4 h9 h10 (a .signature))) as′
+    blocks-told (but 2) flat-parameter (λ a. (refl, all-signature (Passing (but 2)) 3 4 refl refl refl refl (a .signature))) parameter-told as′ bs q
 
 -- ---- imports
 
@@ -94,10 +74,6 @@ pairs-told : (as′ bs : List Pair) → each flat-pair as′ ≡ each flat-pair 
 unfolding flat-pair
 pairs-told as′ bs q = blocks-told (but 14) flat-pair (λ a. (refl, (refl, tt))) pair-told as′ bs q
 
-pairs-pass : (p : ℕ → Bool) → p 14 ≡ true → p 15 ≡ true → (as′ : List Pair) → Passes p (each flat-pair as′)
-unfolding flat-pair
-pairs-pass p h k as′ = each-passes p flat-pair (λ a. (h, (k, tt))) as′
-
 clause-told : (c d : Clause) → flat-clause c ≡ flat-clause d → c ≡ d
 unfolding flat-clause
 clause-told (renamed-by ps) (renamed-by qs) q = ap renamed-by (pairs-told ps qs (cons-cut _ _ _ _ q .1))
@@ -105,33 +81,17 @@ clause-told (renamed-by ps) (bound-by r qs n) q = other-role (eqb 12) _ _ _ _ re
 clause-told (bound-by p ps m) (renamed-by qs) q = other-role (eqb 13) _ _ _ _ refl refl q
 clause-told (bound-by p ps m) (bound-by r qs n) q =
     let h = cons-cut _ _ _ _ q in
-    let k = cut (but 16) (each flat-pair ps) _ (each flat-pair qs) _ (pairs-pass (but 16) refl refl ps) (pairs-pass (but 16) refl refl qs) refl refl (h .1) in
+    let k = cut (but 16) (each flat-pair ps) _ (each flat-pair qs) _ (all-pairs (Passing (but 16)) refl refl ps) (all-pairs (Passing (but 16)) refl refl qs) refl refl (h .1) in
     let name = entry-name _ _ _ _ (h .0) in
     let pairs = pairs-told ps qs (k .0) in
     let actual = entry-name _ _ _ _ (cons-cut _ _ _ _ (k .1) .0) in
     λ i. bound-by (name i) (pairs i) (actual i)
 
--- what follows the first entry of a clause, and clauses whole
-module _ (p : ℕ → Bool) (h14 : p 14 ≡ true) (h15 : p 15 ≡ true) (h16 : p 16 ≡ true) where
-  bound-passes : (ps : List Pair) (m : Name) → Passes p (each flat-pair ps ++ (entry 16 m ∷ []))
-  bound-passes ps m = passes-append p (each flat-pair ps) _ (pairs-pass p h14 h15 ps) (h16, tt)
-
-  clause-block : p 12 ≡ false → p 13 ≡ false → (c : Clause) → Block p (flat-clause c)
-  unfolding flat-clause
-  clause-block h12 h13 (renamed-by ps) = (h12, pairs-pass p h14 h15 ps)
-  clause-block h12 h13 (bound-by q ps m) = (h13, bound-passes ps m)
-
-  clauses-pass : p 12 ≡ true → p 13 ≡ true → (cs : List Clause) → Passes p (each flat-clause cs)
-  unfolding flat-clause
-  clauses-pass h12 h13 cs = each-passes p flat-clause go cs
-    where
-      go : (c : Clause) → Passes p (flat-clause c)
-      go (renamed-by ps) = (h12, pairs-pass p h14 h15 ps)
-      go (bound-by q ps m) = (h13, bound-passes ps m)
-
-  pub imports-pass : p 11 ≡ true → p 12 ≡ true → p 13 ≡ true → (as′ : List Import) → Passes p (each flat-import as′)
-  unfolding flat-import
-  imports-pass h11 h12 h13 as′ = each-passes p flat-import (λ a. (h11, clauses-pass h12 h13 (a .clauses))) as′
+-- what follows the first entry of a clause
+clause-block : (p : ℕ → Bool) → p 12 ≡ false → p 13 ≡ false → p 14 ≡ true → p 15 ≡ true → p 16 ≡ true → (c : Clause) → Block p (flat-clause c)
+unfolding flat-clause
+clause-block p h12 h13 h14 h15 h16 (renamed-by ps) = (h12, all-pairs (Passing p) h14 h15 ps)
+clause-block p h12 h13 h14 h15 h16 (bound-by q ps m) = (h13, all-bound (Passing p) h14 h15 h16 ps m)
 
 begins-clause : ℕ → Bool
 begins-clause r = pick (eqb r 12) false (but 13 r)
@@ -147,7 +107,7 @@ import-told a b q =
 pub imports-told : (as′ bs : List Import) → each flat-import as′ ≡ each flat-import bs → as′ ≡ bs
 unfolding flat-import
 imports-told as′ bs q =
-    blocks-told (but 11) flat-import (λ a. (refl, clauses-pass (but 11) refl refl refl refl refl (a .clauses))) import-told as′ bs q
+    blocks-told (but 11) flat-import (λ a. (refl, all-clauses (Passing (but 11)) refl refl refl refl refl (a .clauses))) import-told as′ bs q
 
 -- ---- variables
 
@@ -200,25 +160,23 @@ after-head m = flat-signature 5 6 (m .exports) ++ after-exports m
 module _ (m : Module) where
   head-passes : Passes (in-part 1 4) (head-part m)
   unfolding in-part pick
-  head-passes = (refl, parameters-pass (in-part 1 4) refl refl refl refl refl (m .parameters))
+  head-passes = (refl, all-parameters (Passing (in-part 1 4)) refl refl refl refl refl (m .parameters))
 
   exports-pass : Passes (in-part 5 6) (flat-signature 5 6 (m .exports))
   unfolding in-part pick
-  exports-pass = signature-passes (in-part 5 6) 5 6 refl refl refl refl (m .exports)
+  exports-pass = all-signature (Passing (in-part 5 6)) 5 6 refl refl refl refl (m .exports)
 
   imported-pass : Passes (in-part 11 16) (each flat-import (m .imports))
   unfolding in-part pick
-  imported-pass = imports-pass (in-part 11 16) refl refl refl refl refl refl (m .imports)
+  imported-pass = each-import (Passing (in-part 11 16)) refl refl refl refl refl refl (m .imports)
 
   hidden-passes : Passes (in-part 7 8) (flat-signature 7 8 (m .hidden))
   unfolding in-part pick
-  hidden-passes = signature-passes (in-part 7 8) 7 8 refl refl refl refl (m .hidden)
+  hidden-passes = all-signature (Passing (in-part 7 8)) 7 8 refl refl refl refl (m .hidden)
 
   groups-pass : Passes (in-part 17 18) (each flat-group (m .groups))
-  unfolding flat-group in-part pick
-  groups-pass =
-      each-passes (in-part 17 18) flat-group
-      (λ g. passes-append (in-part 17 18) (map (entry 17) (g .names)) _ (passes-names (in-part 17 18) 17 refl (g .names)) (refl, tt)) (m .groups)
+  unfolding in-part pick
+  groups-pass = all-groups (Passing (in-part 17 18)) refl refl (m .groups)
 
 -- and what stands behind it begins with none of its roles
 module _ (p : ℕ → Bool) (m : Module) where

@@ -1,24 +1,24 @@
 -- Laws of the search for a formal item, in the code's terms: the tests on one row, and the loop over the rows.
-use mathlib.Core.Path.{_≡_, refl, sym, ap, ap₂, _∙_}
+use mathlib.Core.Path.{_≡_, refl, sym, _∙_}
 use mathlib.Core.Bool.{Bool, true, false, _&&_}
 use mathlib.Core.List.{List, [], _∷_}
-use Prim.Native.Nat.{ℕ, suc, _+_, _-_, _*_, _<_, _≤_}
-use native.Mathlib.Omega.{arith}
-use lib.Dec.{eqb}
-use lib.ListN.{getD}
+use Prim.Native.Nat.{ℕ, _+_, _-_, _*_, _<_, _≤_}
 use borrow.Author.Needs.{needs}
 use borrow.Author.Tests.{eq-eqb, ne-eqb}
 use Rattle.meaning.specs.Lists.{pick, keep, any}
 use Rattle.meaning.specs.Names.{Name, same}
-use Rattle.meaning.specs.Origins.{same-section, Shape, sort-shape, function-shape, variable-shape, same-shape, is-sort, Item, in-parameter}
+use Rattle.meaning.specs.Origins.{same-section, Shape, same-shape, is-sort, Item, in-parameter}
 use Rattle.meaning.specs.Normal.{sorts-among, is-called}
 use Rattle.meaning.specs.Clauses.{is-formal-sort}
 use Rattle.names.specs.Word.{name-of}
 use Rattle.tables.specs.declared.Section.{Section}
 use Rattle.tables.specs.declared.Section.the-variants.{Export, Hidden, Parameter}
 use Rattle.tables.specs.declared.Row.{Row}
-use Rattle.tables.specs.Rows.{section-of, sort-of, type-of, shape-of, item-of, row-at}
+use Rattle.tables.specs.Rows.{section-of, shape-of, item-of, row-at}
 use Rattle.forms.specs.Forms.{items-at}
+use Rattle.walks.specs.Lists.{any-keep}
+use Rattle.walks.specs.Shapes.{is-sort-kind}
+use Rattle.walks.specs.Rows.{Finding, find-start, nowhere, find-again, somewhere}
 use Rattle.translation.specs.Translation.{formals-at}
 use Rattle.translation.specs.Moved.{formal-sort, formal-function, is-formal, is-formal-function}
 
@@ -30,16 +30,6 @@ unfolding same-section section-of in-parameter
 standing-told text p Export r e = e
 standing-told text p Hidden r e = e
 standing-told text p (Parameter q) r e = e
-
-is-sort-kind : (text tape : List ℕ) (k : ℕ) (sorts : List ℕ) → is-sort (shape-of text tape k sorts) ≡ eqb k 0
-unfolding is-sort shape-of pick
-is-sort-kind text tape k sorts = go (eqb k 0) (eqb k 1)
-  where
-    go : (a b : Bool)
-        → is-sort (pick a sort-shape (pick b (variable-shape (sort-of text tape (getD sorts 8 0))) (function-shape (type-of text tape (k - 2) sorts)))) ≡ a
-    go true b = refl
-    go false true = refl
-    go false false = refl
 
 module _ (text tape : List ℕ) (p a : ℕ) (x : Row) where
   abbrev wanted : Bool
@@ -75,55 +65,12 @@ module _ (text tape : List ℕ) (p : ℕ) (x y : Row) (b : Bool) (f : b ≡ in-p
     unfolding formal-function item-of is-called pick
     like-shaped r q o = rw (← f, h, ← g, q) o
 
--- ---- the rows of a table: those up to i have been asked
-
-any-keep : {A : Type 0} (p q : A → Bool) (xs : List A) → any q (keep p xs) ≡ any (λ (x : A). pick (p x) (q x) false) xs
-unfolding any keep pick
-any-keep p q [] = refl
-any-keep {A} p q (x ∷ xs) = go (p x) (any-keep p q xs)
-  where
-    go : (b : Bool) → any q (keep p xs) ≡ any (λ (y : A). pick (p y) (q y) false) xs
-        → any q (pick b (x ∷ keep p xs) (keep p xs)) ≡ pick (pick b (q x) false) true (any (λ (y : A). pick (p y) (q y) false) xs)
-    go true ih = ap (pick (q x) true) ih
-    go false ih = ih
+-- ---- what is sought
 
 any-same : {A : Type 0} (p q : A → Bool) → ((x : A) → p x ≡ q x) → (xs : List A) → any p xs ≡ any q xs
 unfolding any
 any-same p q h [] = refl
 any-same p q h (x ∷ xs) = rw (h x, any-same p q h xs)
-
-pub record Asking (test : Item → Bool) (text tape w : List ℕ) (b n i : ℕ) : Type 0 where
-  pub inside : i ≤ n
-  pub rest : any test (items-at text tape w b n) ≡ any test (items-at text tape w (b + i * 16) (n - i))
-
-module _ (test : Item → Bool) (text tape w : List ℕ) (b n : ℕ) where
-  pub ask-start : Asking test text tape w b n 0
-  ask-start =
-      let e : b ≡ b + 0 * 16 = omega arith in
-      let f : n ≡ n - 0 = omega arith in
-      record { inside = omega arith; rest = ap₂ (λ (i c : ℕ). any test (items-at text tape w i c)) e f }
-
-  ask-none : (i : ℕ) → n ≤ i → Asking test text tape w b n i → any test (items-at text tape w b n) ≡ false
-  unfolding any items-at
-  ask-none i h inv = let z : n - i ≡ 0 = omega arith in inv .rest ∙ rw z
-
-  module _ (i : ℕ) (y : Row) (r : Bool) (h : i < n) (inv : Asking test text tape w b n i) (e : y ≡ row-at w (b + i * 16)) (f : r ≡ test (item-of text tape y)) where
-    here : any test (items-at text tape w (b + i * 16) (n - i)) ≡ pick r true (any test (items-at text tape w (b + (i + 1) * 16) (n - (i + 1))))
-    unfolding any items-at
-    here =
-        let s : n - i ≡ suc (n - (i + 1)) = omega arith in
-        let p : b + i * 16 + 16 ≡ b + (i + 1) * 16 = omega arith in
-        rw (s, p, ← e, ← f)
-
-    pub ask-again : r ≡ false → Asking test text tape w b n (i + 1)
-    unfolding pick
-    ask-again q = record { inside = omega arith; rest = inv .rest ∙ here ∙ rw q }
-
-    ask-found : r ≡ true → any test (items-at text tape w b n) ≡ true
-    unfolding pick
-    ask-found q = inv .rest ∙ here ∙ rw q
-
--- ---- what is sought
 
 -- the tests that stand one behind the other in the definition are one
 sort-test : (p a : Name) (i : Item) → pick (in-parameter p (i .standing)) (pick (is-sort (i .shape)) (is-called a i) false) false ≡ formal-sort p a i
@@ -164,24 +111,24 @@ module _ (text tape w : List ℕ) (b n p a : ℕ) where
   abbrev formal-sort-there : Bool
   formal-sort-there = is-formal (formals-at text tape w b n (name-of text p)) (name-of text a)
 
-  pub sort-there : (i : ℕ) (y : Row) (r : Bool) → i < n → Asking (formal-sort (name-of text p) (name-of text a)) text tape w b n i
+  pub sort-there : (i : ℕ) (y : Row) (r : Bool) → i < n → Finding (formal-sort (name-of text p) (name-of text a)) text tape w b n i
       → y ≡ row-at w (b + i * 16) → r ≡ formal-sort (name-of text p) (name-of text a) (item-of text tape y) → r ≡ true → true ≡ formal-sort-there
-  sort-there i y r h inv e f q = sym (sorts-asked text tape w b n p a ∙ ask-found _ text tape w b n i y r h inv e f q)
+  sort-there i y r h inv e f q = somewhere _ text tape w b n i y r h inv e f q ∙ sym (sorts-asked text tape w b n p a)
 
-  pub sort-nowhere : (i : ℕ) → n ≤ i → Asking (formal-sort (name-of text p) (name-of text a)) text tape w b n i → false ≡ formal-sort-there
-  sort-nowhere i h inv = sym (sorts-asked text tape w b n p a ∙ ask-none _ text tape w b n i h inv)
+  pub sort-nowhere : (i : ℕ) → n ≤ i → Finding (formal-sort (name-of text p) (name-of text a)) text tape w b n i → false ≡ formal-sort-there
+  sort-nowhere i h inv = nowhere _ text tape w b n i h inv ∙ sym (sorts-asked text tape w b n p a)
 
 module _ (text tape w : List ℕ) (b n p a : ℕ) (s : Shape) where
   abbrev formal-function-there : Bool
   formal-function-there = is-formal-function (formals-at text tape w b n (name-of text p)) (name-of text a) s
 
-  pub function-there : (i : ℕ) (y : Row) (r : Bool) → i < n → Asking (formal-function (name-of text p) (name-of text a) s) text tape w b n i
+  pub function-there : (i : ℕ) (y : Row) (r : Bool) → i < n → Finding (formal-function (name-of text p) (name-of text a) s) text tape w b n i
       → y ≡ row-at w (b + i * 16) → r ≡ formal-function (name-of text p) (name-of text a) s (item-of text tape y) → r ≡ true → true ≡ formal-function-there
-  function-there i y r h inv e f q = sym (functions-asked text tape w b n p a s ∙ ask-found _ text tape w b n i y r h inv e f q)
+  function-there i y r h inv e f q = somewhere _ text tape w b n i y r h inv e f q ∙ sym (functions-asked text tape w b n p a s)
 
-  pub function-nowhere : (i : ℕ) → n ≤ i → Asking (formal-function (name-of text p) (name-of text a) s) text tape w b n i → false ≡ formal-function-there
-  function-nowhere i h inv = sym (functions-asked text tape w b n p a s ∙ ask-none _ text tape w b n i h inv)
+  pub function-nowhere : (i : ℕ) → n ≤ i → Finding (formal-function (name-of text p) (name-of text a) s) text tape w b n i → false ≡ formal-function-there
+  function-nowhere i h inv = nowhere _ text tape w b n i h inv ∙ sym (functions-asked text tape w b n p a s)
 
 pub ruleset tests = (standing-told, such-no-sort, such-sort, such-elsewhere, like-elsewhere, like-other, like-shaped, needs)
 
-pub ruleset asks = (ask-start, ask-again, sort-there, sort-nowhere, function-there, function-nowhere, needs)
+pub ruleset asks = (find-start, find-again, sort-there, sort-nowhere, function-there, function-nowhere, needs)

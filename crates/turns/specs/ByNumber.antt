@@ -3,7 +3,7 @@ use mathlib.Core.Path.{_≡_, refl, sym, ap, subst, _∙_}
 use Prim.Native.Nat.{ℕ, zero, suc, _+_, _-_, _≤_, _<_}
 use native.Mathlib.Omega.{arith}
 use mathlib.Core.List.{List, [], _∷_, _++_}
-use lib.ListN.{length, getD, take, drop, length-append, length-map, take-append-drop}
+use lib.ListN.{length, getD, take, drop, length-append, length-map}
 use lib.Seq.{drop-drop, length-take-le}
 use Rattle.meaning.specs.Lists.{each, before}
 use Rattle.meaning.specs.Names.{Name, same}
@@ -15,9 +15,10 @@ use Rattle.tape.specs.Tape.{flat-module, flat-modules, spelled, entries}
 use Rattle.tables.specs.Entries.{name-at}
 use Rattle.modules.specs.declared.Heads.{Heads}
 use Rattle.modules.specs.Modules.{names-of, declared}
-use Rattle.modules.specs.Roles.{each-append}
-use Rattle.modules.specs.ModuleLaws.{Spells, heads-number, declared-names, begin, end}
+use Rattle.modules.specs.ModuleLaws.{Spells, heads-number, declared-names}
 use Rattle.modules.specs.ReachedLaws.{names-distinct, names-number, name-by-number, drop-some}
+use Rattle.evaluating.specs.Heads.{split, begins-there, ends-there}
+use Rattle.walks.specs.Lists.{each-append}
 
 -- the module with number k, and those behind it
 pub record ModuleAt (ms : List Module) (k : ℕ) : Type 0 where
@@ -35,7 +36,7 @@ module-at (m ∷ ms) (suc k) l =
 pub drop-later : (k : ℕ) (ms ys : List Module) (m : Module) → drop k ms ≡ m ∷ ys → drop (k + 1) ms ≡ ys
 drop-later k ms ys m e = sym (drop-drop 1 k ms) ∙ ap (drop 1) e
 
-name-there : (text tape places : List ℕ) (c k j : ℕ) → j < c → getD (names-of text tape places k c) j [] ≡ name-at text tape (getD places (k + j) 0)
+pub name-there : (text tape places : List ℕ) (c k j : ℕ) → j < c → getD (names-of text tape places k c) j [] ≡ name-at text tape (getD places (k + j) 0)
 unfolding names-of
 name-there text tape places zero k j l = absurd (omega arith)
 name-there text tape places (suc c) k zero l = let z : k ≡ k + 0 = omega arith in ap (λ (i : ℕ). name-at text tape (getD places i 0)) z
@@ -63,24 +64,12 @@ module _ (text tape : List ℕ) (n : ℕ) (ms : List Module) (h : Heads) (s : Sp
         ∙ ap (λ (v : Name). before (same v) (module-names ms)) (sym (name-by-number k ms ys m e))
         ∙ names-distinct ms f k (omega (arith, drop-some k ms ys m e, names-number ms))
 
-    size-before : length (take k ms) ≡ k
-    size-before = length-take-le k ms (omega (arith, drop-some k ms ys m e))
-
-    split : ms ≡ take k ms ++ (m ∷ ys)
-    split = sym (take-append-drop k ms) ∙ ap (λ (r : List Module). take k ms ++ r) e
-
-    begins-at : getD (h .places) k 0 ≡ length (flat-modules (take k ms))
-    begins-at = ap (λ (i : ℕ). getD (h .places) i 0) (sym size-before) ∙ begin text tape n ms h s (take k ms) m ys split
-
-    ends-at : getD (h .places) (k + 1) 0 ≡ length (flat-modules (take k ms)) + length (flat-module m)
-    ends-at = ap (λ (i : ℕ). getD (h .places) (i + 1) 0) (sym size-before) ∙ end text tape n ms h s (take k ms) m ys split
-
     entries-number : n ≡ length (flat-modules (take k ms)) + (length (flat-module m) + length (flat-modules ys))
     unfolding entries flat-modules each
     entries-number =
         sym (length-take-le n tape (s .within))
         ∙ sym (length-map (take n tape) (spelled text))
-        ∙ ap length (s .says ∙ ap (each flat-module) split ∙ each-append flat-module (take k ms) (m ∷ ys))
+        ∙ ap length (s .says ∙ ap (each flat-module) (split ms ys k m e) ∙ each-append flat-module (take k ms) (m ∷ ys))
         ∙ length-append (each flat-module (take k ms)) (flat-module m ++ each flat-module ys)
         ∙ ap (λ (c : ℕ). length (each flat-module (take k ms)) + c) (length-append (flat-module m) (each flat-module ys))
 
@@ -88,12 +77,13 @@ module _ (text tape : List ℕ) (n : ℕ) (ms : List Module) (h : Heads) (s : Sp
   pub places-ordered : (j : ℕ) → j < h .count → getD (h .places) j 0 ≤ getD (h .places) (j + 1) 0
   places-ordered j l =
       let x = module-at ms j (omega (arith, heads-number text tape n ms h s)) in
-      omega (arith, begins-at j (x .self) (x .later) (x .here), ends-at j (x .self) (x .later) (x .here))
+      omega (arith, ends-there ms (x .later) j (x .self) (x .here) text tape n h s)
 
   pub places-within : (j : ℕ) → j < h .count → getD (h .places) (j + 1) 0 ≤ n
   places-within j l =
       let x = module-at ms j (omega (arith, heads-number text tape n ms h s)) in
-      omega (arith, ends-at j (x .self) (x .later) (x .here), entries-number j (x .self) (x .later) (x .here))
+      let first = begins-there ms (x .later) j (x .self) (x .here) text tape n h s in
+      omega (arith, first, ends-there ms (x .later) j (x .self) (x .here) text tape n h s, entries-number j (x .self) (x .later) (x .here))
 
   -- each module has few entries
   pub places-few : Every (λ (m : Module). length (flat-module m) ≤ 32768) ms → (j : ℕ) → j < h .count
@@ -102,5 +92,5 @@ module _ (text tape : List ℕ) (n : ℕ) (ms : List Module) (h : Heads) (s : Sp
       let x = module-at ms j (omega (arith, heads-number text tape n ms h s)) in
       let few : length (flat-module (x .self)) ≤ 32768 =
       every-middle (λ (m : Module). length (flat-module m) ≤ 32768) (take j ms) (x .later) (x .self)
-      (subst (Every (λ (m : Module). length (flat-module m) ≤ 32768)) (split j (x .self) (x .later) (x .here)) f) in
-      omega (arith, few, begins-at j (x .self) (x .later) (x .here), ends-at j (x .self) (x .later) (x .here))
+      (subst (Every (λ (m : Module). length (flat-module m) ≤ 32768)) (split ms (x .later) j (x .self) (x .here)) f) in
+      omega (arith, few, ends-there ms (x .later) j (x .self) (x .here) text tape n h s)

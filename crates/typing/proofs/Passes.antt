@@ -4,7 +4,6 @@ use mathlib.Core.Bool.{Bool, true, false}
 use mathlib.Core.List.{List, [], _∷_}
 use Prim.Native.Nat.{ℕ, suc, _+_, _-_, _*_, _<_, _≤_}
 use native.Mathlib.Omega.{arith}
-use lib.Dec.{eqb}
 use lib.ListN.{length, set}
 use lib.Seq.{sets}
 use borrow.Author.Needs.{needs}
@@ -22,7 +21,7 @@ use Rattle.typing.specs.declared.Answer.the-variants.{Sorted, Ill}
 use Rattle.typing.specs.declared.Passed.{Passed}
 use Rattle.typing.specs.declared.Passed.the-variants.{Counted, Wrong}
 use Rattle.typing.specs.Typing.{Out, out, tape-in, term-at}
-use Rattle.typing.specs.Equations.{Pass, passed, right-checked, right-at, left-checked, sides-at, is-opening, begins-at, after-sides, sides-from, after-conclusion, equation-at, equation-words, span, row-of, stored, after-equation, turn-at, told, after-turn, equations-from}
+use Rattle.typing.specs.Equations.{Pass, passed, right-checked, right-at, left-checked, sides-at, begins-at, after-sides, sides-from, after-conclusion, equation-at, equation-words, span, row-of, stored, after-equation, turn-at, told, after-turn, equations-from}
 
 -- ---- two sides; r is the answer to the term that was typed
 
@@ -47,32 +46,6 @@ module _ (text : List ℕ) (k : Known) (i q : ℕ) (w : List ℕ) (r : Answer) (
   pub left-well : (o : Out) (s next free : ℕ) → r ≡ Sorted s next free → o ≡ right-at text k s next free u → o ≡ sides-at text k i q w
   unfolding sides-at left-checked
   left-well o s next free h t = rw (← e, h) t
-
--- ---- where a term begins
-
-module _ (tape : List ℕ) (i end : ℕ) where
-  pub begins-past : end ≤ i → false ≡ begins-at tape i end
-  unfolding begins-at pick
-  begins-past h = rw (le-ltb i end h)
-
-  module _ (h : i < end) (role : ℕ) (e : role ≡ role-at tape i) where
-    pub begins-alone : role ≡ 20 → true ≡ begins-at tape i end
-    unfolding begins-at is-opening pick
-    begins-alone g = rw (lt-ltb i end h, ← e, eq-eqb role 20 g)
-
-    module _ (g : role ≡ 20 → ⊥) where
-      pub begins-head : role ≡ 21 → true ≡ begins-at tape i end
-      unfolding begins-at is-opening pick
-      begins-head f = rw (lt-ltb i end h, ← e, ne-eqb role 20 g, eq-eqb role 21 f)
-
-      module _ (f : role ≡ 21 → ⊥) where
-        pub begins-prefix : role ≡ 25 → true ≡ begins-at tape i end
-        unfolding begins-at is-opening pick
-        begins-prefix d = rw (lt-ltb i end h, ← e, ne-eqb role 20 g, ne-eqb role 21 f, eq-eqb role 25 d)
-
-        pub begins-infix : (role ≡ 25 → ⊥) → eqb role 26 ≡ begins-at tape i end
-        unfolding begins-at is-opening pick
-        begins-infix d = rw (lt-ltb i end h, ← e, ne-eqb role 20 g, ne-eqb role 21 f, ne-eqb role 25 d)
 
 -- ---- the sides of an equation: what is wanted is what is wanted from here. b tells whether a term begins at i
 
@@ -220,7 +193,7 @@ module _ (text : List ℕ) (k : Known) (m : Module) (i₀ q₀ : ℕ) (w₀ : Li
           }
 
 -- what the answers of the typer of equations hand to `search`
-pub ruleset passes = (right-ill, right-one, right-other, left-ill, left-well, begins-past, begins-alone, begins-head, begins-prefix, begins-infix, equation-wrong, equation-on, span-none, span-told, span-over, row-told, three-written, equation-written, row-stored, turn-wrong, turn-done, needs)
+pub ruleset passes = (right-ill, right-one, right-other, left-ill, left-well, equation-wrong, equation-on, span-none, span-told, span-over, row-told, three-written, equation-written, row-stored, turn-wrong, turn-done, needs)
 
 pub ruleset passing = (pass-start, pass-full, pass-end, pass-ill, pass-past, pass-kept, pass-dropped, needs)
 

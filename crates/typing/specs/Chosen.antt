@@ -2,7 +2,7 @@
 use mathlib.Core.Path.{_≡_, refl, sym, ap, ap₂, _∙_}
 use mathlib.Core.Bool.{Bool, true, false}
 use mathlib.Core.Option.{Option, none, some}
-use mathlib.Core.List.{List, [], _∷_, _++_, map, append-assoc}
+use mathlib.Core.List.{List, [], _∷_, _++_, map, map-append, append-assoc}
 use Prim.Native.Nat.{ℕ, zero, suc, _+_, _<_, _≤_}
 use native.Mathlib.Nat.{add-zero}
 use native.Mathlib.Omega.{arith}
@@ -28,7 +28,7 @@ use Rattle.typing.specs.declared.Answer.the-variants.{Ill}
 use Rattle.typing.specs.declared.Passed.the-variants.{Counted, Wrong}
 use Rattle.typing.specs.Typing.{Out, tape-in, items-in}
 use Rattle.typing.specs.Equations.{Pass, passed, sides-at, begins-at, after-sides, sides-from}
-use Rattle.typing.specs.Meant.{map-append, Spells, spells-front, spells-back, Layout, node-here, Pointed, tape-stays, sets-kept, begins}
+use Rattle.typing.specs.Meant.{Spells, spells-front, spells-back, Layout, node-here, Pointed, tape-stays, sets-kept, begins}
 use Rattle.typing.specs.Sides.{WellSides, AgreeSides, sides-typed}
 
 -- two sides, and the role of the entry behind them

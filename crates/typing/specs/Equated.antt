@@ -1,11 +1,12 @@
 -- What an equation typed in memory means: where the entries spell it, it is wrong where the meaning refuses it, and else its nodes stand
 -- in memory, the conclusion's and then the conditions'.
 use mathlib.Core.Path.{_≡_, refl, sym, ap, ap₂, _∙_}
-use mathlib.Core.Bool.{true, false}
+use mathlib.Core.Bool.{Bool, true, false}
 use mathlib.Core.Option.{Option, none, some}
-use mathlib.Core.List.{List, [], _∷_, _++_, map, append-assoc}
+use mathlib.Core.List.{List, [], _∷_, _++_, map, map-append, append-nil}
 use Prim.Native.Nat.{ℕ, suc, _+_, _<_, _≤_}
 use native.Mathlib.Omega.{arith}
+use lib.Dec.{eqb}
 use lib.ListN.{length, getD, length-append}
 use Rattle.meaning.specs.Lists.{pick, each}
 use Rattle.meaning.specs.OrderLaws.{Every}
@@ -19,11 +20,12 @@ use Rattle.tape.specs.Tape.{Entry, entry, tag-role, condition-role, conclusion-
 use Rattle.tape.specs.Tape as on-tape
 use Rattle.forms.specs.Memory.{Kept}
 use Rattle.forms.specs.Forms.{flat-sides, flat-equation}
+use Rattle.walks.specs.Lists.{each-append}
 use Rattle.typing.specs.declared.Known.{Known}
 use Rattle.typing.specs.declared.Passed.the-variants.{Counted, Wrong}
 use Rattle.typing.specs.Typing.{tape-in, items-in}
 use Rattle.typing.specs.Equations.{Pass, begins-at, sides-from, after-conclusion, equation-at}
-use Rattle.typing.specs.Meant.{map-append, Spells, Layout, node-here, Pointed}
+use Rattle.typing.specs.Meant.{Spells, Layout, node-here, Pointed}
 use Rattle.typing.specs.Sides.{spells-size}
 use Rattle.typing.specs.Chosen.{Mark, flat-mark, mark-size, joined-chosen, Stand, stand-stays, stand-append, chosen, Chosen, AgreeChosen, pass-typed}
 
@@ -35,11 +37,6 @@ marked role s = record { role = role; sides = s }
 -- the sides of an equation in text order
 abbrev pub marks-of : Equation → List Mark
 marks-of e = map (marked condition-role) (e .before) ++ (marked conclusion-role (e .conclusion) ∷ map (marked condition-role) (e .after))
-
-pub each-append : {A B : Type 0} (f : A → List B) (xs ys : List A) → each f (xs ++ ys) ≡ each f xs ++ each f ys
-unfolding each
-each-append f [] ys = refl
-each-append {A} {B} f (x ∷ xs) ys = ap (λ (r : List B). f x ++ r) (each-append f xs ys) ∙ sym (append-assoc (f x) (each f xs) (each f ys))
 
 each-marked : (ss : List Sides) → each flat-mark (map (marked condition-role) ss) ≡ each (on-tape.flat-sides condition-role) ss
 unfolding each flat-mark
@@ -56,85 +53,58 @@ equation-entries e =
 
 -- ---- what is chosen of them
 
-none-behind : {A : Type 0} (xs : List A) → xs ++ [] ≡ xs
-none-behind [] = refl
-none-behind {A} (x ∷ xs) = ap (λ (r : List A). x ∷ r) (none-behind xs)
+-- conditions in front of what is chosen: they are chosen too, or are only typed
+put : Bool → Option (List ResolvedSides) → Option (List ResolvedSides) → Option (List ResolvedSides)
+put t none r = none
+put false (some b) r = r
+put true (some b) none = none
+put true (some b) (some r) = some (b ++ r)
 
-skipped : Option (List ResolvedSides) → Option (List ResolvedSides) → Option (List ResolvedSides)
-skipped none r = none
-skipped (some b) r = r
-
-onto : Option (List ResolvedSides) → Option (List ResolvedSides) → Option (List ResolvedSides)
-onto none r = none
-onto (some b) none = none
-onto (some b) (some r) = some (b ++ r)
+put-none : (t : Bool) (r : Option (List ResolvedSides)) → r ≡ put t (some []) r
+unfolding put
+put-none false r = refl
+put-none true none = refl
+put-none true (some r) = refl
 
 module _ (text : List ℕ) (k : Known) (w₀ : List ℕ) where
   abbrev known : List Item
   known = items-in text k w₀
 
-  conclusion-chosen : (ss : List Sides) (ms : List Mark)
-      → chosen text k w₀ conclusion-role (map (marked condition-role) ss ++ ms) ≡ skipped (typed-conditions known ss) (chosen text k w₀ conclusion-role ms)
-  unfolding chosen typed-conditions skipped joined-chosen joined-sides pick
-  conclusion-chosen [] ms = refl
-  conclusion-chosen (s ∷ ss) ms =
-      ap (joined-chosen false (typed-sides known s)) (conclusion-chosen ss ms) ∙ go (typed-sides known s) (typed-conditions known ss) (chosen text k w₀ conclusion-role ms)
+  chosen-behind : (role : ℕ) (t : Bool) → eqb condition-role role ≡ t → (ss : List Sides) (ms : List Mark)
+      → chosen text k w₀ role (map (marked condition-role) ss ++ ms) ≡ put t (typed-conditions known ss) (chosen text k w₀ role ms)
+  unfolding chosen typed-conditions put joined-chosen joined-sides pick
+  chosen-behind role t q [] ms = put-none t (chosen text k w₀ role ms)
+  chosen-behind role t q (s ∷ ss) ms =
+      rw q (ap (joined-chosen t (typed-sides known s)) (chosen-behind role t q ss ms) ∙ go t (typed-sides known s) (typed-conditions known ss) (chosen text k w₀ role ms))
     where
-      go : (a : Option ResolvedSides) (b r : Option (List ResolvedSides)) → joined-chosen false a (skipped b r) ≡ skipped (joined-sides a b) r
-      go none b r = refl
-      go (some a) none r = refl
-      go (some a) (some b) none = refl
-      go (some a) (some b) (some r) = refl
+      go : (t : Bool) (a : Option ResolvedSides) (b r : Option (List ResolvedSides)) → joined-chosen t a (put t b r) ≡ put t (joined-sides a b) r
+      go t none b r = refl
+      go t (some a) none r = refl
+      go false (some a) (some b) none = refl
+      go false (some a) (some b) (some r) = refl
+      go true (some a) (some b) none = refl
+      go true (some a) (some b) (some r) = refl
 
-  conditions-chosen : (ss : List Sides) (ms : List Mark)
-      → chosen text k w₀ condition-role (map (marked condition-role) ss ++ ms) ≡ onto (typed-conditions known ss) (chosen text k w₀ condition-role ms)
-  unfolding chosen typed-conditions onto joined-chosen joined-sides pick
-  conditions-chosen [] ms = go (chosen text k w₀ condition-role ms)
-    where
-      go : (r : Option (List ResolvedSides)) → r ≡ onto (some []) r
-      go none = refl
-      go (some r) = refl
-  conditions-chosen (s ∷ ss) ms =
-      ap (joined-chosen true (typed-sides known s)) (conditions-chosen ss ms) ∙ go (typed-sides known s) (typed-conditions known ss) (chosen text k w₀ condition-role ms)
-    where
-      go : (a : Option ResolvedSides) (b r : Option (List ResolvedSides)) → joined-chosen true a (onto b r) ≡ onto (joined-sides a b) r
-      go none b r = refl
-      go (some a) none r = refl
-      go (some a) (some b) none = refl
-      go (some a) (some b) (some r) = refl
-
-  conditions-append : (xs ys : List Sides) → typed-conditions known (xs ++ ys) ≡ onto (typed-conditions known xs) (typed-conditions known ys)
-  unfolding typed-conditions onto joined-sides
-  conditions-append [] ys = go (typed-conditions known ys)
-    where
-      go : (r : Option (List ResolvedSides)) → r ≡ onto (some []) r
-      go none = refl
-      go (some r) = refl
+  conditions-append : (xs ys : List Sides) → typed-conditions known (xs ++ ys) ≡ put true (typed-conditions known xs) (typed-conditions known ys)
+  unfolding typed-conditions put joined-sides
+  conditions-append [] ys = put-none true (typed-conditions known ys)
   conditions-append (x ∷ xs) ys = ap (joined-sides (typed-sides known x)) (conditions-append xs ys) ∙ go (typed-sides known x) (typed-conditions known xs) (typed-conditions known ys)
     where
-      go : (a : Option ResolvedSides) (b r : Option (List ResolvedSides)) → joined-sides a (onto b r) ≡ onto (joined-sides a b) r
+      go : (a : Option ResolvedSides) (b r : Option (List ResolvedSides)) → joined-sides a (put true b r) ≡ put true (joined-sides a b) r
       go none b r = refl
       go (some a) none r = refl
       go (some a) (some b) none = refl
       go (some a) (some b) (some r) = refl
 
-  first-choice : (e : Equation)
-      → chosen text k w₀ conclusion-role (marks-of e)
-      ≡ skipped (typed-conditions known (e .before)) (joined-chosen true (typed-sides known (e .conclusion)) (skipped (typed-conditions known (e .after)) (some [])))
+  choice : (role : ℕ) (t : Bool) → eqb condition-role role ≡ t → (e : Equation)
+      → chosen text k w₀ role (marks-of e)
+      ≡ put t (typed-conditions known (e .before))
+      (joined-chosen (eqb conclusion-role role) (typed-sides known (e .conclusion)) (put t (typed-conditions known (e .after)) (some [])))
   unfolding chosen
-  first-choice e =
-      conclusion-chosen (e .before) (marked conclusion-role (e .conclusion) ∷ map (marked condition-role) (e .after))
-      ∙ ap (λ (r : Option (List ResolvedSides)). skipped (typed-conditions known (e .before)) (joined-chosen true (typed-sides known (e .conclusion)) r))
-      (ap (chosen text k w₀ conclusion-role) (sym (none-behind (map (marked condition-role) (e .after)))) ∙ conclusion-chosen (e .after) [])
-
-  second-choice : (e : Equation)
-      → chosen text k w₀ condition-role (marks-of e)
-      ≡ onto (typed-conditions known (e .before)) (joined-chosen false (typed-sides known (e .conclusion)) (onto (typed-conditions known (e .after)) (some [])))
-  unfolding chosen
-  second-choice e =
-      conditions-chosen (e .before) (marked conclusion-role (e .conclusion) ∷ map (marked condition-role) (e .after))
-      ∙ ap (λ (r : Option (List ResolvedSides)). onto (typed-conditions known (e .before)) (joined-chosen false (typed-sides known (e .conclusion)) r))
-      (ap (chosen text k w₀ condition-role) (sym (none-behind (map (marked condition-role) (e .after)))) ∙ conditions-chosen (e .after) [])
+  choice role t q e =
+      chosen-behind role t q (e .before) (marked conclusion-role (e .conclusion) ∷ map (marked condition-role) (e .after))
+      ∙ ap (λ (r : Option (List ResolvedSides)). put t (typed-conditions known (e .before)) (joined-chosen (eqb conclusion-role role) (typed-sides known (e .conclusion)) r))
+      (ap (chosen text k w₀ role) (sym (append-nil (map (marked condition-role) (e .after)))) ∙ chosen-behind role t q (e .after) [])
 
   -- ---- the equation
 
@@ -181,21 +151,21 @@ module _ (text : List ℕ) (k : Known) (w₀ : List ℕ) where
           stand = stand-append (h .words) (g .words) q _ (stand-stays (h .words) q (o .memory) _ (λ j a b. g .below j b) (h .stand)) (g .stand);
           nodes =
               map-append (node-here text k w₀) (h .words) (g .words)
-              ∙ ap₂ _++_ (h .nodes ∙ none-behind (flat-sides c)) (g .nodes);
+              ∙ ap₂ _++_ (h .nodes ∙ append-nil (flat-sides c)) (g .nodes);
           pointed = every-append (Pointed text k w₀) (h .words) (g .words) (h .pointed) (g .pointed);
           room = omega (arith, length-append (h .words) (g .words), h .room, g .room);
         })
 
     combined : (b : Option (List ResolvedSides)) (c : Option ResolvedSides) (a : Option (List ResolvedSides))
-        → AgreeChosen text k w₀ conclusion-role (skipped b (joined-chosen true c (skipped a (some [])))) (i + 1) m q 0 q₀ e₀ w o
-        → Second (onto b (joined-chosen false c (onto a (some []))))
-        → AgreeEquation (made-equation home at tag c (onto b a)) i (m + 1) q q₀ e₀ w (after-conclusion text k end i (o .answer) (o .memory))
-    unfolding skipped onto joined-chosen made-equation pick
+        → AgreeChosen text k w₀ conclusion-role (put false b (joined-chosen true c (put false a (some [])))) (i + 1) m q 0 q₀ e₀ w o
+        → Second (put true b (joined-chosen false c (put true a (some []))))
+        → AgreeEquation (made-equation home at tag c (put true b a)) i (m + 1) q q₀ e₀ w (after-conclusion text k end i (o .answer) (o .memory))
+    unfolding put joined-chosen made-equation pick
     combined none none a h rest = wrong-first h
     combined none (some c) a h rest = wrong-first h
     combined (some b) none a h rest = wrong-first h
     combined (some b) (some c) none h rest = wrong-first h
-    combined (some b) (some c) (some a) h rest = both-passes c (b ++ a) h (rw (none-behind a) at rest)
+    combined (some b) (some c) (some a) h rest = both-passes c (b ++ a) h (rw (append-nil a) at rest)
 
   module _ (q₀ e₀ : ℕ) (l : Layout text k w₀ q₀ e₀) (end : ℕ) where
     marks-few : (ms : List Mark) → length ms ≤ length (each flat-mark ms)
@@ -229,5 +199,5 @@ module _ (text : List ℕ) (k : Known) (w₀ : List ℕ) where
         rw (size, conditions-append (e .before) (e .after))
         (combined q₀ e₀ l end home at (e .tag) i m q w x (omega (arith, size, y)) (sides-from text k conclusion-role end (k .tape) (i + 1) q 0 w)
         (typed-conditions known (e .before)) (typed-sides known (e .conclusion)) (typed-conditions known (e .after))
-        (rw (first-choice e) at first-pass)
-        (rw (second-choice e) at second-pass))
+        (rw (choice conclusion-role false refl e) at first-pass)
+        (rw (choice condition-role true refl e) at second-pass))

@@ -3,19 +3,19 @@
 use mathlib.Core.Path.{_≡_, refl, sym, ap, _∙_}
 use mathlib.Core.Logic.{inl}
 use mathlib.Core.Bool.{Bool, true, false, false≢true, true≢false}
-use mathlib.Core.Option.{Option, none, some}
-use mathlib.Core.List.{List, [], _∷_, _++_, map}
-use Prim.Native.Nat.{ℕ, zero, suc, _+_, _-_, _*_, _/_, _%_, _<_, _≤_}
+use mathlib.Core.Option.{Option, some}
+use mathlib.Core.List.{List, [], _∷_, _++_}
+use Prim.Native.Nat.{ℕ, suc, _+_, _-_, _*_, _/_, _%_, _<_, _≤_}
 use native.Mathlib.Nat.{add-zero}
 use native.Mathlib.Omega.{arith}
 use lib.Dec.{eqb, ltb}
 use borrow.Author.Tests.{eq-eqb, ne-eqb, eqb-true, le-ltb, ltb-true, ltb-false}
 use lib.ListN.{length, getD, set, replicate}
 use lib.Seq.{sets, set-comm}
-use Rattle.meaning.specs.Lists.{pick, first, before}
+use Rattle.meaning.specs.Lists.{pick}
 use Rattle.meaning.specs.Names.{Name, is-operator}
 use Rattle.meaning.specs.Syntax.{Term, node, Terms, no-terms, _then_}
-use Rattle.meaning.specs.Origins.{Section, export-section, hidden-section, parameter-section, Origin, Sort, FunctionType, visible-head, hidden-head, var, app, Shape, sort-shape, function-shape, variable-shape, is-sort, is-function, Item}
+use Rattle.meaning.specs.Origins.{Section, export-section, hidden-section, parameter-section, Origin, Sort, FunctionType, visible-head, hidden-head, var, app, Shape, function-shape, variable-shape, is-sort, is-function, Item}
 use Rattle.meaning.specs.Typing.{Typed, TypedList, head-of, of-shape, found-with, no-arguments, takes, is-variable}
 use Rattle.tape.specs.Tape.{Entry, entry, alone-role, head-role, close-role, prefix-role, infix-role, role-with, closing, flat-node}
 use Rattle.tape.specs.Tape as on-tape
@@ -24,15 +24,12 @@ use Rattle.tables.specs.Rows.{sort-of, type-of, shape-of, item-of, row-at}
 use Rattle.forms.specs.Memory.{Kept}
 use Rattle.forms.specs.FormLaws.{Apart, kept-then, kept-wider, kept-sets, kept-same, items-same, tape-same, row-same}
 use Rattle.forms.specs.Forms.{items-at, Node, how-many, flat-term, flat-terms, node-shape, node-of}
+use Rattle.walks.specs.Shapes.{by-kind}
 use Rattle.typing.specs.declared.Known.{Known}
 use Rattle.typing.specs.Typing.{tape-in, items-in, node-word, arguments-of, closers-of}
 use Rattle.typing.specs.Equations.{is-opening}
 
 -- ---- lists and stores
-
-pub map-append : {A B : Type 0} (f : A → B) (xs ys : List A) → map f (xs ++ ys) ≡ map f xs ++ map f ys
-map-append f [] ys = refl
-map-append {A} {B} f (x ∷ xs) ys = ap (λ (r : List B). f x ∷ r) (map-append f xs ys)
 
 pub sets-append : (a b w : List ℕ) (i : ℕ) → sets (sets w i a) (i + length a) b ≡ sets w i (a ++ b)
 sets-append [] b w i = ap (λ (j : ℕ). sets w j b) (add-zero i)
@@ -46,39 +43,6 @@ sets-head [] w i j v h = refl
 sets-head (x ∷ vs) w i j v h =
     sets-head vs (set w j x) i (suc j) v (omega arith)
     ∙ ap (λ (u : List ℕ). sets u (suc j) vs) (set-comm w j i x v (λ e. absurd (omega arith)))
-
--- ---- the first item that passes stands where `before` says
-
-module _ (p : Item → Bool) (text tape w : List ℕ) where
-  pub record Found (b n : ℕ) : Type 0 where
-    pub first-is : first p (items-at text tape w b n) ≡ some (item-of text tape (row-at w (b + before p (items-at text tape w b n) * 16)))
-    pub passes : p (item-of text tape (row-at w (b + before p (items-at text tape w b n) * 16))) ≡ true
-
-  pub found-row : (b n : ℕ) → before p (items-at text tape w b n) < n → Found b n
-  unfolding first before items-at pick
-  found-row b zero h = absurd (omega arith)
-  found-row b (suc n) h = go (p (item-of text tape (row-at w b))) refl h (found-row (b + 16) n)
-    where
-      go : (t : Bool) → p (item-of text tape (row-at w b)) ≡ t → pick t 0 (suc (before p (items-at text tape w (b + 16) n))) < suc n
-          → (before p (items-at text tape w (b + 16) n) < n → Found (b + 16) n) → Found b (suc n)
-      go true e l more =
-          let z : b + 0 * 16 ≡ b = omega arith in
-          record { first-is = rw (e, z); passes = rw (e, z) e }
-      go false e l more =
-          let f = more (omega arith) in
-          let z : b + suc (before p (items-at text tape w (b + 16) n)) * 16 ≡ b + 16 + before p (items-at text tape w (b + 16) n) * 16 = omega arith in
-          record { first-is = rw (e, z) (f .first-is); passes = rw (e, z) (f .passes) }
-
-  pub found-none : (b n : ℕ) → n ≤ before p (items-at text tape w b n) → first p (items-at text tape w b n) ≡ none
-  unfolding first before items-at pick
-  found-none b zero h = refl
-  found-none b (suc n) h = go (p (item-of text tape (row-at w b))) refl h (found-none (b + 16) n)
-    where
-      go : (t : Bool) → p (item-of text tape (row-at w b)) ≡ t → suc n ≤ pick t 0 (suc (before p (items-at text tape w (b + 16) n)))
-          → (n ≤ before p (items-at text tape w (b + 16) n) → first p (items-at text tape w (b + 16) n) ≡ none)
-          → pick (p (item-of text tape (row-at w b))) (some (item-of text tape (row-at w b))) (first p (items-at text tape w (b + 16) n)) ≡ none
-      go true e l more = absurd (omega arith)
-      go false e l more = rw e (more (omega arith))
 
 -- ---- what stands at a node
 
@@ -100,27 +64,18 @@ known-row k v = pick (eqb (v / 16 % 2) 0) (v / 32) (k .visible + (v / 32 - k .hi
 
 -- the shape that passed a test
 module _ (text tape : List ℕ) (kind : ℕ) (sorts : List ℕ) where
-  abbrev pub shaped : Bool → Bool → Shape
-  shaped a b =
-      pick a sort-shape (pick b (variable-shape (sort-of text tape (getD sorts 8 0))) (function-shape (type-of text tape (kind - 2) sorts)))
-
-  function-here : (ss : List Sort) → takes ss (shape-of text tape kind sorts) ≡ true → shape-of text tape kind sorts ≡ function-shape (type-of text tape (kind - 2) sorts)
-  unfolding shape-of takes pick
-  function-here ss p = go (eqb kind 0) (eqb kind 1) p
-    where
-      go : (a b : Bool) → takes ss (shaped a b) ≡ true → shaped a b ≡ function-shape (type-of text tape (kind - 2) sorts)
-      go true b h = absurd (false≢true h)
-      go false true h = absurd (false≢true h)
-      go false false h = refl
+  function-here : (ss : List Sort) → takes ss (shape-of text tape kind sorts) ≡ true
+      → shape-of text tape kind sorts ≡ function-shape (type-of text tape (kind - 2) sorts)
+  unfolding takes
+  function-here ss =
+      by-kind text tape kind sorts (λ (s : Shape). takes ss s ≡ true → s ≡ function-shape (type-of text tape (kind - 2) sorts))
+      (λ e h. absurd (false≢true h)) (λ e h. absurd (false≢true h)) (λ l h. refl)
 
   variable-here : is-variable (shape-of text tape kind sorts) ≡ true → shape-of text tape kind sorts ≡ variable-shape (sort-of text tape (getD sorts 8 0))
-  unfolding shape-of is-variable pick
-  variable-here p = go (eqb kind 0) (eqb kind 1) p
-    where
-      go : (a b : Bool) → is-variable (shaped a b) ≡ true → shaped a b ≡ variable-shape (sort-of text tape (getD sorts 8 0))
-      go true b h = absurd (false≢true h)
-      go false true h = refl
-      go false false h = absurd (false≢true h)
+  unfolding is-variable
+  variable-here =
+      by-kind text tape kind sorts (λ (s : Shape). is-variable s ≡ true → s ≡ variable-shape (sort-of text tape (getD sorts 8 0)))
+      (λ e h. absurd (false≢true h)) (λ e h. refl) (λ l h. absurd (false≢true h))
 
   output-here : (n : ℕ) → sort-of text tape (getD sorts 8 0) ≡ type-of text tape n sorts .output
   unfolding type-of

@@ -3,7 +3,7 @@
 use mathlib.Core.Path.{_≡_, refl, ap₂, _∙_}
 use mathlib.Core.Bool.{Bool, true, false}
 use mathlib.Core.Option.{Option, none, some}
-use mathlib.Core.List.{List, [], _∷_, _++_, map}
+use mathlib.Core.List.{List, [], _∷_, _++_, map, map-append}
 use Prim.Native.Nat.{ℕ, suc, _+_, _≤_}
 use native.Mathlib.Omega.{arith}
 use lib.ListN.{length, length-append}
@@ -23,7 +23,7 @@ use Rattle.typing.specs.declared.Answer.{Answer}
 use Rattle.typing.specs.declared.Answer.the-variants.{Sorted, Ill}
 use Rattle.typing.specs.Typing.{Out, out, items-in, term-at}
 use Rattle.typing.specs.Equations.{right-checked, right-at, left-checked, sides-at}
-use Rattle.typing.specs.Meant.{map-append, sets-append, Spells, spells-front, spells-back, Layout, node-here, Pointed, tape-stays, sets-kept}
+use Rattle.typing.specs.Meant.{sets-append, Spells, spells-front, spells-back, Layout, node-here, Pointed, tape-stays, sets-kept}
 use Rattle.typing.specs.Terms.{Agrees, term-typed}
 
 module _ (text : List ℕ) (k : Known) (w₀ : List ℕ) where

@@ -1,9 +1,9 @@
 -- What is typed in memory is what the meaning types (meaning/specs/Typing.antt): where the entries spell a term, the answer is its sort and
 -- the words written are its nodes; and it is ill typed where the meaning has no sort for it.
 use mathlib.Core.Path.{_≡_, refl, sym, ap, ap₂, _∙_}
-use mathlib.Core.Bool.{Bool, true, false, _&&_, false≢true}
+use mathlib.Core.Bool.{Bool, true, false, _&&_, and-false, false≢true}
 use mathlib.Core.Option.{Option, none, some}
-use mathlib.Core.List.{List, [], _∷_, _++_, map, append-assoc}
+use mathlib.Core.List.{List, [], _∷_, _++_, map, map-append, append-assoc}
 use Prim.Native.Nat.{ℕ, zero, suc, _+_, _-_, _*_, _<_, _≤_}
 use native.Mathlib.Numerals.{add-one}
 use native.Mathlib.Nat.{add-zero}
@@ -12,42 +12,35 @@ use lib.Dec.{eqb, ltb, leb}
 use borrow.Author.Tests.{eq-eqb, ne-eqb, lt-ltb, ltb-true, ltb-false, leb-true, leb-false}
 use lib.ListN.{length, getD, set, take, drop, length-append, length-map, length-take, length-replicate}
 use lib.Seq.{sets, sets-eq, take-append-seam}
-use Rattle.meaning.specs.Lists.{pick, first, before, or-else, agree}
+use Rattle.meaning.specs.Lists.{pick, first, before, or-else}
 use Rattle.meaning.specs.OrderLaws.{Every}
 use Rattle.meaning.specs.Names.{Name}
 use Rattle.meaning.specs.Syntax.{Term, node, Terms, no-terms, _then_}
-use Rattle.meaning.specs.Origins.{Sort, same-sort, function-shape, Item}
+use Rattle.meaning.specs.Origins.{Sort, same-sort, Shape, function-shape, Item}
 use Rattle.meaning.specs.Normal.{is-called}
 use Rattle.meaning.specs.Typing.{Typed, TypedList, found-with, no-arguments, takes, is-variable, joined-typed, applied, alone, with-arguments, typed, typed-list}
 use Rattle.limits.specs.EveryLaws.{every-append}
 use Rattle.tape.specs.Tape.{Entry, entry, alone-role, close-role, flat-node}
 use Rattle.tape.specs.Tape as on-tape
 use Rattle.tables.specs.Entries.{role-at, name-at}
-use Rattle.tables.specs.Rows.{sort-of, type-of, shape-of, item-of, words-from, row-at}
+use Rattle.tables.specs.Rows.{sort-of, type-of, item-of, words-from, row-at}
 use Rattle.forms.specs.Memory.{Kept}
 use Rattle.forms.specs.Forms.{items-at, how-many, flat-term, flat-terms, node-of}
+use Rattle.walks.specs.Lists.{agree-lengths}
+use Rattle.walks.specs.Shapes.{by-kind}
+use Rattle.walks.specs.Rows.{first-row, row-passes, no-row}
 use Rattle.typing.specs.declared.Known.{Known}
 use Rattle.typing.specs.declared.Answer.{Answer}
 use Rattle.typing.specs.declared.Answer.the-variants.{Sorted, Ill}
 use Rattle.typing.specs.Known.{variable-called, function-called}
 use Rattle.typing.specs.Typing.{Out, out, tape-in, items-in, node-word, settled, resolved, no-sorts, variable-row, function-row, applied-at, alone-at, further, arguments-of, closers-of, ends-at, args-by, term-by, term-at}
-use Rattle.typing.specs.Meant.{map-append, sets-append, sets-head, found-row, found-none, shaped, known-item, node-here, Pointed, node-settled, word-pointed, Settles, function-settles, variable-settles, Spells, spells-front, spells-back, leads, role-of, ending, with-head, begins, Layout, variable-behind, tape-stays, items-stay, row-stays, sets-kept}
+use Rattle.typing.specs.Meant.{sets-append, sets-head, known-item, node-here, Pointed, node-settled, word-pointed, Settles, function-settles, variable-settles, Spells, spells-front, spells-back, leads, role-of, ending, with-head, begins, Layout, variable-behind, tape-stays, items-stay, row-stays, sets-kept}
 
 -- ---- more sorts than a row has are taken by none
 
 and-second : (a b : Bool) → (a && b) ≡ true → b ≡ true
 and-second true b h = h
 and-second false b h = absurd (false≢true h)
-
-agree-fewer : {A : Type 0} (e : A → A → Bool) (xs ys : List A) → length ys < length xs → agree e xs ys ≡ false
-unfolding agree pick
-agree-fewer e [] ys h = absurd (omega arith)
-agree-fewer e (x ∷ xs) [] h = refl
-agree-fewer e (x ∷ xs) (y ∷ ys) h = rw (agree-fewer e xs ys (omega arith)) (go (e x y))
-  where
-    go : (b : Bool) → pick b false false ≡ false
-    go true = refl
-    go false = refl
 
 nine-sorts : (w : List ℕ) (b : ℕ) → length (row-at w b .sorts) ≡ 9
 unfolding row-at words-from
@@ -56,22 +49,17 @@ nine-sorts w b = refl
 few : (text tape : List ℕ) (n : ℕ) (sorts : List ℕ) (ss : List Sort) → length sorts ≡ 9 → 9 < length ss → takes ss (function-shape (type-of text tape n sorts)) ≡ false
 unfolding takes type-of
 few text tape n sorts ss e h =
-    agree-fewer same-sort ss (map (sort-of text tape) (take n sorts))
-    (let l : length (map (sort-of text tape) (take n sorts)) ≡ length (take n sorts) = length-map (take n sorts) (sort-of text tape) in
-    omega (arith, length-take n sorts))
+    agree-lengths same-sort ss (map (sort-of text tape) (take n sorts))
+    (λ q. omega (arith, length-map (take n sorts) (sort-of text tape), length-take n sorts))
 
 module _ (text tape w : List ℕ) (f : Name) (ss : List Sort) (many : 9 < length ss) where
   never : (b : ℕ) → function-called f ss (item-of text tape (row-at w b)) ≡ false
-  unfolding function-called item-of shape-of takes pick
-  never b = go (eqb (row-at w b .kind) 0) (eqb (row-at w b .kind) 1) (is-called f (item-of text tape (row-at w b)))
-    where
-      go : (x y c : Bool) → (c && takes ss (shaped text tape (row-at w b .kind) (row-at w b .sorts) x y)) ≡ false
-      go true y true = refl
-      go true y false = refl
-      go false true true = refl
-      go false true false = refl
-      go false false true = few text tape (row-at w b .kind - 2) (row-at w b .sorts) ss (nine-sorts w b) many
-      go false false false = refl
+  unfolding function-called item-of takes
+  never b =
+      let r = row-at w b in
+      let c = is-called f (item-of text tape r) in
+      by-kind text tape (r .kind) (r .sorts) (λ (s : Shape). (c && takes ss s) ≡ false)
+      (λ e. and-false c) (λ e. and-false c) (λ l. rw (few text tape (r .kind - 2) (r .sorts) ss (nine-sorts w b) many) (and-false c))
 
   first-never : (b n : ℕ) → first (function-called f ss) (items-at text tape w b n) ≡ none
   unfolding first items-at pick
@@ -215,11 +203,11 @@ module _ (text : List ℕ) (k : Known) (w₀ : List ℕ) (q₀ e₀ : ℕ) (l : 
       go true d =
           let row = before (function-called f (ts .sorts)) known in
           let h = ltb-true row (k .count) d in
-          let found = found-row (function-called f (ts .sorts)) text (tape-in k w₀) w₀ (k .base) (k .count) h in
-          let s = function-settles text k w₀ row ts (ts .sorts) (l .standing row h) (and-second (is-called f (known-item text k w₀ row)) (takes (ts .sorts) (known-item text k w₀ row .shape)) (found .passes)) in
-          rw (found .first-is) (settled-well row n i size q vs w ts _ s h few′ e g p kept room)
+          let passed = row-passes (function-called f (ts .sorts)) text (tape-in k w₀) w₀ (k .base) (k .count) h in
+          let s = function-settles text k w₀ row ts (ts .sorts) (l .standing row h) (and-second (is-called f (known-item text k w₀ row)) (takes (ts .sorts) (known-item text k w₀ row .shape)) passed) in
+          rw (first-row (function-called f (ts .sorts)) text (tape-in k w₀) w₀ (k .base) (k .count) h) (settled-well row n i size q vs w ts _ s h few′ e g p kept room)
       go false d =
-          rw (found-none (function-called f (ts .sorts)) text (tape-in k w₀) w₀ (k .base) (k .count) (ltb-false _ (k .count) d), nothing-found ts) refl
+          rw (no-row (function-called f (ts .sorts)) text (tape-in k w₀) w₀ (k .base) (k .count) (ltb-false _ (k .count) d), nothing-found ts) refl
 
   -- a name alone
   alone-well : (f : Name) (i q : ℕ) (w : List ℕ) → name-at text (tape-in k w₀) i ≡ f → Kept q₀ e₀ w₀ w → Agrees text k w₀ (alone known f) i 1 q w (alone-at text k i q w)
@@ -244,13 +232,13 @@ module _ (text : List ℕ) (k : Known) (w₀ : List ℕ) (q₀ e₀ : ℕ) (l : 
           (pick t (settled k q row 0 (i + 1) (q + 1) w) (resolved k q (before (function-called f []) known) 0 (i + 1) (q + 1) w))
       go true d =
           let h = ltb-true row (k .count) d in
-          let found = found-row (variable-called f) text (tape-in k w₀) w₀ (k .base) (k .count) h in
-          let p = and-second (is-called f (known-item text k w₀ row)) (is-variable (known-item text k w₀ row .shape)) (found .passes) in
+          let passed = row-passes (variable-called f) text (tape-in k w₀) w₀ (k .base) (k .count) h in
+          let p = and-second (is-called f (known-item text k w₀ row)) (is-variable (known-item text k w₀ row .shape)) passed in
           let s = variable-settles text k w₀ row p (variable-behind text k w₀ q₀ e₀ l row p) in
           let a : Agrees text k w₀ (some (s .result)) i 1 q w (settled k q row 0 (i + 1) (q + 1 + 0) w) =
           rw (s .found) at (settled-well row 0 i 1 q [] w no-arguments (found-with no-arguments (some (known-item text k w₀ row))) s h (omega arith) refl refl tt kept (omega arith)) in
-          rw (found .first-is, s .found, here) a
-      go false d = rw (found-none (variable-called f) text (tape-in k w₀) w₀ (k .base) (k .count) (ltb-false row (k .count) d), nothing-found no-arguments) constant
+          rw (first-row (variable-called f) text (tape-in k w₀) w₀ (k .base) (k .count) h, s .found, here) a
+      go false d = rw (no-row (variable-called f) text (tape-in k w₀) w₀ (k .base) (k .count) (ltb-false row (k .count) d), nothing-found no-arguments) constant
 
   -- a name with arguments
   collected : (own : List ℕ) → length own ≤ 9 → take (length own) (sets no-sorts 0 own) ≡ own

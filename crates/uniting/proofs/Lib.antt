@@ -1,3 +1,2 @@
-pub mod Forms
 pub mod Slots
 pub mod Unions

@@ -14,7 +14,7 @@ use Rattle.forms.specs.declared.Form.{Form}
 use Rattle.forms.specs.Memory.{part, Kept}
 use Rattle.forms.specs.Forms.{slot-at, slots-at, visible-at}
 use Rattle.forms.specs.FormLaws.{Apart, kept-all, kept-wider, kept-then, kept-same, slot-same, slots-grow, tape-same}
-use Rattle.clauses.specs.Joined.{keep-append}
+use Rattle.walks.specs.Lists.{keep-append}
 use Rattle.clauses.specs.KeptParameters.{SlotCopied, copied-behind}
 use Rattle.uniting.specs.Rooms.{SlotsRoom, SlotRoom}
 use Rattle.uniting.specs.United.{with-items, other-slots, SlotUnited, SlotsUnited}

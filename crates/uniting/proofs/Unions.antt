@@ -9,7 +9,7 @@ use Rattle.forms.specs.Memory.{part}
 use Rattle.translation.specs.declared.Mode.{Mode}
 use Rattle.absorb.specs.Absorb.{Absorbed, AbsorbedWithin}
 use Rattle.uniting.specs.United.{with-items, VisibleUnited, ItemsUnited}
-use Rattle.uniting.specs.Hiding.{items-room, hidden-united-within, room-for-all, hidden-united}
+use Rattle.uniting.specs.Hiding.{items-room, hidden-united-within}
 
 module _ (text : List ℕ) (t : ℕ) (w w′ : List ℕ) (m : Mode) (g f r : Form) (notes n : ℕ) where
   pub visible-united : (drop : Bool) → Absorbed text (part w 0 t) w m true drop (g .visible) (g .«visible_count») (f .visible) (f .«visible_count») notes n w′
@@ -23,4 +23,4 @@ module _ (text : List ℕ) (t : ℕ) (w w′ : List ℕ) (m : Mode) (g f r : For
   unfolding with-items
   items-united cap a e = record { form = rw e; absorbed = rw e a }
 
-pub ruleset unions = (visible-united, items-united, items-room, hidden-united-within, room-for-all, hidden-united, needs)
+pub ruleset unions = (visible-united, items-united, items-room, hidden-united-within, needs)

@@ -1,6 +1,7 @@
 -- What uniting comes to: through a renaming onto nothing it is the meaning's `move`, as it is the meaning's `unite`; and where there is room
 -- for all equations none is left out.
 use mathlib.Core.Path.{_≡_, refl, ap, ap₂, _∙_, subst}
+use mathlib.Core.Logic.{inr}
 use Prim.Native.Nat.{ℕ, _+_, _≤_}
 use native.Mathlib.Omega.{arith}
 use mathlib.Core.Bool.{true, not}
@@ -104,25 +105,13 @@ module _ (text : List ℕ) (t : ℕ) (w : List ℕ) (m : Mode) (g f : Form) (b :
       → Stands text (part w′ 0 t) w′ r
       (record { visible = to .visible; hidden = hidden-onto (sorts text t w m) (functions text t w m) (to .hidden) (from .hidden) })
   hidden-stands notes x noted =
-      subst (λ (h : Hidden). Stands text (part w′ 0 t) w′ r (record { visible = to .visible; hidden = h })) all-within (x .stands from to source target noted)
+      subst (λ (h : Hidden). Stands text (part w′ 0 t) w′ r (record { visible = to .visible; hidden = h })) all-within
+      (x .stands (inr (omega arith)) from to source target noted)
 
-  module _ (x : United text t w m g f b r w′) where
-    pub united-stands : Stands text (part w′ 0 t) w′ r (moved-onto (sorts text t w m) (functions text t w m) to from)
-    unfolding moved-onto
-    united-stands =
-        subst (λ (h : Hidden). Stands text (part w′ 0 t) w′ r (record {
-          visible = visible-onto (sorts text t w m) (functions text t w m) (to .visible) (from .visible);
-          hidden = h;
-        })) all-within (x .stands from to source target)
-
-    -- through a renaming, onto nothing
-    pub renamed-stands : m .kind ≡ 1 → to ≡ empty
-        → Stands text (part w′ 0 t) w′ r
-        (move (renaming (pairs-at text (part w 0 t) (m .pairs))) (λ (a : Name) (s : FunctionType). renaming (pairs-at text (part w 0 t) (m .pairs)) a) from)
-    renamed-stands h e =
-        subst (Stands text (part w′ 0 t) w′ r)
-        (ap (λ (n : Normal). moved-onto (sorts text t w m) (functions text t w m) n from) e ∙ moved-by-renaming text (part w 0 t) w m from h) united-stands
-
-    -- as it is
-    pub as-is-stands : m .kind ≡ 0 → Stands text (part w′ 0 t) w′ r (unite to from)
-    as-is-stands h = subst (Stands text (part w′ 0 t) w′ r) (united-as-is text (part w 0 t) w m to from h) united-stands
+  pub united-stands : United text t w m g f b r w′ → Stands text (part w′ 0 t) w′ r (moved-onto (sorts text t w m) (functions text t w m) to from)
+  unfolding moved-onto
+  united-stands x =
+      subst (λ (h : Hidden). Stands text (part w′ 0 t) w′ r (record {
+        visible = visible-onto (sorts text t w m) (functions text t w m) (to .visible) (from .visible);
+        hidden = h;
+      })) all-within (x .stands from to source target)

@@ -14,8 +14,9 @@ use Rattle.forms.specs.declared.Form.{Form}
 use Rattle.forms.specs.declared.Block.{Block}
 use Rattle.forms.specs.Memory.{part, KeptTwo}
 use Rattle.forms.specs.Forms.{items-at, visible-at, Stands}
-use Rattle.forms.specs.FormLaws.{apart-within, kept-two-same, items-same, tape-same}
+use Rattle.forms.specs.FormLaws.{kept-two-same, items-same}
 use Rattle.forms.specs.Blocks.{Outside}
+use Rattle.frames.specs.Changes.{apart-in, outside, outside-in, tape-kept-two, still-stands-two}
 use Rattle.translation.specs.declared.Mode.{Mode}
 use Rattle.translation.specs.Translation.{moved-in, moved-hidden}
 use Rattle.absorb.specs.Absorb.{Absorbed, taken}
@@ -26,9 +27,9 @@ use Rattle.joining.specs.Grown.{Grown, joined-grown}
 use Rattle.joining.specs.Found.{Noted}
 use Rattle.joining.specs.Pointed.{noted-stays}
 use Rattle.joining.specs.Joins.{Joining, joined-stands}
-use Rattle.uniting.specs.Rooms.{HiddenRoom, HiddenRoomWithin}
-use Rattle.uniting.specs.United.{with-items, hidden-onto, within, ItemsUnited, sorts, functions, HiddenUnited, HiddenUnitedWithin}
-use Rattle.uniting.specs.Standing.{outside-narrower, stands-kept-two, visible-same, stands-more}
+use Rattle.uniting.specs.Rooms.{HiddenRoomWithin}
+use Rattle.uniting.specs.United.{with-items, hidden-onto, within, ItemsUnited, sorts, functions, HiddenUnitedWithin}
+use Rattle.uniting.specs.Standing.{visible-same, stands-more}
 use Rattle.uniting.specs.Noting.{all-noted}
 
 -- ---- items that are all taken
@@ -57,21 +58,18 @@ absorbed-all text tape w m visible s ns d nd o r w′ xs ys x e f = x .items ∙
 module _ (text : List ℕ) (t : ℕ) (w : List ℕ) (m : Mode) (g f : Form) (b : Block) (notes cap : ℕ)
     (room : HiddenRoomWithin (length w) t m g f b notes cap) where
   pub items-room : RoomWithin (length w) t m (g .hidden) (g .«hidden_count») (f .hidden) cap (b .«hidden_notes»)
-  items-room =
-      let low = f .hidden in
-      let high = b .«hidden_notes» + g .«hidden_count» in
-      record {
-        tape-table = room .tape;
-        tape-note = omega (arith, room);
-        table = omega (arith, room);
-        note = room .hidden-notes;
-        few = room .few;
-        table-note = inr (omega (arith, room));
-        table-source = apart-within low high _ _ _ _ (omega (arith, room)) (omega (arith, room)) (room .outside .hidden);
-        note-source = apart-within low high _ _ _ _ (omega (arith, room)) (omega (arith, room)) (room .outside .hidden);
-        table-mode = apart-within low high _ _ _ _ (omega (arith, room)) (omega (arith, room)) (room .mode);
-        note-mode = apart-within low high _ _ _ _ (omega (arith, room)) (omega (arith, room)) (room .mode);
-      }
+  items-room = record {
+    tape-table = room .tape;
+    tape-note = omega arith;
+    table = omega arith;
+    note = room .hidden-notes;
+    few = room .few;
+    table-note = inr (omega arith);
+    table-source = apart-in (omega arith) (room .outside .hidden);
+    note-source = apart-in (omega arith) (room .outside .hidden);
+    table-mode = apart-in (omega arith) (room .mode);
+    note-mode = apart-in (omega arith) (room .mode);
+  }
 
   abbrev first : ℕ
   first = f .hidden + f .«hidden_count» * 16
@@ -86,31 +84,16 @@ module _ (text : List ℕ) (t : ℕ) (w : List ℕ) (m : Mode) (g f : Form) (b :
   note-end = b .«hidden_notes» + g .«hidden_count»
 
   own-rows : Outside first last f
-  own-rows = record {
-    parameters = inl (omega (arith, room));
-    visible = inl (omega (arith, room));
-    hidden = inl (omega (arith, room));
-    equations = inr (room .hidden);
-    nodes = inr (omega (arith, room));
-  }
+  own-rows = outside (omega arith)
 
   own-notes : Outside note note-end f
-  own-notes =
-      record {
-        parameters = inl (omega (arith, room));
-        visible = inl (omega (arith, room));
-        hidden = inl (omega (arith, room));
-        equations = inl (omega (arith, room));
-        nodes = inl (omega (arith, room));
-      }
+  own-notes = outside (omega arith)
 
   source-rows : Outside first last g
-  source-rows =
-      outside-narrower (f .hidden) note-end first last g (omega (arith, room)) (omega (arith, room)) (room .outside)
+  source-rows = outside-in (omega arith) (room .outside)
 
   source-notes : Outside note note-end g
-  source-notes =
-      outside-narrower (f .hidden) note-end note note-end g (omega (arith, room)) (omega (arith, room)) (room .outside)
+  source-notes = outside-in (omega arith) (room .outside)
 
   -- ---- the items
 
@@ -134,11 +117,10 @@ module _ (text : List ℕ) (t : ℕ) (w : List ℕ) (m : Mode) (g f : Form) (b :
     note-behind = omega (arith, room)
 
     tape-stays : part w₁ 0 t ≡ part w 0 t
-    tape-stays = tape-same w w₁ t (kept .size) (λ i u v. kept .kept i (inl (omega (arith, room))) (inl (omega (arith, room, note-behind))))
+    tape-stays = tape-kept-two (omega arith) note-behind kept
 
     source-stands : (from : Normal) → Stands text (part w 0 t) w g from → Stands text (part w₁ 0 t) w₁ g from
-    source-stands from s =
-        stands-kept-two text t w w₁ first last note note-end g from (omega (arith, room)) note-behind kept source-rows source-notes s
+    source-stands from s = still-stands-two (omega (arith, room)) note-behind kept source-rows source-notes s
 
     abbrev taken-up : Normal → Normal → Normal
     taken-up from to = record {
@@ -162,7 +144,7 @@ module _ (text : List ℕ) (t : ℕ) (w : List ℕ) (m : Mode) (g f : Form) (b :
         → Stands text (part w₁ 0 t) w₁ grown (taken-up from to)
     unfolding visible-at
     target-stands all from to s z =
-        let stood = stands-kept-two text t w w₁ first last note note-end f to (omega (arith, room)) note-behind kept own-rows own-notes z in
+        let stood = still-stands-two {t = t} (omega (arith, room)) note-behind kept own-rows own-notes z in
         stands-more text (part w₁ 0 t) w₁ f (f .«parameter_count») (f .«visible_count») count (omega (arith, room)) (x .absorbed .grows) to
         (to .visible .parameters) (to .visible .items) (hidden-onto σ φ (to .hidden) (from .hidden) .items) stood
         (ap (λ (v : Visible). v .parameters) (stood .visible)) (ap (λ (v : Visible). v .items) (stood .visible))
@@ -176,10 +158,9 @@ module _ (text : List ℕ) (t : ℕ) (w : List ℕ) (m : Mode) (g f : Form) (b :
     visible-noted : Noted σ φ text (part w 0 t) w true notes (g .visible) (g .«visible_count») (f .visible) (f .«visible_count»)
         → Noted σ φ text (part w₁ 0 t) w₁ true notes (g .visible) (g .«visible_count») (f .visible) (f .«visible_count»)
     visible-noted n =
-        let rows = apart-within (f .hidden) (f .nodes + b .«node_room») first last _ _ (omega (arith, room)) (omega (arith, room)) (room .notes-rows) in
         subst (λ (tape : List ℕ). Noted σ φ text tape w₁ true notes (g .visible) (g .«visible_count») (f .visible) (f .«visible_count»)) (sym tape-stays)
         (noted-stays σ φ text (part w 0 t) w w₁ true notes (g .visible) (g .«visible_count») (f .visible) (f .«visible_count»)
-        (kept-two-same first last note note-end _ _ w w₁ rows (room .notes-notes) kept)
+        (kept-two-same first last note note-end _ _ w w₁ (apart-in (omega (arith, room)) (room .notes-rows)) (room .notes-notes) kept)
         (kept-two-same first last note note-end _ _ w w₁ (source-rows .visible) (source-notes .visible) kept)
         (kept-two-same first last note note-end _ _ w w₁ (own-rows .visible) (own-notes .visible) kept) n)
 
@@ -206,11 +187,11 @@ module _ (text : List ℕ) (t : ℕ) (w : List ℕ) (m : Mode) (g f : Form) (b :
           rows = room .equations;
           nodes = omega (arith, room);
           source-nodes = omega (arith, room);
-          outside-source = outside-narrower (f .hidden) note-end _ _ g (omega (arith, room)) (omega (arith, room)) (room .outside);
+          outside-source = outside-in (omega (arith, room)) (room .outside);
           outside-parameters = inl (omega (arith, room));
           outside-visible = inl (omega (arith, room));
           outside-hidden = inl (omega (arith, room));
-          outside-visible-notes = apart-within (f .hidden) (f .nodes + b .«node_room») _ _ _ _ (omega (arith, room)) (omega (arith, room)) (room .notes-rows);
+          outside-visible-notes = apart-in (omega (arith, room)) (room .notes-rows);
           outside-hidden-notes = inr (omega (arith, room));
           enough = room .enough;
           few = room .few-equations;
@@ -230,8 +211,7 @@ module _ (text : List ℕ) (t : ℕ) (w : List ℕ) (m : Mode) (g f : Form) (b :
       rows-stay =
           let base : r .hidden ≡ f .hidden = ap (λ (z : Form). z .hidden) (joins .same) in
           let many : r .«hidden_count» ≡ count = ap (λ (z : Form). z .«hidden_count») (joins .same) in
-          let tape : part w′ 0 t ≡ part w₁ 0 t =
-          tape-same w₁ w′ t (joins .kept .size) (λ i u v. joins .kept .kept i (inl (omega (arith, room))) (inl (omega (arith, room)))) in
+          let tape = tape-kept-two {t = t} (omega (arith, room)) (omega (arith, room)) (joins .kept) in
           (λ i. items-at text ((tape ∙ tape-stays) i) w′ (base i) (many i))
           ∙ items-same w₁ w′ text (part w 0 t) (f .hidden) count
           (λ i u v. joins .kept .kept i (inl (omega (arith, room, x .absorbed .within))) (inl (omega (arith, room, x .absorbed .within))))
@@ -249,7 +229,7 @@ module _ (text : List ℕ) (t : ℕ) (w : List ℕ) (m : Mode) (g f : Form) (b :
       visible-stays : visible-at text (part w′ 0 t) w′ r ≡ visible-at text (part w 0 t) w f
       unfolding visible-at with-items with-counts
       visible-stays =
-          let tape = tape-same w w′ t (both-kept .size) (λ i u v. both-kept .kept i (inl (omega (arith, room))) (inl (omega (arith, note-behind)))) in
+          let tape = tape-kept-two (room .tape) note-behind both-kept in
           (λ i. visible-at text (tape i) w′ (joins .same i))
           ∙ visible-same text (part w 0 t) w w′ f (kept-two-same _ _ note note-end _ _ w w′ (inl (room .parameters)) (own-notes .parameters) both-kept)
           (kept-two-same _ _ note note-end _ _ w w′ (inl (room .visible)) (own-notes .visible) both-kept)
@@ -276,38 +256,3 @@ module _ (text : List ℕ) (t : ℕ) (w : List ℕ) (m : Mode) (g f : Form) (b :
                 (joined-stands σ φ text t w₁ places g grown from (taken-up from to)
                 (joining (subst (λ (c : ℕ). (c < cap) ⊎ (f .«hidden_count» + g .«hidden_count» ≤ cap)) many p) from to s z n));
           }
-
--- ---- with room for all
-
-module _ (t : ℕ) (m : Mode) (g f : Form) (b : Block) (notes : ℕ) where
-  pub room-for-all : (size : ℕ) → HiddenRoom size t m g f b notes → HiddenRoomWithin size t m g f b notes (f .«hidden_count» + g .«hidden_count»)
-  room-for-all size room = record {
-    tape = room .tape;
-    parameters = room .parameters;
-    visible = room .visible;
-    hidden = room .hidden;
-    equations = room .equations;
-    nodes = room .nodes;
-    hidden-notes = room .hidden-notes;
-    enough = room .enough;
-    have = omega arith;
-    few = room .few;
-    few-equations = room .few-equations;
-    few-nodes = room .few-nodes;
-    source-nodes = room .source-nodes;
-    outside = room .outside;
-    mode = room .mode;
-    notes-rows = room .notes-rows;
-    notes-notes = room .notes-notes;
-  }
-
-  pub hidden-united : (text w : List ℕ) (r : Form) (w′ : List ℕ)
-      → HiddenUnitedWithin text t w m g f b notes (f .«hidden_count» + g .«hidden_count») r w′ → HiddenUnited text t w m g f b notes r w′
-  hidden-united text w r w′ x = record {
-    form = x .form;
-    few = x .few;
-    equations = x .equations;
-    nodes = x .nodes;
-    kept = x .kept;
-    stands = x .stands (inr (omega arith));
-  }

@@ -30,27 +30,8 @@ pub record SlotRoom (size t : ℕ) (g f : Form) (k n : ℕ) : Type 0 where
   pub have : f .«parameter_count» ≤ n
   pub few : n ≤ f .«parameter_count» + k
 
--- the hidden items and the equations of g come into f: there is room behind those of f, before the notes of hidden items; the words that may
--- be written are none of g, none of the mode's table, and none of the notes of visible items
-pub record HiddenRoom (size t : ℕ) (m : Mode) (g f : Form) (b : Block) (notes : ℕ) : Type 0 where
-  pub tape : t ≤ f .hidden
-  pub parameters : f .parameters + f .«parameter_count» * 2 ≤ f .hidden
-  pub visible : f .visible + f .«visible_count» * 16 ≤ f .hidden
-  pub hidden : f .hidden + (f .«hidden_count» + g .«hidden_count») * 16 ≤ f .equations
-  pub equations : f .equations + b .«equation_room» * 8 ≤ f .nodes
-  pub nodes : f .nodes + b .«node_room» ≤ b .«hidden_notes»
-  pub hidden-notes : b .«hidden_notes» + g .«hidden_count» ≤ size
-  pub enough : b .«equation_room» * node-limit ≤ b .«node_room»
-  pub few : f .«hidden_count» + g .«hidden_count» ≤ 65536
-  pub few-equations : f .«equation_count» ≤ b .«equation_room»
-  pub few-nodes : f .«node_count» ≤ b .«node_room»
-  pub source-nodes : g .nodes + g .«node_count» ≤ size
-  pub outside : Outside (f .hidden) (b .«hidden_notes» + g .«hidden_count») g
-  pub mode : Apart (f .hidden) (b .«hidden_notes» + g .«hidden_count») (m .visible) (m .visible + m .count * 16)
-  pub notes-rows : Apart (f .hidden) (f .nodes + b .«node_room») notes (notes + g .«visible_count»)
-  pub notes-notes : Apart (b .«hidden_notes») (b .«hidden_notes» + g .«hidden_count») notes (notes + g .«visible_count»)
-
--- the same where there is room for `cap` hidden rows, however many g has
+-- the hidden items and the equations of g come into f, which has room for `cap` hidden rows, before the notes of hidden items; the words that
+-- may be written are none of g, none of the mode's table, and none of the notes of visible items
 pub record HiddenRoomWithin (size t : ℕ) (m : Mode) (g f : Form) (b : Block) (notes cap : ℕ) : Type 0 where
   pub tape : t ≤ f .hidden
   pub parameters : f .parameters + f .«parameter_count» * 2 ≤ f .hidden
@@ -69,6 +50,10 @@ pub record HiddenRoomWithin (size t : ℕ) (m : Mode) (g f : Form) (b : Block) (
   pub mode : Apart (f .hidden) (b .«hidden_notes» + g .«hidden_count») (m .visible) (m .visible + m .count * 16)
   pub notes-rows : Apart (f .hidden) (f .nodes + b .«node_room») notes (notes + g .«visible_count»)
   pub notes-notes : Apart (b .«hidden_notes») (b .«hidden_notes» + g .«hidden_count») notes (notes + g .«visible_count»)
+
+-- the same with room for all of them
+abbrev pub HiddenRoom : ℕ → ℕ → Mode → Form → Form → Block → ℕ → Type 0
+HiddenRoom size t m g f b notes = HiddenRoomWithin size t m g f b notes (f .«hidden_count» + g .«hidden_count»)
 
 -- the form lies in the block, with at most so many names and rows, and no more equations and nodes than the block has room for
 pub record Inside (b : Block) (names rows hidden-rows : ℕ) (f : Form) : Type 0 where

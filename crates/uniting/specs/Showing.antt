@@ -1,6 +1,5 @@
 -- Visible parts united: what the form stands for when parameters are behind its own, and when items were absorbed into its own.
 use mathlib.Core.Path.{_≡_, sym, ap, ap₂, _∙_, subst}
-use mathlib.Core.Logic.{inl}
 use mathlib.Core.Bool.{Bool}
 use mathlib.Core.List.{List, _++_, map}
 use Prim.Native.Nat.{ℕ, _+_, _*_, _≤_}
@@ -11,14 +10,13 @@ use Rattle.meaning.specs.Normal.{Visible, Normal, move-item}
 use Rattle.forms.specs.declared.Form.{Form}
 use Rattle.forms.specs.Memory.{part, KeptTwo}
 use Rattle.forms.specs.Forms.{items-at, visible-at, Stands}
-use Rattle.forms.specs.FormLaws.{tape-same}
 use Rattle.forms.specs.Blocks.{Outside}
-use Rattle.forms.specs.Frames.{stands-kept}
+use Rattle.frames.specs.Changes.{tape-kept-two, still-stands, still-stands-two}
 use Rattle.translation.specs.declared.Mode.{Mode}
 use Rattle.translation.specs.Translation.{moved-in, moved}
 use Rattle.absorb.specs.Absorb.{taken}
 use Rattle.uniting.specs.United.{other-slots, SlotsUnited, VisibleUnited, sorts, functions}
-use Rattle.uniting.specs.Standing.{stands-kept-two, stands-more}
+use Rattle.uniting.specs.Standing.{stands-more}
 
 -- ---- parameters
 
@@ -32,7 +30,7 @@ pub slots-stand : (text : List ℕ) (t : ℕ) (w w′ : List ℕ) (g f r : Form)
     })
 unfolding visible-at
 slots-stand text t w w′ g f r from to x h o e s =
-    let stood = stands-kept text t w w′ _ _ f to (omega arith) (x .kept) o s in
+    let stood = still-stands {t = t} (omega arith) (x .kept) o s in
     subst (λ (z : Form). Stands text (part w′ 0 t) w′ z (record {
       visible = record { parameters = to .visible .parameters ++ other-slots (to .visible) from; items = to .visible .items };
       hidden = to .hidden;
@@ -60,7 +58,7 @@ module _ (text : List ℕ) (t : ℕ) (w w′ : List ℕ) (m : Mode) (drop : Bool
   kept = x .absorbed .kept
 
   visible-tape : part w′ 0 t ≡ part w 0 t
-  visible-tape = tape-same w w′ t (kept .size) (λ i u v. kept .kept i (inl (omega arith)) (inl (omega arith)))
+  visible-tape = tape-kept-two (omega arith) l kept
 
   pub visible-stands : (to : Normal) (seen : List Item) → Outside first last f → Outside notes (notes + g .«visible_count») f
       → Stands text (part w 0 t) w f to → items-at text (part w 0 t) w (g .visible) (g .«visible_count») ≡ seen
@@ -70,7 +68,7 @@ module _ (text : List ℕ) (t : ℕ) (w w′ : List ℕ) (m : Mode) (drop : Bool
       })
   unfolding visible-at moved-in moved pick
   visible-stands to seen o p s e =
-      let stood = stands-kept-two text t w w′ first last notes (notes + g .«visible_count») f to (omega arith) l kept o p s in
+      let stood = still-stands-two {t = t} (omega arith) l kept o p s in
       let own = ap (λ (v : Visible). v .items) (s .visible) in
       subst (λ (z : Form). Stands text (part w′ 0 t) w′ z (record {
         visible = record { parameters = to .visible .parameters; items = union one-item (to .visible .items) (come seen) };

@@ -1,6 +1,5 @@
--- Forms that stand go on standing: where two parts of the memory change that are none of theirs, and with more parameters and rows.
-use mathlib.Core.Path.{_≡_, refl, sym, subst}
-use mathlib.Core.Logic.{inl}
+-- Forms that stand go on standing with more parameters and rows; and what nothing stands for.
+use mathlib.Core.Path.{_≡_, refl}
 use Prim.Native.Nat.{ℕ, _+_, _*_, _≤_}
 use native.Mathlib.Omega.{arith}
 use mathlib.Core.List.{List, [], _∷_}
@@ -10,35 +9,11 @@ use Rattle.meaning.specs.Normal.{Slot, Normal, nothing-visible, nothing-hidden,
 use Rattle.forms.specs.declared.Form.{Form}
 use Rattle.forms.specs.declared.Block.{Block}
 use Rattle.forms.specs.declared.EquationRow.{EquationRow}
-use Rattle.forms.specs.Memory.{part, Same, KeptTwo}
+use Rattle.forms.specs.Memory.{Same}
 use Rattle.forms.specs.Forms.{slots-at, items-at, node-item, nodes-of, equation-row-at, EquationStands, EquationsStand, Pointing, visible-at, Stands}
-use Rattle.forms.specs.FormLaws.{apart-within, kept-two-same, slots-same, items-same, tape-same}
-use Rattle.forms.specs.Blocks.{Lies, Outside}
-use Rattle.forms.specs.Frames.{stands-stays}
+use Rattle.forms.specs.FormLaws.{slots-same, items-same}
+use Rattle.forms.specs.Blocks.{Lies}
 use Rattle.uniting.specs.United.{empty-in, with-items}
-
--- ---- what changes is none of the form's
-
-pub outside-narrower : (low high a e : ℕ) (f : Form) → low ≤ a → e ≤ high → Outside low high f → Outside a e f
-outside-narrower low high a e f h l o = record {
-  parameters = apart-within low high a e _ _ h l (o .parameters);
-  visible = apart-within low high a e _ _ h l (o .visible);
-  hidden = apart-within low high a e _ _ h l (o .hidden);
-  equations = apart-within low high a e _ _ h l (o .equations);
-  nodes = apart-within low high a e _ _ h l (o .nodes);
-}
-
-pub stands-kept-two : (text : List ℕ) (t : ℕ) (w w′ : List ℕ) (a e b d : ℕ) (f : Form) (n : Normal) → t ≤ a → t ≤ b → KeptTwo a e b d w w′
-    → Outside a e f → Outside b d f → Stands text (part w 0 t) w f n → Stands text (part w′ 0 t) w′ f n
-stands-kept-two text t w w′ a e b d f n h l k o p s =
-    subst (λ (tape : List ℕ). Stands text tape w′ f n) (sym (tape-same w w′ t (k .size) (λ i u v. k .kept i (inl (omega arith)) (inl (omega arith)))))
-    (stands-stays text (part w 0 t) w w′ f
-    (record {
-      size = k .size;
-      visible = kept-two-same a e b d _ _ w w′ (o .visible) (p .visible) k;
-      hidden = kept-two-same a e b d _ _ w w′ (o .hidden) (p .hidden) k;
-      nodes = kept-two-same a e b d _ _ w w′ (o .nodes) (p .nodes) k;
-    }) n (kept-two-same a e b d _ _ w w′ (o .parameters) (p .parameters) k) (kept-two-same a e b d _ _ w w′ (o .equations) (p .equations) k) s)
 
 -- the visible part of a form whose parameters and visible rows stay
 pub visible-same : (text tape w w′ : List ℕ) (f : Form) → Same (f .parameters) (f .parameters + f .«parameter_count» * 2) w w′

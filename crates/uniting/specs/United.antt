@@ -120,26 +120,12 @@ module _ (text : List ℕ) (t : ℕ) (w : List ℕ) (m : Mode) where
   abbrev pub functions : Name → FunctionType → Name
   functions = function-name text (part w 0 t) w m
 
--- the hidden items and the equations of g came into f, which has taken up the visible items of g, noted from `notes` on
-pub record HiddenUnited (text : List ℕ) (t : ℕ) (w : List ℕ) (m : Mode) (g f : Form) (b : Block) (notes : ℕ) (r : Form) (w′ : List ℕ) : Type 0 where
-  pub form :
-      r ≡ with-counts (with-items f (f .«parameter_count») (f .«visible_count») (r .«hidden_count»)) (r .«equation_count») (r .«node_count»)
-  pub few : r .«hidden_count» ≤ f .«hidden_count» + g .«hidden_count»
-  pub equations : r .«equation_count» ≤ b .«equation_room»
-  pub nodes : r .«node_count» ≤ b .«node_room»
-  pub kept : KeptTwo (f .hidden) (f .nodes + b .«node_room») (b .«hidden_notes») (b .«hidden_notes» + g .«hidden_count») w w′
-  pub stands : (from to : Normal) → Stands text (part w 0 t) w g from → Stands text (part w 0 t) w f to
-      → Noted (sorts text t w m) (functions text t w m) text (part w 0 t) w true notes (g .visible) (g .«visible_count») (f .visible) (f .«visible_count»)
-      → Stands text (part w′ 0 t) w′ r (record {
-        visible = to .visible;
-        hidden = within (b .«equation_room») (hidden-onto (sorts text t w m) (functions text t w m) (to .hidden) (from .hidden));
-      })
-
 -- all hidden items of g came into f: r is not full, or there was room for all
 abbrev pub AllIn : ℕ → Form → Form → Form → Type 0
 AllIn cap g f r = (r .«hidden_count» < cap) ⊎ (f .«hidden_count» + g .«hidden_count» ≤ cap)
 
--- the same with no more than `cap` hidden items. Where not all came in the equations say nothing
+-- the hidden items and the equations of g came into f, which has taken up the visible items of g, noted from `notes` on: no more than `cap`
+-- hidden items, and where not all came in the equations say nothing
 pub record HiddenUnitedWithin (text : List ℕ) (t : ℕ) (w : List ℕ) (m : Mode) (g f : Form) (b : Block) (notes cap : ℕ) (r : Form) (w′ : List ℕ) : Type 0 where
   pub form :
       r ≡ with-counts (with-items f (f .«parameter_count») (f .«visible_count») (r .«hidden_count»)) (r .«equation_count») (r .«node_count»)
@@ -157,6 +143,10 @@ pub record HiddenUnitedWithin (text : List ℕ) (t : ℕ) (w : List ℕ) (m : Mo
         visible = to .visible;
         hidden = within (b .«equation_room») (hidden-onto (sorts text t w m) (functions text t w m) (to .hidden) (from .hidden));
       })
+
+-- with room for all of them
+abbrev pub HiddenUnited : List ℕ → ℕ → List ℕ → Mode → Form → Form → Block → ℕ → Form → List ℕ → Type 0
+HiddenUnited text t w m g f b notes r w′ = HiddenUnitedWithin text t w m g f b notes (f .«hidden_count» + g .«hidden_count») r w′
 
 -- all of g came into f
 pub record United (text : List ℕ) (t : ℕ) (w : List ℕ) (m : Mode) (g f : Form) (b : Block) (r : Form) (w′ : List ℕ) : Type 0 where

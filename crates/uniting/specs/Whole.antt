@@ -12,11 +12,11 @@ use Rattle.meaning.specs.Origins.{FunctionType, one-item}
 use Rattle.meaning.specs.Normal.{Visible, Normal, move-item}
 use Rattle.forms.specs.declared.Form.{Form}
 use Rattle.forms.specs.declared.Block.{Block}
-use Rattle.forms.specs.Memory.{part, Kept, KeptTwo}
+use Rattle.forms.specs.Memory.{part, Kept}
 use Rattle.forms.specs.Forms.{items-at, visible-at, Stands}
-use Rattle.forms.specs.FormLaws.{Apart, apart-within, kept-wider, kept-then, kept-same, items-same, tape-same}
+use Rattle.forms.specs.FormLaws.{Apart, kept-same, items-same}
 use Rattle.forms.specs.Blocks.{BlockLaid, Lies}
-use Rattle.forms.specs.Frames.{stands-kept}
+use Rattle.frames.specs.Changes.{onward, wider, around, apart-in, outside-in, tape-kept, still-stands}
 use Rattle.translation.specs.declared.Mode.{Mode}
 use Rattle.translation.specs.Translation.{sort-name, function-name}
 use Rattle.translation.specs.MovedLaws.{sort-name-apart, function-name-apart}
@@ -30,20 +30,11 @@ use Rattle.uniting.specs.Noting.{all-noted}
 use Rattle.uniting.specs.Hiding.{keep-all}
 use Rattle.uniting.specs.Showing.{slots-stand, visible-stands}
 
--- ---- frames
-
-pub kept-both : (low high a e b d : ℕ) (w w′ : List ℕ) → low ≤ a → e ≤ high → low ≤ b → d ≤ high → KeptTwo a e b d w w′ → Kept low high w w′
-kept-both low high a e b d w w′ h l p q k = record {
-  size = k .size;
-  below = λ i u. k .kept i (inl (omega arith)) (inl (omega arith));
-  above = λ i u. k .kept i (inr (omega arith)) (inr (omega arith));
-}
-
 -- new names are the same where the tape and the mode's table stay
 module _ (text : List ℕ) (t : ℕ) (w w′ : List ℕ) (m : Mode) (low high : ℕ) (behind : t ≤ low) (kept : Kept low high w w′)
     (apart : Apart low high (m .visible) (m .visible + m .count * 16)) where
   tape-stays : part w′ 0 t ≡ part w 0 t
-  tape-stays = tape-same w w′ t (kept .size) (λ i h l. kept .below i (omega arith))
+  tape-stays = tape-kept behind kept
 
   table-stays : items-at text (part w 0 t) w′ (m .visible) (m .count) ≡ items-at text (part w 0 t) w (m .visible) (m .count)
   table-stays = items-same w w′ text (part w 0 t) (m .visible) (m .count) (kept-same low high _ _ w w′ apart kept)
@@ -69,8 +60,8 @@ module _ (text : List ℕ) (t : ℕ) (w : List ℕ) (m : Mode) (g f : Form) (b :
     few = room .few-parameters;
     room = omega (arith, room, laid, lies);
     own-rows = inr (omega (arith, room, laid, lies));
-    source = apart-within (b .low) (b .high) _ _ _ _ (omega (arith, room, laid, lies)) (omega (arith, room, laid, lies)) (room .outside .parameters);
-    source-rows = apart-within (b .low) (b .high) _ _ _ _ (omega (arith, room, laid, lies)) (omega (arith, room, laid, lies)) (room .outside .visible);
+    source = apart-in (omega (arith, room, laid, lies)) (room .outside .parameters);
+    source-rows = apart-in (omega (arith, room, laid, lies)) (room .outside .visible);
   }
 
   -- ---- after the parameters
@@ -88,10 +79,10 @@ module _ (text : List ℕ) (t : ℕ) (w : List ℕ) (m : Mode) (g f : Form) (b :
           note = omega (arith, room, laid, lies);
           few = room .few-visible;
           table-note = inr (omega (arith, room, laid, lies));
-          table-source = apart-within (b .low) (b .high) _ _ _ _ (omega (arith, room, laid, lies)) (omega (arith, room, laid, lies)) (room .outside .visible);
-          note-source = apart-within (b .low) (b .high) _ _ _ _ (omega (arith, room, laid, lies)) (omega (arith, room, laid, lies)) (room .outside .visible);
-          table-mode = apart-within (b .low) (b .high) _ _ _ _ (omega (arith, room, laid, lies)) (omega (arith, room, laid, lies)) (room .mode);
-          note-mode = apart-within (b .low) (b .high) _ _ _ _ (omega (arith, room, laid, lies)) (omega (arith, room, laid, lies)) (room .mode);
+          table-source = apart-in (omega (arith, room, laid, lies)) (room .outside .visible);
+          note-source = apart-in (omega (arith, room, laid, lies)) (room .outside .visible);
+          table-mode = apart-in (omega (arith, room, laid, lies)) (room .mode);
+          note-mode = apart-in (omega (arith, room, laid, lies)) (room .mode);
         })
 
     named-few : named .«parameter_count» ≤ room .names
@@ -100,10 +91,10 @@ module _ (text : List ℕ) (t : ℕ) (w : List ℕ) (m : Mode) (g f : Form) (b :
     named-inside : Inside b (room .names) (room .rows) (room .hidden-rows) named
     named-inside =
         subst (Inside b (room .names) (room .rows) (room .hidden-rows)) (sym (x .form))
-        (inside-as (length w) t b _ _ _ _ laid f (room .inside) _ _ _ named-few (room .inside .visible) (room .inside .hidden))
+        (inside-as laid (room .inside) _ _ _ named-few (room .inside .visible) (room .inside .hidden))
 
     slots-kept : Kept (b .low) (b .high) w w₁
-    slots-kept = kept-wider _ _ (b .low) (b .high) w w₁ (omega (arith, room, laid, lies)) (omega (arith, room, laid, lies)) (x .kept)
+    slots-kept = wider (omega (arith, room, laid, lies)) (x .kept)
 
     -- ---- after the visible items
 
@@ -119,24 +110,23 @@ module _ (text : List ℕ) (t : ℕ) (w : List ℕ) (m : Mode) (g f : Form) (b :
       seen-inside : Inside b (room .names) (room .rows) (room .hidden-rows) seen
       seen-inside =
           subst (Inside b (room .names) (room .rows) (room .hidden-rows)) (sym seen-form)
-          (inside-as (length w) t b _ _ _ _ laid f (room .inside) _ _ _ named-few (omega (arith, room, seen-few)) (room .inside .hidden))
+          (inside-as laid (room .inside) _ _ _ named-few (omega (arith, room, seen-few)) (room .inside .hidden))
 
       visible-kept : Kept (b .low) (b .high) w₁ w₂
       unfolding with-items
       visible-kept =
           let base : named .visible ≡ f .visible = ap (λ (z : Form). z .visible) (x .form) in
           let have : named .«visible_count» ≡ f .«visible_count» = ap (λ (z : Form). z .«visible_count») (x .form) in
-          kept-both (b .low) (b .high) _ _ _ _ w₁ w₂ (omega (arith, room, laid, lies)) (omega (arith, room, laid, lies))
-          (omega (arith, room, laid, lies)) (omega (arith, room, laid, lies)) (y .absorbed .kept)
+          around (omega (arith, room, laid, lies)) (omega (arith, room, laid, lies)) (y .absorbed .kept)
 
       pub hidden-room : HiddenRoom (length w₂) t m g seen b (b .«visible_notes»)
       unfolding with-items
       hidden-room =
           let size : length w₂ ≡ length w = visible-kept .size ∙ slots-kept .size in
           let have : seen .«hidden_count» ≡ f .«hidden_count» = ap (λ (z : Form). z .«hidden_count») seen-form in
-          hidden-room-in (length w₂) t b (room .names) (room .rows) (room .hidden-rows) (room .sources)
-          (subst (λ (n : ℕ). BlockLaid n t b (room .names) (room .rows) (room .hidden-rows) (room .sources)) (sym size) laid) seen seen-inside m g
-          (b .«visible_notes») (room .outside) (room .mode) (omega (arith, room)) (room .hidden-source) (omega (arith, room)) (omega (arith, room))
+          hidden-room-in (subst (λ (n : ℕ). BlockLaid n t b (room .names) (room .rows) (room .hidden-rows) (room .sources)) (sym size) laid) seen-inside m g
+          (b .«visible_notes») _ (outside-in (omega (arith, room, laid)) (room .outside)) (apart-in (omega (arith, room, laid)) (room .mode))
+          (omega arith) (omega (arith, room)) (omega (arith, room)) (room .hidden-source) (omega (arith, room))
           (inr (omega (arith, laid))) (inl (omega (arith, room, laid)))
 
       -- ---- after all
@@ -156,9 +146,7 @@ module _ (text : List ℕ) (t : ℕ) (w : List ℕ) (m : Mode) (g f : Form) (b :
         all-kept =
             let base : seen .hidden ≡ f .hidden = ap (λ (u : Form). u .hidden) seen-form in
             let nodes : seen .nodes ≡ f .nodes = ap (λ (u : Form). u .nodes) seen-form in
-            let last = kept-both (b .low) (b .high) _ _ _ _ w₂ w₃ (omega (arith, room, laid, lies)) (omega (arith, room, laid, lies))
-            (omega (arith, room, laid, lies)) (omega (arith, room, laid, lies)) (z .kept) in
-            kept-then (b .low) (b .high) w w₂ w₃ (kept-then (b .low) (b .high) w w₁ w₂ slots-kept visible-kept) last
+            onward (onward slots-kept visible-kept) (around (omega (arith, room, laid, lies)) (omega (arith, room, laid, lies)) (z .kept))
 
         -- ---- what it stands for
 
@@ -204,16 +192,14 @@ module _ (text : List ℕ) (t : ℕ) (w : List ℕ) (m : Mode) (g f : Form) (b :
         all-stands : (from to : Normal) → Stands text (part w 0 t) w g from → Stands text (part w 0 t) w f to → Stands text (part w₃ 0 t) w₃ r (made from to)
         unfolding visible-at visible-onto with-items
         all-stands from to s u =
-            let low = b .low in
-            let high = b .high in
-            let s₁ = stands-kept text t w w₁ low high g from behind slots-kept (room .outside) s in
-            let s₂ = stands-kept text t w₁ w₂ low high g from behind visible-kept (room .outside) s₁ in
+            let s₁ = still-stands behind slots-kept (room .outside) s in
+            let s₂ = still-stands behind visible-kept (room .outside) s₁ in
             let u₁ = slots-stand text t w w₁ g f named (from .visible) to x (omega (arith, laid, lies))
-            (outside-slots (length w) t b _ _ _ _ laid f (room .inside) (g .«parameter_count») (room .parameters)) (s .visible) u in
+            (outside-slots laid (room .inside) (g .«parameter_count») (room .parameters)) (s .visible) u in
             let have : named .«visible_count» ≡ f .«visible_count» = ap (λ (v : Form). v .«visible_count») (x .form) in
             let u₂ = visible-stands text t w₁ w₂ m false g named (b .«visible_notes») seen y (visible-room .tape-table) (visible-room .tape-note) _
-            (from .visible .items) (outside-rows (length w) t b _ _ _ _ laid named named-inside (g .«visible_count») (omega (arith, room)))
-            (outside-notes (length w) t b _ _ _ _ laid named named-inside _ _ (omega arith)) u₁
+            (from .visible .items) (outside-rows laid named-inside (g .«visible_count») (omega (arith, room)))
+            (outside-notes laid named-inside _ _ (omega arith)) u₁
             (ap (λ (v : Visible). v .items) (s₁ .visible)) in
             let all = keep-all text (m .parameter) (from .visible .items) in
             let σs = sorts-seen ∙ sorts-named in
@@ -226,19 +212,13 @@ module _ (text : List ℕ) (t : ℕ) (w : List ℕ) (m : Mode) (g f : Form) (b :
               };
               hidden = within (b .«equation_room») (hidden-onto (σs i) (φs i) (to .hidden) (from .hidden));
             })
-            (z .stands from _ s₂ u₂ noted)
+            (z .stands (inr (omega arith)) from _ s₂ u₂ noted)
 
         pub united : United text t w m g f b r w₃
         unfolding with-items with-counts
         united =
             record {
-              lies = record {
-                parameters = ap (λ (u : Form). u .parameters) made-form ∙ lies .parameters;
-                visible = ap (λ (u : Form). u .visible) made-form ∙ lies .visible;
-                hidden = ap (λ (u : Form). u .hidden) made-form ∙ lies .hidden;
-                equations = ap (λ (u : Form). u .equations) made-form ∙ lies .equations;
-                nodes = ap (λ (u : Form). u .nodes) made-form ∙ lies .nodes;
-              };
+              lies = subst (Lies b) (sym made-form) (omega (arith, lies));
               names = omega (arith, x .few, ap (λ (u : Form). u .«parameter_count») made-form);
               visible = omega (arith, seen-few, ap (λ (u : Form). u .«visible_count») made-form);
               hidden = omega (arith, z .few, ap (λ (u : Form). u .«hidden_count») seen-form);

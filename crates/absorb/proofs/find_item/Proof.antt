@@ -1,6 +1,7 @@
 -- `absorb::find_item` meets its contract.
 -- Assumes nothing.
-use Rattle.absorb.proofs.Finds.{Finding, finds}
+use Rattle.walks.specs.Rows.{Finding}
+use Rattle.absorb.proofs.Finds.{finds}
 use Prim.Native.Nat.{_-_}
 use Rattle.meaning.specs.Origins.{one-item}
 use Rattle.names.specs.Joint.{joint}

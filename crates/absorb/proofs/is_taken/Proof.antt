@@ -1,16 +1,19 @@
 -- `absorb::is_taken` meets its contract.
 -- Assumes nothing.
-use Rattle.absorb.proofs.Finds.{takes}
+use Rattle.tables.specs.Rows.{item-of}
+use Rattle.absorb.specs.Absorb.{taken}
+use Rattle.choices.specs.Choices.{choices}
 use borrow.Author.Needs.{needs}
 use Rattle.absorb.proofs.is_taken.Statement.{statement}
 use Rattle.absorb.proofs.is_taken.Tie as tie
 
 pub is-taken-spec : {M : Type 1} → statement M
+unfolding taken item-of
 is-taken-spec =
     tie.close
     (tie.spec
     (λ c κs. search needs)  -- in-parameter-requires
-    (λ c. search takes)  -- returns
-    (λ c. search takes)  -- returns-2
-    (λ c. search takes)  -- returns-3
+    (λ c. search choices)  -- returns
+    (λ c. search choices)  -- returns-2
+    (λ c. search choices)  -- returns-3
     )

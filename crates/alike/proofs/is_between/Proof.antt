@@ -1,13 +1,15 @@
 -- `alike::is_between` meets its contract.
 -- Assumes nothing.
-use Rattle.alike.proofs.Cases.{sections}
+use Rattle.alike.specs.Alike.{between}
+use Rattle.choices.specs.Choices.{choices}
 use Rattle.alike.proofs.is_between.Statement.{statement}
 use Rattle.alike.proofs.is_between.Tie as tie
 
 pub is-between-spec : {M : Type 1} → statement M
+unfolding between
 is-between-spec =
     tie.close
     (tie.spec
-    (λ c. search sections)  -- returns
-    (λ c. search sections)  -- returns-2
+    (λ c. search choices)  -- returns
+    (λ c. search choices)  -- returns-2
     )

@@ -1,12 +1,14 @@
 -- `binding::as_is` meets its contract.
 -- Assumes nothing.
-use Rattle.binding.proofs.Cases.{built}
+use borrow.Author.Needs.{needs}
+use Rattle.binding.specs.Rooms.{as-is}
 use Rattle.binding.proofs.as_is.Statement.{statement}
 use Rattle.binding.proofs.as_is.Tie as tie
 
 pub as-is-spec : {M : Type 1} → statement M
+unfolding as-is
 as-is-spec =
     tie.close
     (tie.spec
-    (λ c. search built)  -- returns
+    (λ c. search needs)  -- returns
     )

@@ -1,12 +1,15 @@
 -- `binding::named_form` meets its contract.
 -- Assumes nothing.
-use Rattle.binding.proofs.Cases.{built}
+use borrow.Author.Needs.{needs}
+use Rattle.uniting.specs.United.{empty-in, with-items}
+use Rattle.binding.specs.Binding.{named-in}
 use Rattle.binding.proofs.named_form.Statement.{statement}
 use Rattle.binding.proofs.named_form.Tie as tie
 
 pub named-form-spec : {M : Type 1} → statement M
+unfolding named-in with-items empty-in
 named-form-spec =
     tie.close
     (tie.spec
-    (λ c. search built)  -- returns
+    (λ c. search needs)  -- returns
     )

@@ -1,10 +1,12 @@
-use Rattle.keeping.proofs.Cases.{cases}
+use borrow.Author.Needs.{needs}
+use Rattle.keeping.specs.Keeping.{nothing-at}
 use Rattle.keeping.proofs.nothing_at.Statement.{statement}
 use Rattle.keeping.proofs.nothing_at.Tie as tie
 
 pub nothing-at-spec : {M : Type 1} → statement M
+unfolding nothing-at
 nothing-at-spec =
     tie.close
     (tie.spec
-    (λ c. search cases)  -- returns
+    (λ c. search needs)  -- returns
     )

@@ -7,7 +7,7 @@ use Rattle.names.specs.Joint.{joint}
 use Rattle.forms.specs.Memory.{part}
 use Rattle.forms.specs.Forms.{items-at}
 use Rattle.names.specs.Word.{name-of}
-use Rattle.clauses.specs.Walks.{Finding}
+use Rattle.walks.specs.Rows.{Finding}
 use Rattle.same_parameters.specs.Formals.{missing}
 use Rattle.same_parameters.proofs.all_among.Statement.{statement}
 use Rattle.same_parameters.proofs.all_among.Tie as tie

@@ -5,7 +5,7 @@ use Prim.Native.Nat.{_-_}
 use Rattle.names.specs.Joint.{joint}
 use Rattle.forms.specs.Forms.{slot-at}
 use Rattle.meaning.specs.Normal.{same-slot}
-use Rattle.clauses.specs.Walks.{Seeking}
+use Rattle.walks.specs.Rows.{Seeking}
 use Rattle.same_parameters.proofs.has_slot.Statement.{statement}
 use Rattle.same_parameters.proofs.has_slot.Tie as tie
 

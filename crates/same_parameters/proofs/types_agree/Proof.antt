@@ -7,7 +7,7 @@ use Rattle.names.specs.Joint.{joint}
 use Rattle.forms.specs.Memory.{part}
 use Rattle.forms.specs.Forms.{visible-at}
 use Rattle.names.specs.Word.{name-of}
-use Rattle.clauses.specs.Walks.{Finding}
+use Rattle.walks.specs.Rows.{Finding}
 use Rattle.same_parameters.specs.Formals.{at-odds}
 use Rattle.same_parameters.proofs.types_agree.Statement.{statement}
 use Rattle.same_parameters.proofs.types_agree.Tie as tie

@@ -1,10 +1,11 @@
 -- `storing::place_form` meets its contract. Assumes nothing.
-use Rattle.storing.proofs.Cases.{cases}
+use Rattle.storing.specs.Places.{place-form}
 use borrow.Author.Needs.{needs}
 use Rattle.storing.proofs.place_form.Statement.{statement}
 use Rattle.storing.proofs.place_form.Tie as tie
 
 pub place-form-spec : {M : Type 1} → statement M
+unfolding place-form
 place-form-spec =
     tie.close
     (tie.spec
@@ -16,5 +17,5 @@ place-form-spec =
     (λ c. search needs)  -- add-equations
     (λ c. search needs)  -- mul-nodes
     (λ c. search needs)  -- add-nodes
-    (λ c. search cases)  -- returns
+    (λ c. search needs)  -- returns
     )

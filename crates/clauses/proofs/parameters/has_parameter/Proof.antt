@@ -2,7 +2,7 @@
 -- Assumes nothing.
 use Rattle.clauses.proofs.RowSearches.{seeks}
 use Rattle.clauses.specs.Searches.{slot-called}
-use Rattle.clauses.specs.Walks.{Seeking}
+use Rattle.walks.specs.Rows.{Seeking}
 use Prim.Native.Nat.{_-_}
 use Rattle.names.specs.Word.{name-of}
 use Rattle.names.specs.Joint.{joint}

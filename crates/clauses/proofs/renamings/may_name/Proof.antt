@@ -1,18 +1,20 @@
 -- `clauses::renamings::may_name` meets its contract.
 -- Assumes nothing.
-use Rattle.clauses.proofs.RenamingCases.{kinds}
+use Rattle.clauses.specs.Renamed.{kind-named}
+use Rattle.choices.specs.Choices.{choices}
 use borrow.Author.Needs.{needs}
 use Rattle.clauses.proofs.renamings.may_name.Statement.{statement}
 use Rattle.clauses.proofs.renamings.may_name.Tie as tie
 
 pub may-name-spec : {M : Type 1} → statement M
+unfolding kind-named
 may-name-spec =
     tie.close
     (tie.spec
-    (λ c. search kinds)  -- returns
+    (λ c. search choices)  -- returns
     (λ c κs. search needs)  -- is-operator-requires
     (λ c κs. search needs)  -- is-infix-requires
-    (λ c. search kinds)  -- returns-2
-    (λ c. search kinds)  -- returns-3
-    (λ c. search kinds)  -- returns-4
+    (λ c. search choices)  -- returns-2
+    (λ c. search choices)  -- returns-3
+    (λ c. search choices)  -- returns-4
     )

@@ -1,10 +1,12 @@
-use Rattle.completing.proofs.Forms.{forms}
+use borrow.Author.Needs.{needs}
+use Rattle.uniting.specs.United.{with-items}
 use Rattle.completing.proofs.said.seen_form.Statement.{statement}
 use Rattle.completing.proofs.said.seen_form.Tie as tie
 
 pub seen-form-spec : {M : Type 1} → statement M
+unfolding with-items
 seen-form-spec =
     tie.close
     (tie.spec
-    (λ c. search forms)  -- returns
+    (λ c. search needs)  -- returns
     )

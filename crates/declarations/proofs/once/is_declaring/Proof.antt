@@ -1,13 +1,15 @@
 -- `declarations::once::is_declaring` meets its contract.
 -- Assumes nothing.
-use Rattle.declarations.proofs.Cases.{cases}
+use Rattle.declarations.specs.Once.{is-declaring}
+use Rattle.choices.specs.Choices.{choices}
 use Rattle.declarations.proofs.once.is_declaring.Statement.{statement}
 use Rattle.declarations.proofs.once.is_declaring.Tie as tie
 
 pub is-declaring-spec : {M : Type 1} → statement M
+unfolding is-declaring
 is-declaring-spec =
     tie.close
     (tie.spec
-    (λ c. search cases)  -- returns
-    (λ c. search cases)  -- returns-2
+    (λ c. search choices)  -- returns
+    (λ c. search choices)  -- returns-2
     )

@@ -1,16 +1,18 @@
 -- `declarations::sorts::declares_at` meets its contract.
 -- Assumes nothing.
-use Rattle.declarations.proofs.Cases.{cases}
+use Rattle.declarations.specs.Sorts.{declares-at}
+use Rattle.choices.specs.Choices.{choices}
 use borrow.Author.Needs.{needs}
 use Rattle.declarations.proofs.sorts.declares_at.Statement.{statement}
 use Rattle.declarations.proofs.sorts.declares_at.Tie as tie
 
 pub declares-at-spec : {M : Type 1} → statement M
+unfolding declares-at
 declares-at-spec =
     tie.close
     (tie.spec
     (λ c κs. search needs)  -- is-named-requires
-    (λ c. search cases)  -- returns
+    (λ c. search choices)  -- returns
     (λ c κs. search needs)  -- is-named-requires-2
-    (λ c. search cases)  -- returns-2
+    (λ c. search choices)  -- returns-2
     )

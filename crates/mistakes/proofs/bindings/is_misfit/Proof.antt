@@ -1,19 +1,22 @@
 -- `mistakes::bindings::is_misfit` meets its contract.
 -- Assumes nothing.
-use Rattle.mistakes.proofs.BindingCases.{fits}
+use Rattle.tables.specs.Rows.{item-of}
+use Rattle.mistakes.specs.Fits.{misfit}
+use Rattle.choices.specs.Choices.{choices}
 use Rattle.mistakes.proofs.bindings.is_misfit.Statement.{statement}
 use Rattle.mistakes.proofs.bindings.is_misfit.Tie as tie
 
 pub is-misfit-spec : {M : Type 1} → statement M
+unfolding misfit item-of
 is-misfit-spec =
     tie.close
     (tie.spec
-    (λ c. search fits)  -- sub-is-formal-called
-    (λ c. search fits)  -- part-is-formal-called-start
-    (λ c. search fits)  -- part-is-formal-called-end
-    (λ c κs. search fits)  -- is-formal-called-requires
-    (λ c κs. search fits)  -- item-right-requires
-    (λ c. search fits)  -- returns
-    (λ c. search fits)  -- returns-2
-    (λ c. search fits)  -- returns-3
+    (λ c. search choices)  -- sub-is-formal-called
+    (λ c. search choices)  -- part-is-formal-called-start
+    (λ c. search choices)  -- part-is-formal-called-end
+    (λ c κs. search choices)  -- is-formal-called-requires
+    (λ c κs. search choices)  -- item-right-requires
+    (λ c. search choices)  -- returns
+    (λ c. search choices)  -- returns-2
+    (λ c. search choices)  -- returns-3
     )

@@ -1,16 +1,20 @@
 -- `mistakes::formals::is_formal_called` meets its contract.
 -- Assumes nothing.
-use Rattle.mistakes.proofs.FormalCases.{items}
+use Rattle.meaning.specs.Normal.{is-called}
+use Rattle.tables.specs.Rows.{item-of}
+use Rattle.mistakes.specs.Unpaired.{formal-called}
+use Rattle.choices.specs.Choices.{choices}
 use borrow.Author.Needs.{needs}
 use Rattle.mistakes.proofs.formals.is_formal_called.Statement.{statement}
 use Rattle.mistakes.proofs.formals.is_formal_called.Tie as tie
 
 pub is-formal-called-spec : {M : Type 1} → statement M
+unfolding formal-called item-of is-called
 is-formal-called-spec =
     tie.close
     (tie.spec
     (λ c κs. search needs)  -- in-parameter-requires
     (λ c κs. search needs)  -- same-word-requires
-    (λ c. search items)  -- returns
-    (λ c. search items)  -- returns-2
+    (λ c. search choices)  -- returns
+    (λ c. search choices)  -- returns-2
     )

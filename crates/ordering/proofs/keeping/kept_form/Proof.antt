@@ -1,11 +1,13 @@
 -- `ordering::keeping::kept_form` meets its contract. Assumes nothing.
-use Rattle.ordering.proofs.KeepCases.{whole}
+use borrow.Author.Needs.{needs}
+use Rattle.ordering.specs.Nodes.{kept-form}
 use Rattle.ordering.proofs.keeping.kept_form.Statement.{statement}
 use Rattle.ordering.proofs.keeping.kept_form.Tie as tie
 
 pub kept-form-spec : {M : Type 1} → statement M
+unfolding kept-form
 kept-form-spec =
     tie.close
     (tie.spec
-    (λ c. search whole)  -- returns
+    (λ c. search needs)  -- returns
     )

@@ -1,6 +1,7 @@
 -- `translation::formals::is_formal_sort` meets its contract.
 -- Assumes nothing.
-use Rattle.translation.proofs.FormalItems.{asks, Asking}
+use Rattle.walks.specs.Rows.{Finding}
+use Rattle.translation.proofs.FormalItems.{asks}
 use Prim.Native.Nat.{_-_}
 use Rattle.names.specs.Word.{name-of}
 use Rattle.names.specs.Joint.{joint}
@@ -10,7 +11,7 @@ use Rattle.translation.proofs.formals.is_formal_sort.Statement.{stateme
 use Rattle.translation.proofs.formals.is_formal_sort.Tie as tie
 
 abbrev Inv-loop : tie.InvT-loop
-Inv-loop library text work t w visible count p i₀ i = Asking (formal-sort (name-of (joint library text) p) (name-of (joint library text) w)) (joint library text) (part work 0 t) work visible count i
+Inv-loop library text work t w visible count p i₀ i = Finding (formal-sort (name-of (joint library text) p) (name-of (joint library text) w)) (joint library text) (part work 0 t) work visible count i
 
 abbrev μ-loop : tie.MeasureT-loop
 μ-loop library text work t w visible count p i₀ i = count - i

@@ -1,18 +1,20 @@
 -- `typing::equations::begins_at` meets its contract.
 -- Assumes nothing.
-use Rattle.typing.proofs.Passes.{passes}
+use Rattle.typing.specs.Equations.{is-opening, begins-at}
+use Rattle.choices.specs.Choices.{choices}
 use borrow.Author.Needs.{needs}
 use Rattle.typing.proofs.equations.begins_at.Statement.{statement}
 use Rattle.typing.proofs.equations.begins_at.Tie as tie
 
 pub begins-at-spec : {M : Type 1} → statement M
+unfolding begins-at is-opening
 begins-at-spec =
     tie.close
     (tie.spec
     (λ c κs. search needs)  -- role-at-requires
-    (λ c. search passes)  -- returns
-    (λ c. search passes)  -- returns-2
-    (λ c. search passes)  -- returns-3
-    (λ c. search passes)  -- returns-4
-    (λ c. search passes)  -- returns-5
+    (λ c. search choices)  -- returns
+    (λ c. search choices)  -- returns-2
+    (λ c. search choices)  -- returns-3
+    (λ c. search choices)  -- returns-4
+    (λ c. search choices)  -- returns-5
     )

@@ -8,13 +8,14 @@ use Rattle.names.specs.Joint.{joint}
 use Rattle.tables.specs.Rows.{sort-of}
 use Rattle.forms.specs.Memory.{part}
 use Rattle.typing.specs.Known.{function-called}
-use Rattle.typing.proofs.Seeks.{Seeking, seeks}
+use Rattle.walks.specs.Rows.{Finding}
+use Rattle.typing.proofs.Seeks.{seeks}
 use Rattle.typing.proofs.find.find_function.Statement.{statement}
 use Rattle.typing.proofs.find.find_function.Tie as tie
 
 abbrev Inv-loop : tie.InvT-loop
 Inv-loop library text work t b n w sorts count i₀ i =
-    Seeking (function-called (name-of (joint library text) w) (map (sort-of (joint library text) (part work 0 t)) (take count sorts))) (joint library text) (part work 0 t) work b n i
+    Finding (function-called (name-of (joint library text) w) (map (sort-of (joint library text) (part work 0 t)) (take count sorts))) (joint library text) (part work 0 t) work b n i
 
 abbrev μ-loop : tie.MeasureT-loop
 μ-loop library text work t b n w sorts count i₀ i = n - i

@@ -5,12 +5,13 @@ use Rattle.names.specs.Word.{name-of}
 use Rattle.names.specs.Joint.{joint}
 use Rattle.forms.specs.Memory.{part}
 use Rattle.typing.specs.Known.{variable-called}
-use Rattle.typing.proofs.Seeks.{Seeking, seeks}
+use Rattle.walks.specs.Rows.{Finding}
+use Rattle.typing.proofs.Seeks.{seeks}
 use Rattle.typing.proofs.find.find_variable.Statement.{statement}
 use Rattle.typing.proofs.find.find_variable.Tie as tie
 
 abbrev Inv-loop : tie.InvT-loop
-Inv-loop library text work t b n w i₀ i = Seeking (variable-called (name-of (joint library text) w)) (joint library text) (part work 0 t) work b n i
+Inv-loop library text work t b n w i₀ i = Finding (variable-called (name-of (joint library text) w)) (joint library text) (part work 0 t) work b n i
 
 abbrev μ-loop : tie.MeasureT-loop
 μ-loop library text work t b n w i₀ i = n - i

@@ -7,11 +7,12 @@ use mathlib.Core.List.{List, [], _∷_}
 use lib.ListN.{length, take, drop, length-append}
 use lib.Seq.{take-append-add}
 use Rattle.meaning.specs.Lists.{pick, each}
-use Rattle.meaning.specs.Trials.{Every}
+use Rattle.meaning.specs.OrderLaws.{Every}
 use Rattle.meaning.specs.Listing.{Line, line-text, lines-text}
 use Rattle.listing_reader.specs.Places.{key-number}
 use Rattle.listing_reader.specs.Visible.{in-front, front-line, after, front-end, visible-end, front-part}
-use Rattle.reader_laws.specs.Lines.{Readable, Gives, line-size, text-size, lines-past, lines-from}
+use Rattle.promises.specs.ListingLaws.{PlainLine}
+use Rattle.reading_back.specs.Lines.{Gives, line-size, text-size, lines-past, lines-from}
 
 -- the lines up to the first whose key stands from `hidden-sort` to `end` in the listing's order
 unfoldable pub leading : List Line → List Line
@@ -19,9 +20,9 @@ leading [] = []
 leading (l ∷ ls) = let more = l ∷ leading ls in pick (in-front (key-number (l .key))) more []
 
 -- reading past them
-leading-from : (ls : List Line) (text : List ℕ) (at n : ℕ) → at ≤ length text → drop at text ≡ lines-text ls → Every Readable ls
+leading-from : (ls : List Line) (text : List ℕ) (at n : ℕ) → at ≤ length text → drop at text ≡ lines-text ls → Every PlainLine ls
     → length (lines-text ls) ≤ n → front-end text n at ≡ at + length (lines-text (leading ls))
-unfolding front-end leading lines-text each Every pick Gives front-line after
+unfolding front-end leading lines-text each pick Gives front-line after
 leading-from [] text at zero p h r m = omega arith
 leading-from [] text at (suc n) p h r m = rw (lines-from [] text at p h r) (omega arith)
 leading-from (l ∷ ls) text at zero p h r m =
@@ -49,7 +50,7 @@ leading-first (l ∷ ls) = go (in-front (key-number (l .key))) (leading-first ls
     go true e = rw (length-append, take-append-add, e)
     go false e = refl
 
-pub front-leads : (ls : List Line) → Every Readable ls → front-part (lines-text ls) ≡ lines-text (leading ls)
+pub front-leads : (ls : List Line) → Every PlainLine ls → front-part (lines-text ls) ≡ lines-text (leading ls)
 unfolding front-part visible-end
 front-leads ls r =
     let e = leading-from ls (lines-text ls) 0 (length (lines-text ls)) (omega arith) refl r (omega arith) in

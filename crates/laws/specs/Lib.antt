@@ -1,0 +1,7 @@
+pub mod EveryLaws
+pub mod Outcomes
+pub mod OwnItems
+pub mod Walk
+pub mod Piecewise
+pub mod Reading
+pub mod Decides

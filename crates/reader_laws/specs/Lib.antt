@@ -1,4 +1,0 @@
-pub mod Lines
-pub mod Front
-pub mod Listing
-pub mod Shown

@@ -1,1 +1,0 @@
-// Theorems alone: what ties the reader of listings to their writer. This crate has no function.
