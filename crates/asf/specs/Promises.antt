@@ -21,6 +21,7 @@ use Rattle.meaning.specs.Answer as Meaning
 use Rattle.meaning.specs.Answer.{answer, output-after, memory-after}
 use Rattle.meaning.specs.Contract.{call}
 use Rattle.meaning.specs.Contract as Contract
+use Rattle.promises.specs.Given.{in-cycle}
 use Rattle.promises.specs.NoCycle.{never-in-cycle}
 use Rattle.answers.specs.declared.Name.{Name}
 use Rattle.answers.specs.declared.Answer.{Answer}
@@ -80,8 +81,8 @@ module _ (memory output : List ℕ) (asked : Names.Name) (texts : Texts) (r : Re
   unfolding told
   number-told = ap (λ (x : Answer). x .number) answer-told
 
-  -- 20 is no number
-  pub never-twenty : r .answer .number ≡ 20 → ⊥
+  -- 20 is given no more
+  pub never-twenty : r .answer .number ≡ in-cycle → ⊥
   never-twenty h = never-in-cycle (length memory) (length output) asked texts (sym number-told ∙ h)
 
   -- a name of at most 40 bytes is held

@@ -13,7 +13,7 @@ use Rattle.meaning.specs.Laws.{by-cases}
 use Rattle.meaning.specs.Lists.{pick}
 use Rattle.meaning.specs.OrderLaws.{Every, every-middle, same-equal}
 use Rattle.meaning.specs.Names.{Name, member}
-use Rattle.meaning.specs.Numbers.{name-size, asked-absent, lent-short}
+use Rattle.meaning.specs.Numbers.{name-size, asked-absent, lent-short, module-twice}
 use Rattle.meaning.specs.Syntax.{Module}
 use Rattle.meaning.specs.Texts.{Texts, Reading, all-read, refused-in, read-texts}
 use Rattle.meaning.specs.Normal.{empty}
@@ -85,21 +85,21 @@ none-long asked l (m ∷ ms) h =
 
 -- blank up to 5, and from 6 on the asked one
 abbrev pub named-by-number : Name → ℕ → Name
-named-by-number asked number = pick (leb number 5) [] asked
+named-by-number asked number = pick (leb number module-twice) [] asked
 
 abbrev ByNumber : Name → Answer → Type 0
 ByNumber asked a = a .evaluating ≡ named-by-number asked (a .number)
 
-from-six : (asked : Name) (number count : ℕ) (c : Culprit) (at : ℕ) → 5 < number → ByNumber asked (refusal number count asked c at)
+from-six : (asked : Name) (number count : ℕ) (c : Culprit) (at : ℕ) → module-twice < number → ByNumber asked (refusal number count asked c at)
 unfolding refusal pick
-from-six asked number count c at h = rw (lt-leb number 5 h)
+from-six asked number count c at h = rw (lt-leb number module-twice h)
 
 read-long : (asked : Name) (texts : Texts) → name-size < length asked → (r : Reading) → read-texts texts ≡ r → ByNumber asked (of-read asked r)
 unfolding of-read of-ended normalise unread pick
 read-long asked texts l (all-read ms) e =
     let absent : normalise asked ms ≡ refused-at asked-absent 0 asked (lone (short-or-blank asked)) = rw (none-long asked l ms (read-names texts ms e)) in
     rw absent (from-six asked asked-absent 0 (lone (short-or-blank asked)) 0 (omega arith))
-read-long asked texts l (refused-in m number at) e = rw (le-leb number 5 (refused-low texts m number at e))
+read-long asked texts l (refused-in m number at) e = rw (le-leb number module-twice (refused-low texts m number at e))
 
 pub answer-long : (memory-lent output-lent : ℕ) (asked : Name) (texts : Texts) → name-size < length asked
     → ByNumber asked (answer memory-lent output-lent asked texts)

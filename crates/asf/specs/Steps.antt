@@ -5,7 +5,7 @@ use mathlib.Core.List.{List, []}
 use lib.ListN.{length}
 use Rattle.meaning.specs.Lists.{before}
 use Rattle.meaning.specs.Names.{Name, same}
-use Rattle.meaning.specs.Numbers.{memory-size}
+use Rattle.meaning.specs.Numbers.{memory-size, module-limit}
 use Rattle.meaning.specs.Syntax.{Module}
 use Rattle.meaning.specs.OrderLaws.{Every}
 use Rattle.meaning.specs.Distinct.{Fresh}
@@ -37,7 +37,7 @@ pub record Spoken (x : Reading) (text : List ℕ) (t : ℕ) (w : List ℕ) : Typ
   pub modules : List Module
   pub read-so : x ≡ all-read modules
   pub said : entries text t (part w 0 t) ≡ flat-modules modules
-  pub few : length modules ≤ 64
+  pub few : length modules ≤ module-limit
   pub fresh : Fresh [] modules
   pub limited : Every Limited modules
   pub small : Every (λ (m : Module). length (flat-module m) ≤ 32768) modules

@@ -3,6 +3,7 @@ use mathlib.Core.Path.{_≡_}
 use Prim.Native.Nat.{ℕ, _≤_}
 use mathlib.Core.List.{List, []}
 use lib.ListN.{length}
+use Rattle.meaning.specs.Numbers.{module-limit}
 use Rattle.meaning.specs.Syntax.{Module}
 use Rattle.meaning.specs.Distinct.{Fresh}
 use Rattle.meaning.specs.Texts.{Reading, all-read}
@@ -13,6 +14,6 @@ pub record Spoken (x : Reading) (text tape : List ℕ) : Type 0 where
   pub modules : List Module
   pub read-so : x ≡ all-read modules
   pub said : entries text (length tape) tape ≡ flat-modules modules
-  pub few : length modules ≤ 64
+  pub few : length modules ≤ module-limit
   pub fresh : Fresh [] modules
   pub short : length tape ≤ 65536

@@ -129,7 +129,7 @@ module _ (text tape w w₁ w₂ w₃ : List ℕ) (m : Mode) (nd notes count : �
       (joined : items-at text tape w₂ (all .visible) (all .«visible_count») ≡ union one-item others (actual .items))
       (right : pairs-right (formals (name-of text (m .parameter)) whole) (pairs-at text tape (m .pairs)) whole actual [] (pairs-at text tape (m .pairs))
       ≡ fine tt)
-      (paired-all : unpaired (formals (name-of text (m .parameter)) whole) (pairs-at text tape (m .pairs)) whole actual ≡ none) where
+      (paired-all : unpaired (formals (name-of text (m .parameter)) whole) (pairs-at text tape (m .pairs)) ≡ none) where
     noted : (i : ℕ) → i < m .count → is-function (source i .shape) ≡ true → NotedAs text tape w₃ all (goal i) (note i)
     noted i h f = go (formal-row text tape w₂ m i) refl
       where

@@ -8,7 +8,7 @@ use lib.ListN.{length}
 use Rattle.meaning.specs.Names.{Name}
 use Rattle.meaning.specs.Numbers.{formal-unpaired}
 use Rattle.meaning.specs.Syntax.{Pair}
-use Rattle.meaning.specs.Normal.{Visible, nothing-visible, nothing-hidden, Normal, unite-visible, unite-hidden, unite, move-visible, move, formals}
+use Rattle.meaning.specs.Normal.{Visible, nothing-hidden, Normal, unite-visible, unite-hidden, unite, move-visible, move, formals}
 use Rattle.meaning.specs.Checks.{fine, _>>_, Check, unless, checked}
 use Rattle.meaning.specs.Clauses.{new-sort, new-function, pairs-right, unpaired, without-visible, without}
 use Rattle.names.specs.Word.{name-of}
@@ -33,12 +33,12 @@ pairs-checked text tape w m actual =
     let formal = mode-formals text tape w m in
     let rs = pairs-at text tape (m .pairs) in
     pairs-right formal rs (mode-whole text tape w m) (visible-at text tape w actual) [] rs
-    >> unless formal-unpaired (unpaired formal rs nothing-visible nothing-visible)
+    >> unless formal-unpaired (unpaired formal rs)
 
 -- the pairs pass
 pub record PairsRight (p : Name) (rs : List Pair) (whole actual : Visible) : Type 0 where
   pub right : pairs-right (formals p whole) rs whole actual [] rs ≡ fine tt
-  pub paired : unpaired (formals p whole) rs whole actual ≡ none
+  pub paired : unpaired (formals p whole) rs ≡ none
 
 -- ---- what is left of the form that is bound
 
@@ -106,7 +106,7 @@ module _ (text : List ℕ) (t : ℕ) (w : List ℕ) (m : Mode) where
       let p = name-of text (m .parameter) in
       let formal = formals p (n .visible) in
       let rs = pairs-at text (part w 0 t) (m .pairs) in
-      unite (move (new-sort formal rs (n .visible) (a .visible)) (new-function formal rs (n .visible) (a .visible)) (without p n)) a
+      unite (move (new-sort formal rs) (new-function formal rs) (without p n)) a
 
   pub record BoundForm (g actual : Form) (b : Block) (r : Made) (w′ : List ℕ) : Type 0 where
     pub kept : Kept (b .low) (b .high) w w′

@@ -10,11 +10,11 @@ use Rattle.meaning.specs.Names.{Name, member}
 use Rattle.meaning.specs.Numbers.{formal-unpaired}
 use Rattle.meaning.specs.Syntax.{Pair}
 use Rattle.meaning.specs.Origins.{Item}
-use Rattle.meaning.specs.Normal.{Visible, nothing-visible, Normal, slot-names, formals}
+use Rattle.meaning.specs.Normal.{Visible, Normal, slot-names, formals}
 use Rattle.meaning.specs.Checks as Meaning
 use Rattle.meaning.specs.Checks.{lone, Outcome, fine, stop, _>>_, Check, unless, checked}
 use Rattle.meaning.specs.Clauses.{pairs-right, unpaired, bound-to, bind}
-use Rattle.meaning.specs.Mirror.{then-fine, unless-fine}
+use Rattle.meaning.specs.OutcomeLaws.{then-fine, unless-fine}
 use Rattle.names.specs.Word.{name-of}
 use Rattle.forms.specs.declared.Culprit.{Culprit}
 use Rattle.forms.specs.declared.Form.{Form}
@@ -65,7 +65,7 @@ module _ (text tape w : List ℕ) (m : Mode) (actual : Form) where
       (pairs-at text tape (m .pairs))
 
   abbrev names-wrong : Check
-  names-wrong = unless formal-unpaired (unpaired (mode-formals text tape w m) (pairs-at text tape (m .pairs)) nothing-visible nothing-visible)
+  names-wrong = unless formal-unpaired (unpaired (mode-formals text tape w m) (pairs-at text tape (m .pairs)))
 
   pub pairs-stop : (v : Verdict) (k : ℕ) (x : Culprit) → told text v ≡ pairs-wrong → v ≡ Stop k x → told text (Stop k x) ≡ pairs-checked text tape w m actual
   unfolding told pairs-checked
@@ -140,13 +140,13 @@ module _ (text : List ℕ) (t : ℕ) (w : List ℕ) (p pairs : ℕ) (g actual : 
       table = table-meant text (part w 0 t) w m g n binds s
 
       checked-meant : pairs-checked text (part w 0 t) w m actual
-          ≡ (pairs-right formal rs (n .visible) (a .visible) [] rs >> unless formal-unpaired (unpaired formal rs (n .visible) (a .visible)))
+          ≡ (pairs-right formal rs (n .visible) (a .visible) [] rs >> unless formal-unpaired (unpaired formal rs))
       unfolding pairs-checked
       checked-meant =
           ap₂ (λ (c : Check) (x : Option Name). c >> unless formal-unpaired x)
           (pairs-meant text (part w 0 t) w m (n .visible) table (visible-at text (part w 0 t) w actual) [] (pairs-at text (part w 0 t) (m .pairs))
           ∙ (λ i. pairs-right (formal-words i) (words i) (n .visible) (u .visible i) [] (words i)))
-          (unpaired-meant text (part w 0 t) w m (n .visible) table (a .visible) ∙ (λ i. unpaired (formal-words i) (words i) (n .visible) (a .visible)))
+          (unpaired-meant text (part w 0 t) w m (n .visible) table ∙ (λ i. unpaired (formal-words i) (words i)))
 
     -- 22 to 27
     pub wrong-pairs : (v : Verdict) (k : ℕ) (x : Culprit) → told text v ≡ pairs-checked text (part w 0 t) w m actual → v ≡ Stop k x

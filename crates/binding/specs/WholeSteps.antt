@@ -58,10 +58,10 @@ module _ (text : List ℕ) (t : ℕ) (w : List ℕ) (m : Mode) (g actual : Form)
         rs = pairs-at text (part w 0 t) (m .pairs)
 
         abbrev σ : Name → Name
-        σ = new-sort (formals p (n .visible)) rs (n .visible) (a .visible)
+        σ = new-sort (formals p (n .visible)) rs
 
         abbrev φ : Name → FunctionType → Name
-        φ = new-function (formals p (n .visible)) rs (n .visible) (a .visible)
+        φ = new-function (formals p (n .visible)) rs
 
         s₁ : Stands text (part w₁ 0 t) w₁ g n
         s₁ = still-stands behind (x .kept) (room .room .own .outside) s
@@ -73,10 +73,10 @@ module _ (text : List ℕ) (t : ℕ) (w : List ℕ) (m : Mode) (g actual : Form)
         table = table-meant text (part w 0 t) w m g n (room .mode) s
 
         sorts₀ : sorts text t w m ≡ σ
-        sorts₀ = sorts-meant text (part w 0 t) w m (n .visible) table (room .mode .kind) (a .visible)
+        sorts₀ = sorts-meant text (part w 0 t) w m (n .visible) table (room .mode .kind)
 
         functions₀ : functions text t w m ≡ φ
-        functions₀ = functions-meant text (part w 0 t) w m (n .visible) table (room .mode .kind) (a .visible)
+        functions₀ = functions-meant text (part w 0 t) w m (n .visible) table (room .mode .kind)
 
         sorts₁ : sorts text t w₁ m ≡ σ
         sorts₁ = sorts-stay text t w w₁ m (b .low) (b .high) behind (x .kept) table-apart ∙ sorts₀

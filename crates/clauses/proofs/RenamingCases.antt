@@ -1,7 +1,7 @@
 -- Laws of the check of a renaming's pairs, in the code's terms.
 use mathlib.Core.Path.{_≡_, refl, sym, ap, _∙_}
 use Prim.Native.Nat.{ℕ, _+_, _-_, _*_, _≤_, _<_, min}
-use mathlib.Core.Bool.{Bool, true, false, not, _&&_}
+use mathlib.Core.Bool.{Bool, true, false, not, _&&_, _||_}
 use mathlib.Core.Option.{Option, some}
 use mathlib.Core.List.{List, [], _∷_, map}
 use native.Mathlib.Omega.{arith}
@@ -10,7 +10,7 @@ use lib.Dec.{eqb, leb}
 use lib.ListN.{length, take, length-take, length-map}
 use borrow.Author.Needs.{needs}
 use borrow.Author.Tests.{eq-eqb, ne-eqb, eqb-true, eqb-false}
-use Rattle.meaning.specs.Lists.{pick, any, before}
+use Rattle.meaning.specs.Lists.{pick, any, before, first-bad}
 use Rattle.meaning.specs.Names.{Name, same, is-operator, is-infix, member}
 use Rattle.meaning.specs.Syntax.{Pair}
 use Rattle.meaning.specs.Origins.{Shape, sort-shape, function-shape, variable-shape, Item}
@@ -142,17 +142,22 @@ module _ (visible : List Item) (text tape : List ℕ) (pairs n : ℕ) where
 
   module _ (k : ℕ) (inv : Checking visible text tape pairs n k) where
     pub renamings-fine : n ≤ k → told text Fine ≡ unless 14 wrong
-    unfolding told unless wrong-renaming given
+    unfolding told unless wrong-renaming given first-bad
     renamings-fine h = rw (walk-end checked text tape pairs n k h inv)
+
+    wrong-or-given : (a b : Bool) → (not a || b) ≡ not (a && not b)
+    wrong-or-given true true = refl
+    wrong-or-given true false = refl
+    wrong-or-given false b = refl
 
     module _ (r : Bool) (h : k < n) (f : r ≡ rightly (renames visible) text tape pairs k) where
       pub check-again : r ≡ true → Checking visible text tape pairs n (k + 1)
-      unfolding wrong-renaming given rightly pair-at pick
-      check-again q = walk-again checked text tape pairs n k h inv (rw (← f, q, add-one k))
+      unfolding wrong-renaming given rightly pair-at pick first-bad
+      check-again q = walk-again checked text tape pairs n k h inv (rw (wrong-or-given, ← f, q, add-one k))
 
       one-wrong : r ≡ false → wrong ≡ some (name-at text tape (pairs + k * 2))
-      unfolding wrong-renaming given rightly pair-at pick
-      one-wrong q = walk-here checked text tape pairs n k h inv ∙ rw (← f, q)
+      unfolding wrong-renaming given rightly pair-at pick first-bad
+      one-wrong q = walk-here checked text tape pairs n k h inv ∙ rw (wrong-or-given, ← f, q)
 
       pub renaming-stops : (x : ℕ) → r ≡ false → x ≡ word-at tape (pairs + k * 2) → told text (Stop 14 (record { name = x; actual = 0 })) ≡ unless 14 wrong
       unfolding told unless

@@ -1,6 +1,6 @@
 -- 9 by places is the meaning's (meaning/specs/Evaluate.antt, step 2): each declaration is held against those before it in its section.
 use mathlib.Core.Path.{_≡_, refl, sym, ap, ap₂, subst, _∙_}
-use mathlib.Core.Bool.{Bool, true, false}
+use mathlib.Core.Bool.{Bool, true, false, not}
 use mathlib.Core.Option.{Option, some}
 use mathlib.Core.List.{List, [], _∷_, map}
 use Prim.Native.Nat.{ℕ, suc, _+_, _-_, _<_, _≤_}
@@ -9,22 +9,20 @@ use native.Mathlib.Omega.{arith}
 use borrow.Author.Tests.{le-ltb, eq-eqb, ne-eqb}
 use lib.Dec.{eqb}
 use lib.ListN.{length, length-append}
-use Rattle.meaning.specs.Lists.{pick, any, each, repeated}
+use Rattle.meaning.specs.Lists.{pick, any, each, repeated, first-bad}
 use Rattle.meaning.specs.Names.{Name, same, member}
 use Rattle.meaning.specs.Numbers.{declared-twice}
 use Rattle.meaning.specs.Syntax.{Function, Signature, Parameter, Module}
 use Rattle.meaning.specs.Origins.{Declared, declared-sort, declared-function, same-declared}
-use Rattle.meaning.specs.Checks.{lone, Check, fine, stop, _>>_, unless}
-use Rattle.meaning.specs.Evaluate.{same-function, name-of-function, once-in, once-in-parameters, declared-once}
+use Rattle.meaning.specs.Checks.{lone, Check, fine, stop, _>>_, unless, needs, each-beside}
+use Rattle.meaning.specs.Evaluate.{same-function, once-in, once-in-parameters, declared-once, once-in-parameter}
 use Rattle.tape.specs.Tape.{Entry, entry, flat-function, flat-signature, flat-parameter, flat-module}
 use Rattle.tables.specs.Entries.{role-at, name-at, is-function-role, is-parameter-role, last-with, declared-at}
 use Rattle.declarations.specs.Scans.{found, walked}
 use Rattle.declarations.specs.Once.{is-declaring, repeats, section-start, is-repeat, once-at}
 use Rattle.walks.specs.Flat.{All, all-map, all-type, all-signature, all-parameters, all-imports, all-groups, all-equations}
 use Rattle.declarations.specs.Spelled.{Spells, spells-front, spells-behind, last-over}
-use Rattle.declarations.specs.Runs.{parameters-of, exports-of, imports-of, groups-of, equations-of}
-use Rattle.declarations.specs.Runs.{at-exports, at-imports, at-hidden, at-groups, at-equations, Parts, parts}
-use Rattle.declarations.specs.Runs.{quiet-run, walk-module, then-fine, then-then, check-walks, walked-append}
+use Rattle.declarations.specs.Runs.{parameters-of, exports-of, imports-of, groups-of, equations-of, at-exports, at-imports, at-hidden, at-groups, at-equations, Parts, parts, quiet-run, walk-module, then-fine, then-then, check-walks, walked-append}
 use Rattle.declarations.specs.ItemLaws.{Few, FewEach, FewInputs, FunctionAt, function-at, function-long, type-entries}
 use Rattle.declarations.specs.VariableLaws.{either-way, either-false, found-more, told-at, refused-then}
 
@@ -33,15 +31,10 @@ unfolding any member
 any-member n [] = refl
 any-member n (x ∷ xs) = ap (λ (b : Bool). pick (same n x) true b) (any-member n xs)
 
-told-then : (k : ℕ) (n : Name) (b : Bool) (c : Check) → (told-at b k n >> c) ≡ pick b (stop k (lone n)) c
-unfolding told-at _>>_ pick
-told-then k n true c = refl
-told-then k n false c = refl
-
-name-picked : (b : Bool) (f : Function) (o : Option Function) → pick b (some (f .name)) (name-of-function o) ≡ name-of-function (pick b (some f) o)
-unfolding name-of-function pick
-name-picked true f o = refl
-name-picked false f o = refl
+told-needs : (k : ℕ) (n : Name) (b : Bool) → told-at b k n ≡ needs k (lone n) (not b)
+unfolding told-at needs pick
+told-needs k n true = refl
+told-needs k n false = refl
 
 module _ (text tape : List ℕ) (a : ℕ) where
   abbrev walk : ℕ → List Entry → Check
@@ -127,15 +120,15 @@ module _ (text tape : List ℕ) (a start q r : ℕ) (low : r < 9) (apart : q ≡
   Functions i seen = Before text tape a Function r as-declared same-function function-agreed start i seen
 
   sorts-once : (ns : List Name) (i : ℕ) (seen : List Name) → lo ≤ i → i + length (map (entry q) ns) ≤ hi → Sorts i seen → Spells text tape i (map (entry q) ns)
-      → walk text tape a i (map (entry q) ns) ≡ unless declared-twice (repeated same seen ns)
-  unfolding walked repeated unless
+      → walk text tape a i (map (entry q) ns) ≡ unless declared-twice (repeated (λ (w : Name). w) same seen ns)
+  unfolding walked repeated first-bad unless
   sorts-once [] i seen h l b k = refl
   sorts-once (n ∷ ns) i seen h l b k =
       let d = sort-declared text tape i q n (k .0) sort-q other-q (k .1) in
       ap₂ (λ (x y : Check). x >> y)
       (once-told text tape a Name q declared-sort same sort-agreed start i n n seen declaring-q (k .0) (start-q i h (omega arith) (k .0)) d (k .1) b)
       (sorts-once ns (suc i) (n ∷ seen) (omega arith) (omega arith) (before-same text tape a Name q declared-sort same sort-agreed start i n seen (omega arith) (k .0) d b) (k .2))
-      ∙ refused-then declared-twice n (any (same n) seen) (repeated same (n ∷ seen) ns)
+      ∙ refused-then declared-twice n (any (same n) seen) (repeated (λ (w : Name). w) same (n ∷ seen) ns)
 
   function-once : (f : Function) (i : ℕ) (seen : List Function) → lo ≤ i → i < hi → length (f .inputs) ≤ 8 → Functions i seen → Spells text tape i (flat-function r f)
       → walk text tape a i (flat-function r f) ≡ told-at (any (same-function f) seen) declared-twice (f .name)
@@ -160,8 +153,8 @@ module _ (text tape : List ℕ) (a start q r : ℕ) (low : r < 9) (apart : q ≡
 
   functions-once : (fs : List Function) (i : ℕ) (seen : List Function) → lo ≤ i → i + length (each (flat-function r) fs) ≤ hi → Few fs → Functions i seen
       → Spells text tape i (each (flat-function r) fs)
-      → walk text tape a i (each (flat-function r) fs) ≡ unless declared-twice (name-of-function (repeated same-function seen fs))
-  unfolding walked each repeated unless name-of-function
+      → walk text tape a i (each (flat-function r) fs) ≡ unless declared-twice (repeated (λ (f : Function). f .name) same-function seen fs)
+  unfolding walked each repeated first-bad unless
   functions-once [] i seen h l n b k = refl
   functions-once (f ∷ fs) i seen h l n b k =
       let rest = each (flat-function r) fs in
@@ -172,8 +165,7 @@ module _ (text tape : List ℕ) (a start q r : ℕ) (low : r < 9) (apart : q ≡
       (function-once f i seen h (omega (arith, size, function-long r f)) (n .0) b one)
       (functions-once fs (i + length (flat-function r f)) (f ∷ seen) (omega arith) (omega (arith, size)) (n .1) (function-behind f i seen h (n .0) b one)
       (spells-behind text tape (flat-function r f) rest i k))
-      ∙ refused-then declared-twice (f .name) (any (same-function f) seen) (name-of-function (repeated same-function (f ∷ seen) fs))
-      ∙ ap (unless declared-twice) (name-picked (any (same-function f) seen) f (repeated same-function (f ∷ seen) fs))
+      ∙ refused-then declared-twice (f .name) (any (same-function f) seen) (repeated (λ (f : Function). f .name) same-function (f ∷ seen) fs)
 
   signature-once : (g : Signature) (i : ℕ) → lo ≤ i → i + length (flat-signature q r g) ≤ hi → Few (g .functions) → Sorts i [] → Functions i [] → Spells text tape i (flat-signature q r g)
       → walk text tape a i (flat-signature q r g) ≡ once-in g
@@ -198,8 +190,8 @@ module _ (text tape : List ℕ) (a : ℕ) where
   Parameters i seen = Before text tape a Name 2 declared-sort same sort-agreed a i seen
 
   parameter-once : (p : Parameter) (i : ℕ) (seen : List Name) → a ≤ i → Few (p .signature .functions) → Parameters i seen → Spells text tape i (flat-parameter p)
-      → walk text tape a i (flat-parameter p) ≡ (told-at (member (p .name) seen) declared-twice (p .name) >> once-in (p .signature))
-  unfolding walked flat-parameter is-declaring is-function-role is-parameter-role pick
+      → walk text tape a i (flat-parameter p) ≡ once-in-parameter seen p
+  unfolding walked flat-parameter is-declaring is-function-role is-parameter-role once-in-parameter pick
   parameter-once p i seen h n b k =
       let es = flat-signature 3 4 (p .signature) in
       let last : (x : ℕ) → suc i ≤ x → x < suc i + length es → last-with 2 tape x ≡ i = λ x j l.
@@ -209,7 +201,7 @@ module _ (text tape : List ℕ) (a : ℕ) where
       ap₂ (λ (x y : Check). x >> y)
       (once-told text tape a Name 2 declared-sort same sort-agreed a i (p .name) (p .name) seen refl (k .0) (start-module tape a i 2 (k .0) refl)
       (sort-declared text tape i 2 (p .name) (k .0) refl refl (k .1)) (k .1) b
-      ∙ ap (λ (x : Bool). told-at x declared-twice (p .name)) (any-member (p .name) seen))
+      ∙ ap (λ (x : Bool). told-at x declared-twice (p .name)) (any-member (p .name) seen) ∙ told-needs declared-twice (p .name) (member (p .name) seen))
       (signature-once text tape a i 3 4 (omega arith) (λ x. omega arith) refl refl refl refl refl (suc i) (suc i + length es)
       (λ x j l e. start-parameter tape a x 3 e i refl (last x j l))
       (λ x j l e. start-parameter tape a x 4 e i refl (last x j l)) (omega arith)
@@ -230,7 +222,7 @@ module _ (text tape : List ℕ) (a : ℕ) where
 
   parameters-once : (ps : List Parameter) (i : ℕ) (seen : List Name) → a ≤ i → FewEach ps → Parameters i seen → Spells text tape i (each flat-parameter ps)
       → walk text tape a i (each flat-parameter ps) ≡ once-in-parameters seen ps
-  unfolding walked each once-in-parameters
+  unfolding walked each once-in-parameters each-beside
   parameters-once [] i seen h n b k = refl
   parameters-once (p ∷ ps) i seen h n b k =
       let rest = each flat-parameter ps in
@@ -238,8 +230,6 @@ module _ (text tape : List ℕ) (a : ℕ) where
       walked-append (once-at text tape a) (flat-parameter p) rest i
       ∙ ap₂ (λ (x y : Check). x >> y) (parameter-once p i seen h (n .0) b one)
       (parameters-once ps (i + length (flat-parameter p)) (p .name ∷ seen) (omega arith) (n .1) (parameter-behind p i seen h b one) (spells-behind text tape (flat-parameter p) rest i k))
-      ∙ then-then (told-at (member (p .name) seen) declared-twice (p .name)) (once-in (p .signature)) (once-in-parameters (p .name ∷ seen) ps)
-      ∙ told-then declared-twice (p .name) (member (p .name) seen) (once-in (p .signature) >> once-in-parameters (p .name ∷ seen) ps)
 
   -- exports, or the hidden section: none of its roles stands before it
   section-once : (q r : ℕ) → r < 9 → (q ≡ r → ⊥) → is-declaring q ≡ true → is-declaring r ≡ true → is-function-role q ≡ false → eqb q 17 ≡ false → is-function-role r ≡ true

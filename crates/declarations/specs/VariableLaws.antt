@@ -8,7 +8,7 @@ use native.Mathlib.Nat.{add-zero}
 use native.Mathlib.Omega.{arith}
 use borrow.Author.Tests.{ne-eqb}
 use lib.ListN.{length}
-use Rattle.meaning.specs.Lists.{pick, keep, each}
+use Rattle.meaning.specs.Lists.{pick, keep, each, first-bad}
 use Rattle.meaning.specs.Names.{Name, same, member}
 use Rattle.meaning.specs.Numbers.{bad-variable}
 use Rattle.meaning.specs.Syntax.{VariableGroup, Variable, Module, group-variables, variables-of}
@@ -26,8 +26,7 @@ use Rattle.declarations.specs.RowNames.{constants-found}
 use Rattle.walks.specs.Lists.{keep-append}
 use Rattle.walks.specs.Flat.{All, all-parameters, all-signature, all-imports, all-equations}
 use Rattle.declarations.specs.Spelled.{Spells, first-found}
-use Rattle.declarations.specs.Runs.{parameters-of, exports-of, imports-of, hidden-of, equations-of}
-use Rattle.declarations.specs.Runs.{at-exports, at-imports, at-hidden, at-groups, at-equations, parts, quiet-run, walk-module, then-fine, check-walks}
+use Rattle.declarations.specs.Runs.{parameters-of, exports-of, imports-of, hidden-of, equations-of, at-exports, at-imports, at-hidden, at-groups, at-equations, parts, quiet-run, walk-module, then-fine, check-walks}
 use Rattle.declarations.specs.DeclarationLaws.{Stands, member-append}
 use Rattle.declarations.specs.ItemLaws.{group-entries}
 use Rattle.declarations.specs.declared.Own.{Own}
@@ -153,7 +152,7 @@ module _ (text tape w : List ℕ) (own : Own) (m : Module) (v : Visible) (s : St
       → Spells text tape i (group-entries ns a ++ es)
       → ((j : ℕ) (seen′ : List Name) → own .from ≤ j → Before text tape own j seen′ → Spells text tape j es → walk j es ≡ unless bad-variable (wrong-variable in-reach seen′ vs))
       → walk i (group-entries ns a ++ es) ≡ unless bad-variable (wrong-variable in-reach seen (map (λ (x : Name). record { name = x; sort = a }) ns ++ vs))
-  unfolding wrong-variable
+  unfolding wrong-variable first-bad
   group-right [] a es vs i seen h l k rest =
       walk-other (entry 18 a) es i (λ q. omega arith) k
       ∙ rest (suc i) seen (omega arith) (before-other text tape own i seen h (λ q. let z = sym (k .0) ∙ q in omega arith) l) (k .2)
@@ -165,7 +164,7 @@ module _ (text tape w : List ℕ) (own : Own) (m : Module) (v : Visible) (s : St
 
   groups-right : (gs : List VariableGroup) (i : ℕ) (seen : List Name) → own .from ≤ i → Before text tape own i seen → Spells text tape i (each flat-group gs)
       → walk i (each flat-group gs) ≡ unless bad-variable (wrong-variable in-reach seen (each group-variables gs))
-  unfolding each flat-group group-variables wrong-variable unless walked
+  unfolding each flat-group group-variables wrong-variable unless walked first-bad
   groups-right [] i seen h l k = refl
   groups-right (g ∷ gs) i seen h l k =
       group-right (g .names) (g .sort) (each flat-group gs) (each group-variables gs) i seen h l k (λ j seen′ x y z. groups-right gs j seen′ x y z)

@@ -121,10 +121,10 @@ conditions-flat (a ∷ as′) (b ∷ bs) =
 
 -- two equations are one exactly when module and position are, and their nodes in turn
 pub one-flat : (a b : ResolvedEquation)
-    → one-equation a b ≡ (eqb (a .home) (b .home) && (eqb (a .position) (b .position) && agree same-node (flat-equation a) (flat-equation b)))
+    → one-equation a b ≡ (eqb (a .module-number) (b .module-number) && (eqb (a .position) (b .position) && agree same-node (flat-equation a) (flat-equation b)))
 unfolding one-equation flat-equation
 one-flat a b =
-    let h = eqb (a .home) (b .home) in
+    let h = eqb (a .module-number) (b .module-number) in
     let p = eqb (a .position) (b .position) in
     let c = same-sides (a .conclusion) (b .conclusion) in
     let k = agree same-sides (a .conditions) (b .conditions) in

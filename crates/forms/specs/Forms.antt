@@ -95,7 +95,7 @@ equation-row-at w b = record {
 
 -- the row stands for the equation, and its nodes lie within the form's
 pub record EquationStands (text tape w : List ℕ) (f : Form) (r : EquationRow) (e : ResolvedEquation) : Type 0 where
-  pub home : r .home ≡ e .home
+  pub home : r .home ≡ e .module-number
   pub position : r .position ≡ e .position
   pub tag : name-of text (r .tag) ≡ e .tag
   pub conditions : r .conditions ≡ length (e .conditions)

@@ -1,6 +1,6 @@
 -- One law for each way through the code, in the code's terms.
 use mathlib.Core.Path.{_≡_, refl, sym, ap, _∙_}
-use mathlib.Core.Bool.{Bool, true, false, false≢true}
+use mathlib.Core.Bool.{Bool, true, false, _&&_, false≢true}
 use mathlib.Core.List.{List, [], _∷_}
 use Prim.Native.Nat.{ℕ, zero, suc, _+_, _-_, _*_, _/_, _%_, _<_, _≤_}
 use native.Mathlib.Numerals.{add-one}
@@ -49,25 +49,27 @@ request-start input e h = run-from in-line input 10 e h
 pub request-room : (input : List ℕ) (e : ℕ) → e ≡ request-end input → e < length input → 10 ≤ length input
 request-room input e h l = omega (arith, request-start input e h)
 
--- a test that decides nothing, and one that decides alone
-no : (b : Bool) → false ≡ pick b false false
-unfolding pick
-no true = refl
-no false = refl
+-- the three tests of a line: where one of the last two fails, and where both pass
+no-end : (s x : Bool) → false ≡ (s && false && x)
+no-end true x = refl
+no-end false x = refl
 
-alone : (b : Bool) → b ≡ pick b true false
-unfolding pick
+too-long : (s : Bool) → false ≡ (s && true && false)
+too-long true = refl
+too-long false = refl
+
+alone : (s : Bool) → s ≡ (s && true && true)
 alone true = refl
 alone false = refl
 
 module _ (input : List ℕ) (e : ℕ) (at-end : e ≡ request-end input) where
   pub request-unended : length input ≤ e → false ≡ has-request input
   unfolding has-request pick
-  request-unended h = rw (← at-end, le-ltb e (length input) h) (no (same (take 10 input) request))
+  request-unended h = rw (← at-end, le-ltb e (length input) h) (no-end (same (take 10 input) request) _)
 
   pub request-long : e < length input → 50 < e → false ≡ has-request input
   unfolding has-request pick
-  request-long h k = rw (← at-end, lt-ltb e (length input) h, lt-leb e 50 k) (no (same (take 10 input) request))
+  request-long h k = rw (← at-end, lt-ltb e (length input) h, lt-leb e 50 k) (too-long (same (take 10 input) request))
 
   pub request-told : (r : Bool) → e < length input → e ≤ 50 → r ≡ same (take 10 input) request → r ≡ has-request input
   unfolding has-request pick
@@ -78,20 +80,20 @@ record Ends (x y : Bool) : Type 0 where
   pub ended : x ≡ true
   pub short : y ≡ true
 
-both : (s x y : Bool) → pick s (pick x y false) false ≡ true → Ends x y
-unfolding pick
+both : (s x y : Bool) → (s && x && y) ≡ true → Ends x y
 both true true true h = record { ended = refl; short = refl }
 both true true false h = absurd (false≢true h)
 both true false y h = absurd (false≢true h)
 both false x y h = absurd (false≢true h)
 
--- of the three tests of a library's line, the two of where it ends
-first-two : (s x z w : Bool) → pick s (pick x (pick z w false) false) false ≡ true → Ends x z
+-- and so did they of a library's line
+line-both : (s x y exact : Bool) → pick (s && x && y) exact false ≡ true → Ends x y
 unfolding pick
-first-two true true true w q = record { ended = refl; short = refl }
-first-two true true false w q = absurd (false≢true q)
-first-two true false z w q = absurd (false≢true q)
-first-two false x z w q = absurd (false≢true q)
+line-both s x y exact q = both s x y (go (s && x && y) q)
+  where
+    go : (b : Bool) → pick b exact false ≡ true → b ≡ true
+    go true e = refl
+    go false e = absurd (false≢true e)
 
 module _ (input : List ℕ) (e : ℕ) (at-end : e ≡ request-end input) (r : Bool) (told : r ≡ has-request input) (asked : r ≡ true) where
   ends : Ends (ltb e (length input)) (leb e 50)
@@ -199,11 +201,11 @@ module _ (rest : List ℕ) (e : ℕ) (at-end : e ≡ library-request-end rest) w
 
   pub library-unended : length rest ≤ e → false ≡ has-library-line rest
   unfolding has-library-line pick
-  library-unended h = rw (← at-end, le-ltb e (length rest) h) (no (same (take 8 rest) library-request))
+  library-unended h = rw (← at-end, le-ltb e (length rest) h, ← no-end (same (take 8 rest) library-request) (leb e 17))
 
   pub library-long : e < length rest → 17 < e → false ≡ has-library-line rest
   unfolding has-library-line pick
-  library-long h k = rw (← at-end, lt-ltb e (length rest) h, lt-leb e 17 k) (no (same (take 8 rest) library-request))
+  library-long h k = rw (← at-end, lt-ltb e (length rest) h, lt-leb e 17 k, ← too-long (same (take 8 rest) library-request))
 
   module _ (h : e < length rest) (k : e ≤ 17) (b : Bool) (s : b ≡ same (take 8 rest) library-request) where
     pub library-other : b ≡ false → false ≡ has-library-line rest
@@ -223,7 +225,7 @@ module _ (rest : List ℕ) (e : ℕ) (at-end : e ≡ library-request-end rest) w
     module _ (y : b ≡ true) where
       line-ends : Ends (ltb e (length rest)) (leb e 17)
       unfolding has-library-line
-      line-ends = rw at-end (first-two (same (take 8 rest) library-request) _ _ _ (sym told ∙ y))
+      line-ends = rw at-end (line-both (same (take 8 rest) library-request) _ _ _ (sym told ∙ y))
 
       pub line-ends-within : e < length rest
       line-ends-within = ltb-true e (length rest) (line-ends .ended)

@@ -20,7 +20,6 @@ use Rattle.meaning.specs.Checks.{fine, sorts-clash, functions-clash, overloaded
 use Rattle.meaning.specs.Trials.{all-opened}
 use Rattle.meaning.specs.OrderLaws.{Every, Rearranged, same-equal, Pairwise, same-self}
 use Rattle.meaning.specs.Evaluate.{united}
-use Rattle.meaning.specs.Mirror.{then-fine, bind-fine, fine-same}
 use Rattle.promises.specs.ListingLaws.{both-true, every-so, item-equal, origin-self, slot-equal}
 use Rattle.promises.specs.SameListing.{SameNormal, kept-member}
 use Rattle.promises.specs.Told.{Stands, StandsIn}
@@ -30,6 +29,7 @@ use Rattle.promises.specs.TypedOwn.{OfFound, first-found}
 use Rattle.replacing.specs.Reordering.{Tagged, sorts-clash-symmetric, functions-clash-symmetric, overloaded-symmetric, item-self, equation-equal, equation-self}
 use Rattle.replacing.specs.VisibleAlike.{Once, NoneAtOdds, Clear, consistent-clear, clear-consistent, clear-one}
 use Rattle.import_order.specs.Sets.{Among, SameSet, Distinct, set-rearranged, least-among, every-of, every-among, set-arranged, among-fewer, union-of, union-distinct}
+use Rattle.meaning.specs.OutcomeLaws.{then-fine, bind-fine, fine-same}
 
 -- ---- what a form must be, to be united
 

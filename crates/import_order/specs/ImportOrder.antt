@@ -11,7 +11,7 @@ use lib.ListN.{length}
 use borrow.Author.Tests.{eqb-true, eq-eqb, le-leb}
 use Rattle.meaning.specs.Lists.{pick, each}
 use Rattle.meaning.specs.Names.{Name}
-use Rattle.meaning.specs.Numbers.{accepted, lent-short, memory-size}
+use Rattle.meaning.specs.Numbers.{accepted, lent-short, memory-size, asked-absent}
 use Rattle.meaning.specs.Syntax.{Module}
 use Rattle.meaning.specs.Texts.{Texts}
 use Rattle.meaning.specs.Checks.{lone}
@@ -62,8 +62,8 @@ normal-forms texts texts′ ms ms′ r asked =
 
 -- two refusals, with one count, at one module
 record Refusals (r r′ : Answer) : Type 0 where
-  number : 6 ≤ r .number
-  number′ : 6 ≤ r′ .number
+  number : asked-absent ≤ r .number
+  number′ : asked-absent ≤ r′ .number
   modules : r .modules ≡ r′ .modules
   evaluating : r .evaluating ≡ r′ .evaluating
   lines : r .lines ≡ []

@@ -15,7 +15,6 @@ use Rattle.meaning.specs.OrderLaws.{Rearranged, Every}
 use Rattle.meaning.specs.Checks.{Outcome, fine, stop, _>>=_, Size}
 use Rattle.meaning.specs.Evaluate.{Evaluated, named-by, evaluate, import-names, missing, too-late, names-right, declared-once, normal-of, clauses, expressions, united, imported, seen-sorts, joined-visible, own-checks, own-equations, joined-hidden, joined-own}
 use Rattle.meaning.specs.Reached.{Placed, reached, Ended, normalised, refused-at, total-of, module-names, normalise}
-use Rattle.meaning.specs.Mirror.{never, then-fine, bind-fine, fine-same}
 use Rattle.meaning.specs.Lists.{pick}
 use Rattle.meaning.specs.Own.{resolved, function-type, own-sort, own-function, own-section, own-slot, own-visible, own-variable, own-hidden-items, available-sorts}
 use Rattle.promises.specs.SameListing.{SameNormal}
@@ -31,6 +30,7 @@ use Rattle.replacing.specs.Alike.{Alike, Both}
 use Rattle.replacing.specs.ModulesAlike.{EasyClause, EasyImport, HasTags, empty-both, GoodPlaced, EnvAlike, expressions-alike, imported-alike, joined-own-alike, evaluates-so, tags-of, good-placed}
 use Rattle.import_order.specs.Sets.{every-of, member-same, Among, SameSet, set-turned, set-each, every-among}
 use Rattle.import_order.specs.AnyOrder.{united-anyhow, Good}
+use Rattle.meaning.specs.OutcomeLaws.{then-fine, bind-fine, fine-same, never}
 
 abbrev pub as-it-is : Name → Name
 as-it-is w = w
@@ -150,7 +150,7 @@ sides-same e = λ i. record { left = term-same (e .left) i; right = term-same (e
 equation-same : (e : ResolvedEquation) → re-equation as-it-is e ≡ e
 unfolding re-equation
 equation-same e = λ i. record {
-  home = e .home;
+  module-number = e .module-number;
   position = e .position;
   tag = e .tag;
   conclusion = sides-same (e .conclusion) i;

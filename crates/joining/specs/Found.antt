@@ -53,7 +53,7 @@ module _ (text : List ℕ) (t : ℕ) (w : List ℕ) (visible hidden : ℕ) where
 
 -- the nodes behind those of f, with the rest of row q, stand for y
 pub record Copy (text : List ℕ) (t : ℕ) (w : List ℕ) (f : Form) (q : EquationRow) (y : ResolvedEquation) : Type 0 where
-  pub home : q .home ≡ y .home
+  pub home : q .home ≡ y .module-number
   pub position : q .position ≡ y .position
   pub fits : f .nodes + f .«node_count» + q .count ≤ length w
   pub nodes : nodes-of text (part w 0 t) w f (take (q .count) (drop (f .nodes + f .«node_count») w)) ≡ flat-equation y
@@ -76,7 +76,7 @@ module _ (text : List ℕ) (t : ℕ) (w : List ℕ) (f : Form) (q : EquationRow)
       ∙ ap₂ (agree same-node) (copy .nodes) (s .nodes) in
       ap₂ (λ (h : Bool) (x : Bool). pick h x false) (ap₂ eqb (copy .home) (s .home))
       (ap₂ (λ (p : Bool) (x : Bool). pick p x false) (ap₂ eqb (copy .position) (s .position)) run)
-      ∙ both (eqb (y .home) (d .home)) (eqb (y .position) (d .position)) (agree same-node (flat-equation y) (flat-equation d))
+      ∙ both (eqb (y .module-number) (d .module-number)) (eqb (y .position) (d .position)) (agree same-node (flat-equation y) (flat-equation d))
       ∙ sym (one-flat y d)
 
   -- and sought among all

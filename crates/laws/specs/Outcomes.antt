@@ -4,7 +4,7 @@ use Prim.Native.Nat.{ℕ}
 use Rattle.meaning.specs.Names.{Name}
 use Rattle.meaning.specs.Normal.{Normal}
 use Rattle.meaning.specs.Checks.{Outcome, fine, stop, _>>=_, _>>_, Check, checked}
-use Rattle.meaning.specs.Mirror.{then-fine}
+use Rattle.meaning.specs.OutcomeLaws.{then-fine}
 use Rattle.meaning.specs.Reached.{Ended, normalised, refused-at, end-or}
 
 -- an outcome, if it is one, is such

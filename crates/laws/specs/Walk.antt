@@ -12,7 +12,7 @@ use Rattle.meaning.specs.Origins.{FunctionType, ResolvedEquation}
 use Rattle.meaning.specs.Normal.{Normal, empty, formals, unite, move}
 use Rattle.meaning.specs.Written.{in-order}
 use Rattle.meaning.specs.Checks.{fine, Size, room}
-use Rattle.meaning.specs.Mirror.{unless-fine}
+use Rattle.meaning.specs.OutcomeLaws.{unless-fine}
 use Rattle.meaning.specs.Clauses.{paired, otherwise, renaming, rename, new-sort, new-function, pairs-right, unpaired, without, bound-to, bind}
 use Rattle.meaning.specs.Evaluate.{Evaluated, normal-of, clause, clauses, expressions, united, imported, seen-sorts, joined-visible, own-checks, own-equations, joined-hidden, joined-own, evaluate}
 use Rattle.meaning.specs.Reached.{Placed, reached-among, reached, Ended, normalised, total-of, in-turn, module-names, normalise}
@@ -61,15 +61,15 @@ module _ (N : Name → Type 0) where
 
 module _ (p : Name) (rs : List Pair) (n actual : Normal) where
   abbrev pub bound-sort : Name → Name
-  bound-sort = new-sort (formals p (n .visible)) rs (n .visible) (actual .visible)
+  bound-sort = new-sort (formals p (n .visible)) rs
 
   abbrev pub bound-function : Name → FunctionType → Name
-  bound-function = new-function (formals p (n .visible)) rs (n .visible) (actual .visible)
+  bound-function = new-function (formals p (n .visible)) rs
 
   -- what its pairs have when it is accepted
   pub record RightPairs : Type 0 where
     pub right : pairs-right (formals p (n .visible)) rs (n .visible) (actual .visible) [] rs ≡ fine tt
-    pub all : unpaired (formals p (n .visible)) rs (n .visible) (actual .visible) ≡ none
+    pub all : unpaired (formals p (n .visible)) rs ≡ none
 
   binding-carries : (N : Name → Type 0) → NewNames N rs → Carries N bound-sort bound-function
   unfolding new-sort new-function

@@ -1,17 +1,19 @@
 -- Laws of the front of a listing, in the code's terms: l is what was read at a place, r what is told of it.
 use mathlib.Core.Path.{_≡_, refl, sym, ap, _∙_}
-use mathlib.Core.Bool.{Bool, true, false}
+use mathlib.Core.Bool.{Bool, true, false, _&&_, false≢true}
 use mathlib.Core.List.{List}
 use Prim.Native.Nat.{ℕ, zero, suc, _-_, _<_, _≤_}
 use native.Mathlib.Omega.{arith}
-use lib.Dec.{ltb}
+use lib.Dec.{leb, ltb}
 use lib.ListN.{length, take, drop}
 use borrow.Author.Tests.{lt-ltb, le-ltb, ltb-true}
 use Rattle.meaning.specs.Lists.{pick}
 use Rattle.meaning.specs.Laws.{by-cases}
+use Rattle.meaning.specs.Names.{slice, member}
 use Rattle.meaning.specs.Tokens.{run-end}
+use Rattle.meaning.specs.Listing.{listing-keys}
 use Rattle.meaning.specs.Answer.{in-line}
-use Rattle.meaning.specs.Reader.{Reading, line-at}
+use Rattle.meaning.specs.Reader.{Reading, in-key, line-at}
 use Rattle.listing_reader.specs.declared.Line.{Line}
 use Rattle.listing_reader.specs.declared.Line.the-variants.{Keyed, End, Bad}
 use Rattle.listing_reader.specs.declared.Places.{Places}
@@ -58,12 +60,16 @@ module _ (s : List ℕ) (at : ℕ) where
   within : at ≤ length s → Within (line-at s at)
   unfolding Within line-at after
   within p =
-      by-cases Within _ _ _ (λ h. p)
-      (λ h. by-cases Within _ _ _ (λ h. p)
-      (λ h. by-cases Within _ _ _
-      (λ h. by-cases Within _ _ _
-      (λ g. by-cases Within _ _ _ (λ m. omega (arith, ltb-true (run-end in-line s at) (length s) h)) (λ m. p)) (λ g. p))
-      (λ h. p)))
+      let k = run-end in-key s at in
+      let e = run-end in-line s at in
+      let ends = third (member (slice s at k) listing-keys) (ltb k e) (ltb e (length s)) (leb at (length s)) in
+      by-cases Within _ _ _ (λ h. p) (λ h. by-cases Within _ _ _ (λ g. omega (arith, ltb-true e (length s) (ends g))) (λ g. p))
+    where
+      third : (a b c d : Bool) → (a && b && c && d) ≡ true → c ≡ true
+      third true true true d e = refl
+      third true true false d e = absurd (false≢true e)
+      third true false c d e = absurd (false≢true e)
+      third false b c d e = absurd (false≢true e)
 
   module _ (l : Line) (h : LineRead s at l) where
     front-read : is-front l ≡ front-line (line-at s at)

@@ -4,12 +4,13 @@ use Prim.Native.Nat.{ℕ, _+_}
 use mathlib.Core.List.{List}
 use lib.Dec.{eqb, ltb}
 use lib.ListN.{length}
+use Rattle.meaning.specs.Listing.{listing-keys}
 use Rattle.meaning.specs.Lists.{pick}
 use Rattle.meaning.specs.Names.{slice, Name}
 use Rattle.meaning.specs.Numbers.{bad-line}
 use Rattle.meaning.specs.Tokens.{run-end, number-in}
 use Rattle.meaning.specs.Answer.{in-line}
-use Rattle.meaning.specs.Reader.{Reading, a-line, at-end, refused-line, listing-keys, in-key, line-at}
+use Rattle.meaning.specs.Reader.{Reading, a-line, at-end, refused-line, in-key, line-at}
 use Rattle.listing_reader.specs.declared.Line.{Line}
 use Rattle.listing_reader.specs.declared.Line.the-variants.{Keyed, End, Bad}
 use Rattle.listing_reader.specs.declared.Step.{Step}

@@ -1,6 +1,6 @@
 -- The answer of a call, what is lent, and what the program prints (document 01, "The numbers that come back" and "The listing").
 use Prim.Native.Nat.{ℕ, zero, suc, _+_, _-_, _*_}
-use mathlib.Core.Bool.{Bool, true, false}
+use mathlib.Core.Bool.{Bool, true, false, _&&_}
 use mathlib.Core.List.{List, [], _∷_, _++_, map}
 use lib.Dec.{eqb, leb, ltb}
 use lib.ListN.{length, take, drop, getD}
@@ -106,12 +106,14 @@ request-end input = run-end in-line input (length request)
 unfoldable pub has-request : List ℕ → Bool
 has-request input =
     let e = request-end input in
-    let ends = pick (ltb e (length input)) (leb e (length request + name-size)) false in
-    pick (same (take (length request) input) request) ends false
+    same (take (length request) input) request && ltb e (length input) && leb e (length request + name-size)
 
 -- the second line may be `library=N`, ended by LF, N decimal of at most nine digits without leading zeros
 abbrev pub library-request : List ℕ
 library-request = bytes "library="
+
+abbrev pub library-digits : ℕ
+library-digits = 9
 
 abbrev pub library-request-end : List ℕ → ℕ
 library-request-end rest = run-end in-line rest (length library-request)
@@ -130,9 +132,9 @@ library-length rest = said-by 0 (library-written rest)
 unfoldable pub has-library-line : List ℕ → Bool
 has-library-line rest =
     let e = library-request-end rest in
+    let short = same (take (length library-request) rest) library-request && ltb e (length rest) && leb e (length library-request + library-digits) in
     let exact = same (library-written rest) (decimal (library-length rest)) in
-    let ends = pick (ltb e (length rest)) (pick (leb e (length library-request + 9)) exact false) false in
-    pick (same (take (length library-request) rest) library-request) ends false
+    pick short exact false
 
 -- a library that is too long, whatever stands behind that line
 unfoldable pub library-too-long : List ℕ → Bool

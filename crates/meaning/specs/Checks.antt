@@ -49,6 +49,11 @@ unless k (some w) = stop k (lone w)
 unfoldable pub needs : ℕ → Culprit → Bool → Check
 needs k c right = pick right (fine tt) (stop k c)
 
+-- each is asked in turn, beside the names of those before it
+unfoldable pub each-beside : {A : Type 0} → (A → Name) → (List Name → A → Check) → List Name → List A → Check
+each-beside called ask met [] = fine tt
+each-beside called ask met (x ∷ xs) = ask met x >> each-beside called ask (called x ∷ met) xs
+
 -- ---- clashes are sought pair by pair, and the search stops at the first
 
 -- the first item that does not go with a later one
@@ -158,5 +163,5 @@ checked n = do
 
 -- opens every definition of this file
 unfoldable pub checks-opened : Unit {0}
-unfolding _>>=_ _>>_ unless needs at-odds least-at-odds other-origin sorts-clash functions-clash other-output in-one-parameter both-in-one overloaded consistent term-nodes sides-nodes equation-nodes size add-sizes fits room total-room checked
+unfolding _>>=_ _>>_ unless needs each-beside at-odds least-at-odds other-origin sorts-clash functions-clash other-output in-one-parameter both-in-one overloaded consistent term-nodes sides-nodes equation-nodes size add-sizes fits room total-room checked
 checks-opened = tt

@@ -9,6 +9,7 @@ use lib.ListN.{length, drop, length-append, length-drop}
 use Rattle.meaning.specs.Laws.{by-cases}
 use Rattle.meaning.specs.Lists.{each}
 use Rattle.meaning.specs.Names.{Name}
+use Rattle.meaning.specs.Numbers.{accepted}
 use Rattle.meaning.specs.Checks.{fits}
 use Rattle.meaning.specs.Reached.{Ended, normalised, refused-at, normalise}
 use Rattle.meaning.specs.Texts.{Texts, Reading, all-read, refused-in, read-texts}
@@ -33,7 +34,7 @@ module _ (memory output : List ℕ) (asked : Name) (t : Texts) where
 
 -- an answer with no line, unless its number is 0
 abbrev Bare : Answer → Type 0
-Bare r = (r .number ≡ 0 → ⊥) → r .lines ≡ []
+Bare r = (r .number ≡ accepted → ⊥) → r .lines ≡ []
 
 ended-bare : (asked : Name) (e : Ended) → Bare (of-ended asked e)
 unfolding of-ended refusal
@@ -66,7 +67,7 @@ answer-fits memory-lent output-lent asked t =
 
 module _ (memory output : List ℕ) (asked : Name) (t : Texts) where
   -- on any answer but 0 the output is unchanged
-  pub refused-unchanged : (call memory output asked t .answer .number ≡ 0 → ⊥) → call memory output asked t .output ≡ output
+  pub refused-unchanged : (call memory output asked t .answer .number ≡ accepted → ⊥) → call memory output asked t .output ≡ output
   unfolding call output-after lines-text each
   refused-unchanged h = rw (answer-bare (length memory) (length output) asked t h)
 

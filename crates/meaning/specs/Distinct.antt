@@ -8,6 +8,7 @@ use lib.Dec.{eqb, leb}
 use lib.ListN.{length}
 use Rattle.meaning.specs.Lists.{pick}
 use Rattle.meaning.specs.Names.{Name, same, member}
+use Rattle.meaning.specs.Numbers.{module-limit}
 use Rattle.meaning.specs.Syntax.{Module}
 use Rattle.meaning.specs.Grammar.{State, Result, done, refused, after, _>>=_, _>>_, return, refuse, unexpected, if-next, too-many, name, fresh-name, a-module, modules, read}
 use Rattle.meaning.specs.Reached.{module-names}
@@ -132,6 +133,6 @@ read-fresh t ms e = go (read-parts t ms e)
     go p =
         subst (Fresh []) (sym (p .sequence))
         (fresh-both [] (p .library-modules) (p .customer-modules)
-        (by-library (Fresh []) tt p (λ s q. text-fresh (t .library) 64 [] (p .library-modules) s q))
+        (by-library (Fresh []) tt p (λ s q. text-fresh (t .library) module-limit [] (p .library-modules) s q))
         (subst (λ (ws : List Name). Fresh ws (p .customer-modules)) (sym (nothing-more (module-names (p .library-modules))))
         (text-fresh (t .customer) _ _ (p .customer-modules) (p .state) (p .customer-read))))

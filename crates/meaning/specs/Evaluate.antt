@@ -10,7 +10,7 @@ use Rattle.meaning.specs.Syntax.{Function, Signature, Parameter, Clause,
 use Rattle.meaning.specs.Origins.{ResolvedEquation, one-item}
 use Rattle.meaning.specs.Normal.{Visible, Hidden, Normal, empty, sort-names, unite-hidden, unite}
 use Rattle.meaning.specs.Written.{in-order}
-use Rattle.meaning.specs.Checks.{lone, Outcome, fine, stop, _>>=_, _>>_, Check, unless, consistent, Size, size, add-sizes, room, total-room, checked}
+use Rattle.meaning.specs.Checks.{lone, Outcome, fine, stop, _>>=_, _>>_, Check, unless, needs, each-beside, consistent, Size, size, add-sizes, room, total-room, checked}
 use Rattle.meaning.specs.Clauses.{rename, bind}
 use Rattle.meaning.specs.Own.{own-visible, own-hidden-items, available-sorts, wrong-variable, constants}
 use Rattle.meaning.specs.Typing.{typed-equations}
@@ -51,21 +51,16 @@ names-right declared earlier (w ∷ ws) =
 unfoldable pub same-function : Function → Function → Bool
 same-function f g = same (f .name) (g .name) && agree same (f .inputs) (g .inputs) && same (f .output) (g .output)
 
-unfoldable pub name-of-function : Option Function → Option Name
-name-of-function none = none
-name-of-function (some f) = some (f .name)
-
 unfoldable pub once-in : Signature → Check
 once-in s = do
-  unless declared-twice (repeated same [] (s .sorts))
-  unless declared-twice (name-of-function (repeated same-function [] (s .functions)))
+  unless declared-twice (repeated (λ (w : Name). w) same [] (s .sorts))
+  unless declared-twice (repeated (λ (f : Function). f .name) same-function [] (s .functions))
+
+unfoldable pub once-in-parameter : List Name → Parameter → Check
+once-in-parameter met p = needs declared-twice (lone (p .name)) (not (member (p .name) met)) >> once-in (p .signature)
 
 unfoldable pub once-in-parameters : List Name → List Parameter → Check
-once-in-parameters seen [] = fine tt
-once-in-parameters seen (p ∷ ps) =
-    let more = once-in-parameters (p .name ∷ seen) ps in
-    let here = once-in (p .signature) >> more in
-    pick (member (p .name) seen) (stop declared-twice (lone (p .name))) here
+once-in-parameters met ps = each-beside (λ (p : Parameter). p .name) once-in-parameter met ps
 
 unfoldable pub declared-once : Module → Check
 declared-once m = do
@@ -75,7 +70,7 @@ declared-once m = do
 
 -- ---- step 3. Each import expression, its clauses in order
 
--- after step 1 every named module is among those evaluated
+-- after step 1 every named module is among those evaluated, so that the first clause is never reached
 unfoldable pub normal-of : List Evaluated → Name → Normal
 normal-of [] w = empty
 normal-of (e ∷ es) w = let r = normal-of es w in pick (same w (e .name)) (e .normal) r
@@ -116,44 +111,43 @@ joined-visible m v =
 
 -- 15, 10, 11, 13, 12, of a visible part with M's own joined
 unfoldable pub own-checks : Module → List Name → Visible → Check
-own-checks m seen v =
-    let own = own-hidden-items m seen in
+own-checks m seen-sorts v =
+    let own = own-hidden-items m seen-sorts in
     do
       consistent v own
-      available-sorts m seen
+      available-sorts m seen-sorts
       unless bad-variable (wrong-variable (constants (v .items ++ own)) [] (variables-of m))
 
--- 17: the equations of M, which is module number `home`
+-- 17: the equations of M, which is the module of this number
 unfoldable pub own-equations : ℕ → Module → List Name → Visible → Outcome (List ResolvedEquation)
-own-equations home m seen v = typed-equations (v .items ++ own-hidden-items m seen) home 0 (m .equations)
+own-equations number m seen-sorts v = typed-equations (v .items ++ own-hidden-items m seen-sorts) number 0 (m .equations)
 
 unfoldable pub joined-hidden : Module → List Name → Hidden → List ResolvedEquation → Hidden
-joined-hidden m seen h equations = unite-hidden h (record { items = own-hidden-items m seen; equations = equations })
+joined-hidden m seen-sorts h equations = unite-hidden h (record { items = own-hidden-items m seen-sorts; equations = equations })
 
 -- M's own declarations joined to what it imports. A module's normal form stands in the order of its listing
 unfoldable pub joined-own : ℕ → Size → Module → Normal → Outcome Normal
-joined-own home total m n =
-    let seen = seen-sorts m (n .visible) in
+joined-own number total m n =
     let v = joined-visible m (n .visible) in
     do
-      own-checks m seen v
-      equations ← own-equations home m seen v
-      let all : Normal = record { visible = v; hidden = joined-hidden m seen (n .hidden) equations }
+      own-checks m (seen-sorts m (n .visible)) v
+      equations ← own-equations number m (seen-sorts m (n .visible)) v
+      let all : Normal = record { visible = v; hidden = joined-hidden m (seen-sorts m (n .visible)) (n .hidden) equations }
       room all
       total-room (add-sizes total (size all))
       fine (in-order all)
 
--- ---- the four steps for M, which is module number `home` of those called `declared`, with `earlier` before it.
+-- ---- the four steps for M, which is the module of this number among those called `declared`, with `earlier` before it.
 -- `env` are the modules evaluated in this call, `total` is the size of their normal forms together
 
 unfoldable pub evaluate : List Name → List Name → ℕ → Size → List Evaluated → Module → Outcome Normal
-evaluate declared earlier home total env m = do
+evaluate declared earlier number total env m = do
   names-right declared earlier (named-by m)
   declared-once m
   n ← imported env (m .imports)
-  joined-own home total m n
+  joined-own number total m n
 
 -- opens every definition of this file
 unfoldable pub evaluate-opened : Unit {0}
-unfolding clause-names import-names named-by missing too-late names-right same-function name-of-function once-in once-in-parameters declared-once normal-of clause clauses expressions united imported seen-sorts joined-visible own-checks own-equations joined-hidden joined-own evaluate
+unfolding clause-names import-names named-by missing too-late names-right same-function once-in once-in-parameter once-in-parameters declared-once normal-of clause clauses expressions united imported seen-sorts joined-visible own-checks own-equations joined-hidden joined-own evaluate
 evaluate-opened = tt

@@ -73,7 +73,7 @@ too-many begins = if-next begins (refuse over-size) unexpected
 unfoldable pub empty-signature : Signature
 empty-signature = record { sorts = []; functions = [] }
 
--- Where document 01 bounds no list, `text-size` does as well: an item takes a byte at the least.
+-- Where document 01 bounds no list, `text-size` does as well: an item takes a byte at the least, so that bound is never met.
 module _ (text : List ℕ) where
   -- ---- single tokens
 
@@ -319,7 +319,7 @@ module _ (text : List ℕ) where
     return (record { operator = o; right = b })
 
   -- <term> ::= [ <term> <operator> ] <primary> | <operator> <primary>: a primary, or a prefix operator and one; then, for as long as there
-  -- are operators, each joins a primary to what stands on its left. Their number is bounded by the nodes
+  -- are operators, each joins a primary to what stands on its left. Their number is bounded by the nodes, so that bound is never met first
   unfoldable pub term-by : Parser Term → Parser Term
   term-by primary = do
     t ← if-next (is operator) (prefixed primary) primary
@@ -333,7 +333,8 @@ module _ (text : List ℕ) where
     expect (byte ")")
     return a
 
-  -- terms hold term lists and term lists hold terms: a term in which d more brackets may be open
+  -- terms hold term lists and term lists hold terms: a term in which d more brackets may be open. A term is `depth-limit` deep at the most, and a
+  -- name outside brackets is 1 already, so `bracket-limit` brackets may be open at once
   unfoldable pub term : ℕ → Parser Term
   term zero = term-by (primary-by (refuse over-size) (refuse over-size))
   term (suc d) =
@@ -362,7 +363,8 @@ module _ (text : List ℕ) where
     w ← optional when-key [] sides-list
     return (record { tag = tag; before = []; conclusion = e; after = w })
 
-  -- `conclusion`, `conclusion when conditions`, or `conditions => conclusion`: several sides, or an implication after one, are conditions
+  -- `conclusion`, `conclusion when conditions`, or `conditions => conclusion`: several sides, or an implication after one, are conditions. There
+  -- is one at the least: the first clause is never reached
   unfoldable pub equation-after : Name → List Sides → Parser Equation
   equation-after tag [] = implied tag []
   equation-after tag (e ∷ []) = if-next (is implies) (implied tag (e ∷ [])) (conditional tag e)

@@ -3,12 +3,19 @@ use Prim.Native.Nat.{ℕ, _+_}
 use Prim.Native.String.{String}
 use mathlib.Core.Bool.{Bool, true, false}
 use mathlib.Core.List.{List, [], _∷_, _++_, map}
-use lib.ListN.{length}
-use Rattle.meaning.specs.Lists.{pick, keep, each}
+use lib.ListN.{length, take}
+use Rattle.meaning.specs.Lists.{pick, keep, before, each}
 use Rattle.meaning.specs.Names.{bytes, Name, same, member, words}
 use Rattle.meaning.specs.Origins.{Section, export-section, hidden-section, parameter-section, Origin, ResolvedEquation, Shape, sort-shape, function-shape, variable-shape, Item}
 use Rattle.meaning.specs.Normal.{Visible, Hidden, Normal, slot-names, formals}
 use Rattle.meaning.specs.Written.{origin-text, numbered, shape-text, equation-text}
+
+-- ---- the keys in the order of the listing, and `origin`, which follows each sort, function and variable
+
+unfoldable pub listing-keys : List Name
+listing-keys =
+    words
+    (bytes "module sort function parameter parameter-sort parameter-function hidden-sort hidden-function variable equation end origin")
 
 -- ---- lines `key=value`, each ended by LF
 
@@ -29,7 +36,7 @@ lines-text ls = each line-text ls
 unfoldable pub origin-line : Origin → Line
 origin-line o = line "origin" (origin-text o)
 
--- ---- items: a key for each kind, the name or number, and what follows it
+-- ---- items: a key for each kind, the name or number, and what follows it. No variable is visible, exported or formal
 
 unfoldable pub kind-key : String → String → String → Shape → List ℕ
 kind-key s f v sort-shape = bytes s
@@ -82,7 +89,7 @@ listing-lines m n = line "module" m ∷ (visible-lines (n .visible) ++ (hidden-l
 -- ---- the visible lines: those whose key stands before `hidden-sort` in this order, with the origins that follow them
 
 unfoldable pub visible-keys : List Name
-visible-keys = words (bytes "module sort function parameter parameter-sort parameter-function")
+visible-keys = take (before (same (bytes "hidden-sort")) listing-keys) listing-keys
 
 -- `kept` says whether the line before is one
 unfoldable pub shown : Bool → List Line → List Line
@@ -95,5 +102,5 @@ shown kept (l ∷ ls) =
 
 -- opens every definition of this file
 unfoldable pub listing-opened : Unit {0}
-unfolding line-text lines-text origin-line kind-key exported-lines formal-lines is-exported parameter-lines visible-lines hidden-item-lines equation-line hidden-lines listing-lines visible-keys shown
+unfolding listing-keys line-text lines-text origin-line kind-key exported-lines formal-lines is-exported parameter-lines visible-lines hidden-item-lines equation-line hidden-lines listing-lines visible-keys shown
 listing-opened = tt

@@ -45,17 +45,17 @@ hidden-ordered sorts = record {
 -- ---- equations
 
 pub record Place : Type 0 where
-  pub home : ℕ
+  pub module-number : ℕ
   pub position : ℕ
   pub text : List ℕ
 
 unfoldable pub place-order : Place → Place → Bool
 place-order a b =
     let by-position = pick (eqb (a .position) (b .position)) (bytes-not-after (a .text) (b .text)) (leb (a .position) (b .position)) in
-    pick (eqb (a .home) (b .home)) by-position (leb (a .home) (b .home))
+    pick (eqb (a .module-number) (b .module-number)) by-position (leb (a .module-number) (b .module-number))
 
-pub by-home : Levelled (λ (a b : Place). eqb (a .home) (b .home)) (λ (a b : Place). leb (a .home) (b .home))
-by-home = levelled-of numbers-levelled (λ (a : Place). a .home)
+pub by-module : Levelled (λ (a b : Place). eqb (a .module-number) (b .module-number)) (λ (a b : Place). leb (a .module-number) (b .module-number))
+by-module = levelled-of numbers-levelled (λ (a : Place). a .module-number)
 
 pub by-position : Levelled (λ (a b : Place). eqb (a .position) (b .position)) (λ (a b : Place). leb (a .position) (b .position))
 by-position = levelled-of numbers-levelled (λ (a : Place). a .position)
@@ -63,9 +63,9 @@ by-position = levelled-of numbers-levelled (λ (a : Place). a .position)
 pub place-ordered : IsOrder place-order
 unfolding place-order
 place-ordered = record {
-  total = λ a b e. then-total by-home a b _ _ (λ f. then-total by-position a b _ _ (by-text .total a b) f) e;
+  total = λ a b e. then-total by-module a b _ _ (λ f. then-total by-position a b _ _ (by-text .total a b) f) e;
   transitive = λ a b c e f.
-      then-transitive by-home a b c _ _ _ (λ g h. then-transitive by-position a b c _ _ _ (by-text .transitive a b c) g h) e f;
+      then-transitive by-module a b c _ _ _ (λ g h. then-transitive by-position a b c _ _ _ (by-text .transitive a b c) g h) e f;
 }
   where
     by-text : IsOrder (λ (a b : Place). bytes-not-after (a .text) (b .text))

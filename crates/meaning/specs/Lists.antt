@@ -74,10 +74,14 @@ unfoldable pub union : {A : Type 0} → (A → A → Bool) → List A → List A
 union e xs [] = xs
 union e xs (y ∷ ys) = let here = union e xs ys in let new = union e (xs ++ (y ∷ [])) ys in pick (any (e y) xs) here new
 
+-- the first that is bad or met before, as it is told: each is asked beside what is kept of those before it
+unfoldable pub first-bad : {A B C : Type 0} → (A → C) → (A → B) → (List B → A → Bool) → List B → List A → Option C
+first-bad told kept bad met [] = none
+first-bad told kept bad met (x ∷ xs) = let r = first-bad told kept bad (kept x ∷ met) xs in pick (bad met x) (some (told x)) r
+
 -- the first that agrees with an earlier one
-unfoldable pub repeated : {A : Type 0} → (A → A → Bool) → List A → List A → Option A
-repeated e seen [] = none
-repeated e seen (x ∷ xs) = let r = repeated e (x ∷ seen) xs in pick (any (e x) seen) (some x) r
+unfoldable pub repeated : {A C : Type 0} → (A → C) → (A → A → Bool) → List A → List A → Option C
+repeated told e met xs = first-bad told (λ x. x) (λ earlier x. any (e x) earlier) met xs
 
 -- ---- order
 
@@ -96,5 +100,5 @@ sorted le xs = sorted-onto le [] xs
 
 -- opens every definition of this file
 unfoldable pub lists-opened : Unit {0}
-unfolding pick keep any first before or-else first-some none-in each sum agree all-among union repeated place-in sorted-onto
+unfolding pick keep any first before or-else first-some none-in each sum agree all-among union first-bad repeated place-in sorted-onto
 lists-opened = tt

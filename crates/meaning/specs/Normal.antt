@@ -69,7 +69,8 @@ formals p v = keep (λ (i : Item). in-parameter p (i .standing)) (v .items)
 unfoldable pub same-slot : Slot → Slot → Bool
 same-slot p q = same (p .name) (q .name) && same (p .home) (q .home)
 
--- the sorts of a type, which have one name, have one origin where both show them; one that only one of the two shows agrees by its name
+-- the sorts of a type, which have one name, have one origin where both show them; one that only one of the two shows agrees by its name.
+-- What stands in a parameter is a sort or a function, and its type has no hidden sort
 unfoldable pub origins-agree : Option Origin → Option Origin → Bool
 origins-agree none p = true
 origins-agree (some o) none = true
@@ -127,7 +128,7 @@ module _ (σ : Name → Name) (φ : Name → FunctionType → Name) where
   move-shape (function-shape t) = function-shape (move-type t)
   move-shape (variable-shape s) = variable-shape (move-sort s)
 
-  -- a variable is never visible, and keeps its name
+  -- no variable is visible: the last clause is never reached
   unfoldable pub move-name : Name → Shape → Name
   move-name w sort-shape = σ w
   move-name w (function-shape t) = φ w t
@@ -162,7 +163,7 @@ module _ (σ : Name → Name) (φ : Name → FunctionType → Name) where
 
   unfoldable pub move-equation : ResolvedEquation → ResolvedEquation
   move-equation e = record {
-    home = e .home;
+    module-number = e .module-number;
     position = e .position;
     tag = e .tag;
     conclusion = move-sides (e .conclusion);

@@ -1,5 +1,5 @@
 -- Every size and every answer's number of document 01, named once.
-use Prim.Native.Nat.{ℕ}
+use Prim.Native.Nat.{ℕ, _-_}
 
 -- ---- sizes of a text, all inclusive ("The text")
 
@@ -27,9 +27,12 @@ argument-limit = 8
 abbrev pub condition-limit : ℕ
 condition-limit = 8
 
--- a term is at most 16 deep, and a name outside brackets is 1 already
+-- a name outside brackets is 1 deep, each open bracket adds one
+abbrev pub depth-limit : ℕ
+depth-limit = 16
+
 abbrev pub bracket-limit : ℕ
-bracket-limit = 15
+bracket-limit = depth-limit - 1
 
 abbrev pub node-limit : ℕ
 node-limit = 64
@@ -142,7 +145,7 @@ lent-short = 19
 abbrev pub bad-line : ℕ
 bad-line = 21
 
--- 22, 23: a binding's pair whose formal name the parameter lacks; one whose formal name was paired before
+-- 22, 23: a binding's pair whose formal name the parameter lacks; one whose formal name is paired twice
 abbrev pub formal-absent : ℕ
 formal-absent = 22
 

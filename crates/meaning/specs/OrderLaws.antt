@@ -6,7 +6,7 @@ use Prim.Native.Nat.{ℕ, suc}
 use native.Mathlib.Omega.{arith}
 use mathlib.Core.Bool.{Bool, true, false, _&&_, false≢true, true≢false}
 use mathlib.Core.Option.{none, some}
-use mathlib.Core.List.{List, [], _∷_, _++_, map, append-assoc, append-nil, List·Memᴰ, List·Memᴰ·head, List·Memᴰ·tail, List·Memᴰ·cases-cons, List·Permᴰ, List·Permᴰ·nil, List·Permᴰ·cons, List·Permᴰ·swap, List·Permᴰ·trans, Permᴰ·refl, Permᴰ·symm, Permᴰ·middle, Permᴰ·append-right, Permᴰ·append-nil}
+use mathlib.Core.List.{List, [], _∷_, _++_, map, List·Memᴰ, List·Memᴰ·head, List·Memᴰ·tail, List·Memᴰ·cases-cons, List·Permᴰ, List·Permᴰ·nil, List·Permᴰ·cons, List·Permᴰ·swap, List·Permᴰ·trans, Permᴰ·refl, Permᴰ·symm, Permᴰ·middle, Permᴰ·append-right, Permᴰ·append-nil}
 use lib.Dec.{eqb, leb}
 use lib.ListN.{length}
 use borrow.Author.Tests.{leb-true, leb-false, eqb-true, le-leb, eq-eqb, ne-eqb}
@@ -330,22 +330,6 @@ module _ {A : Type 0} {le : A → A → Bool} (order : IsOrder le) where
   -- sorting gives an ordered list
   pub sorted-ordered : (xs : List A) → Ordered le (sorted le xs)
   sorted-ordered xs = sorted-onto-ordered [] xs tt
-
-module _ {A : Type 0} (le : A → A → Bool) where
-  placed-last : (a : A) (xs ys : List A) → Ordered le (xs ++ (a ∷ ys)) → place-in le a xs ≡ xs ++ (a ∷ [])
-  unfolding place-in pick
-  placed-last a [] ys h = refl
-  placed-last a (x ∷ xs) ys h = rw (every-middle (λ y. le x y ≡ true) xs ys a (h .0)) (ap (x ∷_) (placed-last a xs ys (h .1)))
-
-  sorted-onto-as-it-is : (acc xs : List A) → Ordered le (acc ++ xs) → sorted-onto le acc xs ≡ acc ++ xs
-  unfolding sorted-onto
-  sorted-onto-as-it-is acc [] h = sym (append-nil acc)
-  sorted-onto-as-it-is acc (x ∷ xs) h =
-      rw (placed-last x acc xs h) (sorted-onto-as-it-is (acc ++ (x ∷ [])) xs (rw append-assoc h) ∙ append-assoc acc (x ∷ []) xs)
-
-  -- an ordered list is left as it is
-  pub sorted-as-it-is : (xs : List A) → Ordered le xs → sorted le xs ≡ xs
-  sorted-as-it-is xs h = sorted-onto-as-it-is [] xs h
 
 -- ---- one ordered list for the items, whatever order they come in
 

@@ -20,7 +20,7 @@ pub data Declared : Type 0 where
   declared-variable : (name sort : Name) → Declared
 
 pub record Origin : Type 0 where
-  pub home : Name
+  pub home : Name  -- the module
   pub section : Section
   pub declared : Declared
 
@@ -51,7 +51,10 @@ same-origin a b = same (a .home) (b .home) && same-section (a .section) (b .sect
 
 -- ---- sorts and types, resolved
 
--- a visible sort is known by its name, and so is one that is not available; a hidden sort by its origin
+-- a visible sort is known by its name, and so is one that is not available; a hidden sort by its origin.
+-- So types compare visible sorts by name and origin, unavailable ones by name: two visible sorts of one name and different origins are a clash,
+-- and what passes 10 has one origin for each (replacing/VisibleAlike: `clear-one`). Where types of two normal forms are compared before 10, of a
+-- parameter met twice and in a binding, the origins are compared beside the names: Normal: `sort-agrees`; Clauses: `sort-right`
 pub data Sort : Type 0 where
   visible-sort : Name → Sort
   hidden-sort : Origin → Sort
@@ -112,9 +115,9 @@ pub record ResolvedSides : Type 0 where
 unfoldable pub same-sides : ResolvedSides → ResolvedSides → Bool
 same-sides a b = same-term (a .left) (b .left) && same-term (a .right) (b .right)
 
--- an equation with its module's place among the modules, and its own position there
+-- an equation with its module's number among the modules, and its own position there
 pub record ResolvedEquation : Type 0 where
-  pub home : ℕ
+  pub module-number : ℕ
   pub position : ℕ
   pub tag : Name
   pub conclusion : ResolvedSides
@@ -174,7 +177,7 @@ one-item a b =
 -- equations: equal module, position there and resolved content
 unfoldable pub one-equation : ResolvedEquation → ResolvedEquation → Bool
 one-equation a b =
-    eqb (a .home) (b .home) && eqb (a .position) (b .position)
+    eqb (a .module-number) (b .module-number) && eqb (a .position) (b .position)
     && same-sides (a .conclusion) (b .conclusion) && agree same-sides (a .conditions) (b .conditions)
 
 -- opens every definition of this file

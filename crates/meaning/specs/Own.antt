@@ -3,7 +3,7 @@ use Prim.Native.Nat.{ℕ}
 use mathlib.Core.Bool.{Bool, true, false, not, _&&_, _||_}
 use mathlib.Core.Option.{Option, none, some}
 use mathlib.Core.List.{List, [], _∷_, _++_, map}
-use Rattle.meaning.specs.Lists.{pick, keep, any, first-some, none-in, each}
+use Rattle.meaning.specs.Lists.{pick, keep, any, first-some, none-in, each, first-bad}
 use Rattle.meaning.specs.Names.{Name, member}
 use Rattle.meaning.specs.Numbers.{bad-sort}
 use Rattle.meaning.specs.Syntax.{Function, Signature, Parameter, Variable, Module, variables-of}
@@ -11,16 +11,16 @@ use Rattle.meaning.specs.Origins.{Section, export-section, hidden-sectio
 use Rattle.meaning.specs.Normal.{Slot, Visible, names-in}
 use Rattle.meaning.specs.Checks.{_>>=_, _>>_, Check, unless}
 
--- ---- M's own items, where `sorts-seen` are the names of the visible sorts, M's own included
+-- ---- M's own items, where `seen-sorts` are the names of the visible sorts, M's own included
 
-module _ (m : Module) (sorts-seen : List Name) where
+module _ (m : Module) (seen-sorts : List Name) where
   abbrev pub own-origin : Section → Declared → Origin
   own-origin s d = record { home = m .name; section = s; declared = d }
 
   -- a visible sort, or M's own hidden one; M's text cannot name an imported hidden item, so any other is not available
   unfoldable pub resolved : Name → Sort
   resolved s =
-      pick (member s sorts-seen) (visible-sort s)
+      pick (member s seen-sorts) (visible-sort s)
       (pick (member s (m .hidden .sorts)) (hidden-sort (own-origin hidden-section (declared-sort s))) (visible-sort s))
 
   unfoldable pub function-type : Function → FunctionType
@@ -77,21 +77,20 @@ parameter-functions ps = each (λ (p : Parameter). p .signature .functions) ps
 
 -- first in text order; in exports and parameters: not visible
 unfoldable pub available-sorts : Module → List Name → Check
-available-sorts m sorts-seen =
-    let inside = sorts-seen ++ m .hidden .sorts in
+available-sorts m seen-sorts =
+    let inside = seen-sorts ++ m .hidden .sorts in
     do
-      unless bad-sort (first-some (lacking sorts-seen) (parameter-functions (m .parameters)))
-      unless bad-sort (first-some (lacking sorts-seen) (m .exports .functions))
+      unless bad-sort (first-some (lacking seen-sorts) (parameter-functions (m .parameters)))
+      unless bad-sort (first-some (lacking seen-sorts) (m .exports .functions))
       unless bad-sort (first-some (lacking inside) (m .hidden .functions))
       unless bad-sort (first-some (lacking-variable inside) (variables-of m))
 
 -- ---- 12: a variable declared twice, or named like a constant in reach of M's text
 
 unfoldable pub wrong-variable : List Name → List Name → List Variable → Option Name
-wrong-variable constants seen [] = none
-wrong-variable constants seen (v ∷ vs) =
-    let more = wrong-variable constants (v .name ∷ seen) vs in
-    pick (member (v .name) seen || member (v .name) constants) (some (v .name)) more
+wrong-variable constants met vs =
+    first-bad (λ (v : Variable). v .name) (λ (v : Variable). v .name)
+    (λ (met : List Name) (v : Variable). member (v .name) met || member (v .name) constants) met vs
 
 unfoldable pub is-constant : Shape → Bool
 is-constant sort-shape = false

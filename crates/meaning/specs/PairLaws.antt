@@ -7,9 +7,9 @@ use Rattle.meaning.specs.Names.{Name, member}
 use Rattle.meaning.specs.Syntax.{Pair}
 use Rattle.meaning.specs.Origins.{Item}
 use Rattle.meaning.specs.Normal.{Visible, is-called}
-use Rattle.meaning.specs.Checks.{_>>_, fine, needs}
+use Rattle.meaning.specs.Checks.{_>>_, fine, needs, each-beside}
 use Rattle.meaning.specs.Clauses.{kind-right, type-right, all-right, pair-right, pairs-right}
-use Rattle.meaning.specs.Mirror.{then-fine, needs-fine}
+use Rattle.meaning.specs.OutcomeLaws.{then-fine, needs-fine}
 use Rattle.meaning.specs.OrderLaws.{Every}
 
 module _ (formal : List Item) (rs : List Pair) (whole actual : Visible) where
@@ -17,8 +17,8 @@ module _ (formal : List Item) (rs : List Pair) (whole actual : Visible) where
     pub formal-there : any (is-called (r .old)) formal ≡ true
     pub not-before : not (member (r .old) seen) ≡ true
     pub actual-there : any (is-called (r .new)) (actual .items) ≡ true
-    pub kinds : all-right formal rs whole actual (kind-right formal rs whole actual) r ≡ true
-    pub types : all-right formal rs whole actual (type-right formal rs whole actual) r ≡ true
+    pub kinds : all-right formal (kind-right actual) r ≡ true
+    pub types : all-right formal (type-right formal rs whole actual) r ≡ true
 
   pub pair-fine : (seen : List Name) (r : Pair) → pair-right formal rs whole actual seen r ≡ fine tt → RightPair seen r
   unfolding pair-right
@@ -41,7 +41,7 @@ module _ (formal : List Item) (rs : List Pair) (whole actual : Visible) where
 
   pub pairs-fine : (seen : List Name) (xs : List Pair) → pairs-right formal rs whole actual seen xs ≡ fine tt
       → Every (λ x. (before : List Name) × RightPair before x) xs
-  unfolding pairs-right
+  unfolding pairs-right each-beside
   pairs-fine seen [] e = tt
   pairs-fine seen (x ∷ xs) e =
       let both = then-fine _ _ tt e in ((seen, pair-fine seen x (both .0)), pairs-fine (x .old ∷ seen) xs (both .1))

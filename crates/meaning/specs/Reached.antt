@@ -73,6 +73,7 @@ module-names ms = map (λ (m : Module). m .name) ms
 unfoldable pub short-or-blank : Name → Name
 short-or-blank w = pick (leb (length w) name-size) w []
 
+-- the asked module is reached, so that a normal form stands in the place of `empty` at the end
 unfoldable pub normalise : Name → List Module → Ended
 normalise asked ms =
     let r = in-turn (module-names ms) [] empty (reached asked ms) in

@@ -3,17 +3,27 @@ use mathlib.Core.Path.{_≡_, refl}
 use Prim.Native.Nat.{ℕ}
 use Prim.Native.String.{String}
 use mathlib.Core.Bool.{Bool, true, false}
-use mathlib.Core.List.{[], _++_}
+use mathlib.Core.List.{[], _∷_, _++_, map}
 use lib.Dec.{ltb}
 use lib.ListN.{length}
 use Rattle.meaning.specs.Lists.{pick}
-use Rattle.meaning.specs.Names.{bytes, Name, bytes-not-after, not-after}
+use Rattle.meaning.specs.Names.{bytes, Name, bytes-not-after, not-after, words}
 use Rattle.meaning.specs.Numbers.{memory-size, no-token-there, not-allowed, clashing, bad-renaming, bad-parameter, lent-short, bad-line, formal-absent, formal-twice, actual-absent, other-kind, other-type, formal-unpaired}
+use Rattle.meaning.specs.Tokens.{begin-key, bound-key, by-key, end-key, equations-key, exports-key, functions-key, imports-key, module-key, parameters-key, renamed-key, sorts-key, to-key, variables-key, when-key, keywords, word-kind}
 use Rattle.meaning.specs.Checks.{lone}
 use Rattle.meaning.specs.Texts.{Texts, two-texts}
 use Rattle.meaning.specs.Answer.{Answer, listing, refusal, answer, asfnorm}
 use Rattle.meaning.specs.Reader.{a-line, at-end, refused-line, line-at}
 use Rattle.meaning.specs.Trials.{all-opened}
+
+-- ---- the keywords' kinds are numbered in the order of their table
+
+keyword-kinds :
+    map word-kind (words keywords)
+    ≡ begin-key ∷ bound-key ∷ by-key ∷ end-key ∷ equations-key ∷ exports-key ∷ functions-key ∷ imports-key ∷ module-key ∷ parameters-key
+    ∷ renamed-key ∷ sorts-key ∷ to-key ∷ variables-key ∷ when-key ∷ []
+unfolding all-opened
+keyword-kinds = refl
 
 -- ---- the listing reader
 

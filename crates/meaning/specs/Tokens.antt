@@ -83,7 +83,7 @@ comment-end text i =
     let e = pick (ltb k (length text)) (pick (is-newline (getD text k 0)) k (k + 2)) i in
     pick (opens text i) e i
 
--- past layout and comments from i on; n bounds the comments
+-- past layout and comments from i on; n bounds the comments, and none is left where it is the length of the text
 unfoldable pub skip : List ℕ → ℕ → ℕ → ℕ
 skip text zero i = i
 skip text (suc n) i =
@@ -102,7 +102,8 @@ comment-sign text i = at-dashes (drop i text) && (eqb i 0 || is-layout (getD tex
 abbrev pub token : ℕ → ℕ → ℕ → Token
 token k i e = record { kind = k; start = i; end = e }
 
--- The kinds. Each of the marks : , # ( ) [ ] { } _ and = is its own byte; the fifteen keywords are numbered from 129 in the order of `keywords`
+-- The kinds. Each of the marks : , # ( ) [ ] { } _ and = is its own byte; the fifteen keywords are numbered behind all these, in the order of
+-- `keywords` (Samples: `keyword-kinds`)
 abbrev pub end-of-text : ℕ
 end-of-text = 0
 
@@ -120,6 +121,9 @@ no-token = 4
 
 abbrev pub operator : ℕ
 operator = 5
+
+abbrev pub before-keywords : ℕ
+before-keywords = 128
 
 abbrev pub begin-key : ℕ
 begin-key = 129
@@ -176,7 +180,7 @@ keywords = bytes "begin bound by end equations exports functions imports module 
 
 -- a keyword's kind, or an identifier's
 unfoldable pub word-kind : List ℕ → ℕ
-word-kind w = let k = number-in (words keywords) 1 w in pick (eqb k 0) ident (128 + k)
+word-kind w = let k = number-in (words keywords) 1 w in pick (eqb k 0) ident (before-keywords + k)
 
 -- implication is two or more = and then > or LF; otherwise = stands alone
 unfoldable pub equals-at : List ℕ → ℕ → Token

@@ -27,7 +27,7 @@ head-of export-section f o t = visible-head f t
 head-of (parameter-section p) f o t = visible-head f t
 head-of hidden-section f o t = hidden-head o t
 
--- an item that is found, with its arguments: a function, or a variable, which has none
+-- an item that is found, with its arguments: a function, or a variable, which has none. Sorts are not sought
 unfoldable pub of-shape : Item → TypedList → Shape → Option Typed
 of-shape i ts sort-shape = none
 of-shape i ts (function-shape t) =
@@ -68,11 +68,12 @@ joined-sides none es = none
 joined-sides (some e) none = none
 joined-sides (some e) (some es) = some (e ∷ es)
 
--- the equation of module `home` at position `at`; the culprit is its tag
+-- the equation at this position of the module of this number; the culprit is its tag
 unfoldable pub made-equation : ℕ → ℕ → Name → Option ResolvedSides → Option (List ResolvedSides) → Outcome ResolvedEquation
-made-equation home at tag none ks = stop ill-typed (lone tag)
-made-equation home at tag (some c) none = stop ill-typed (lone tag)
-made-equation home at tag (some c) (some ks) = fine (record { home = home; position = at; tag = tag; conclusion = c; conditions = ks })
+made-equation number at tag none ks = stop ill-typed (lone tag)
+made-equation number at tag (some c) none = stop ill-typed (lone tag)
+made-equation number at tag (some c) (some ks) =
+    fine (record { module-number = number; position = at; tag = tag; conclusion = c; conditions = ks })
 
 -- `known` are the items in reach of M's text: the visible ones, and M's own hidden ones
 module _ (known : List Item) where
@@ -106,10 +107,10 @@ module _ (known : List Item) where
   typed-conditions (e ∷ es) = joined-sides (typed-sides e) (typed-conditions es)
 
   unfoldable pub typed-equations : ℕ → ℕ → List Equation → Outcome (List ResolvedEquation)
-  typed-equations home at [] = fine []
-  typed-equations home at (r ∷ rs) = do
-    x ← made-equation home at (r .tag) (typed-sides (r .conclusion)) (typed-conditions (conditions-of r))
-    xs ← typed-equations home (at + 1) rs
+  typed-equations number at [] = fine []
+  typed-equations number at (r ∷ rs) = do
+    x ← made-equation number at (r .tag) (typed-sides (r .conclusion)) (typed-conditions (conditions-of r))
+    xs ← typed-equations number (at + 1) rs
     fine (x ∷ xs)
 
 -- opens every definition of this file

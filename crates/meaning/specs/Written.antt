@@ -11,12 +11,12 @@ use Rattle.meaning.specs.Normal.{Slot, Visible, Hidden, Normal, sorts-am
 
 -- ---- numbers
 
--- a number's digits, at most n of them
+-- a number's digits, at most n of them: what has more is not written
 unfoldable pub digits : ℕ → ℕ → List ℕ
 digits zero k = []
 digits (suc n) k = let more = digits n (k / 10) ++ ((48 + k % 10) ∷ []) in pick (ltb k 10) ((48 + k) ∷ []) more
 
--- every number that is told is below 2 ^ 32
+-- every number that is told is below 2 ^ 32, so ten digits are enough
 unfoldable pub decimal : ℕ → List ℕ
 decimal k = digits 10 k
 
@@ -107,7 +107,7 @@ module _ (hidden : List Item) where
   equation-order a b =
       let by-line = bytes-not-after (equation-text a) (equation-text b) in
       let by-position = pick (eqb (a .position) (b .position)) by-line (leb (a .position) (b .position)) in
-      pick (eqb (a .home) (b .home)) by-position (leb (a .home) (b .home))
+      pick (eqb (a .module-number) (b .module-number)) by-position (leb (a .module-number) (b .module-number))
 
 -- ---- a normal form in order
 
@@ -117,7 +117,7 @@ shape-rank sort-shape = 0
 shape-rank (function-shape t) = 1
 shape-rank (variable-shape s) = 2
 
--- exported or inherited items first, then the parameters' by the parameters' names
+-- exported or inherited items first, then the parameters' by the parameters' names. No hidden item is asked
 unfoldable pub standing-text : Section → List ℕ
 standing-text export-section = []
 standing-text hidden-section = []

@@ -12,7 +12,7 @@ use Rattle.meaning.specs.Lists.{pick, any}
 use Rattle.meaning.specs.Laws.{by-cases}
 use Rattle.meaning.specs.Tokens.{token-at, ident, operator}
 use Rattle.meaning.specs.Names.{Name, byte, slice, prefix-name, infix-name, is-operator}
-use Rattle.meaning.specs.Numbers.{argument-limit, node-limit, over-size}
+use Rattle.meaning.specs.Numbers.{argument-limit, node-limit, over-size, name-size}
 use Rattle.meaning.specs.Syntax.{Term, node, terms, Operand, joined-left}
 use Rattle.meaning.specs.Grammar.{State, Parser, after, _>>=_, return, is, is-name, begins-term}
 use Rattle.meaning.specs.Grammar
@@ -163,7 +163,7 @@ module _ {text : List ℕ} where
     ready : Ready text 0 q u
     ready = next-ready r s
 
-    joined-short : eqb (q .token .kind) operator ≡ true → leb (q .token .end - q .token .start) 40 ≡ true
+    joined-short : eqb (q .token .kind) operator ≡ true → leb (q .token .end - q .token .start) name-size ≡ true
         → Matches text 0 0 (λ o v fs. fs ≡ entry infix-role (infix-name o) ∷ es) p t
         ((Model.inserted (p .entries) (word-in infix-form (q .token) * 32 + infix-role) >> Model.step text) (place (q .token) (suc (q .nodes)) (q .entries)) u)
         ((Grammar.step text >>= λ t. return (Grammar.spelled text t)) (record { token = q .token; nodes = suc (q .nodes) }))
@@ -186,7 +186,7 @@ module _ {text : List ℕ} where
         choice (eqb (q .token .kind) operator) _ _ _ _
         (λ h. choice (leb node-limit (q .nodes)) _ _ _ _ (λ n. both-refused _ _ u (s .size))
         (λ n. choice (eqb (q .token .kind) operator) _ _ _ _
-        (λ g. choice (leb (q .token .end - q .token .start) 40) _ _ _ _ (joined-short h) (λ l. both-refused _ _ u (s .size)))
+        (λ g. choice (leb (q .token .end - q .token .start) name-size) _ _ _ _ (joined-short h) (λ l. both-refused _ _ u (s .size)))
         (λ g. both-refused _ _ u (s .size))))
         (λ h. both-refused _ _ u (s .size))
 

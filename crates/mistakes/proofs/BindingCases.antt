@@ -13,7 +13,7 @@ use Rattle.meaning.specs.Names.{Name, member}
 use Rattle.meaning.specs.Syntax.{Pair}
 use Rattle.meaning.specs.Origins.{Shape, function-shape, Item, in-parameter}
 use Rattle.meaning.specs.Normal.{names-in, sort-names, is-called, move-shape, move-item}
-use Rattle.meaning.specs.Checks.{Check, _>>_, needs as refused-unless}
+use Rattle.meaning.specs.Checks.{Check, _>>_, needs as refused-unless, each-beside}
 use Rattle.meaning.specs.Clauses.{kind-right, type-right, all-right, pair-right, pairs-right}
 use Rattle.names.specs.Word.{name-of}
 use Rattle.tables.specs.declared.Row.{Row}
@@ -93,8 +93,8 @@ module _ (text tape w : List ℕ) (m : Mode) (actual : Form) where
       pub type-function : (r : Bool) → b ≡ true → r ≡ function-there text tape w m actual (name-of text new) shape → Typed r
       unfolding type-fits type-right sorts-fit function-there like move-shape visible-at
       type-function r q f =
-          let σ = sort-name-bound text tape w m two (mode-whole text tape w m) (visible-at text tape w actual) in
-          let φ = function-name-bound text tape w m two (mode-whole text tape w m) (visible-at text tape w actual) in
+          let σ = sort-name-bound text tape w m two in
+          let φ = function-name-bound text tape w m two in
           rw (function-kind, ← e, q) (rw (function-kind, σ, φ) at f)
 
     -- ---- by one of the two
@@ -225,15 +225,15 @@ module _ (text tape w : List ℕ) (m : Mode) (actual : Form) where
 
   module _ (n k : ℕ) where
     pub pairs-fine : n ≤ k → Checking n k → Ended Fine
-    unfolding told pairs-right given
+    unfolding told pairs-right given each-beside
     pairs-fine h inv = sym (walk-end asked text tape (m .pairs) n k h inv)
 
     pub check-again : (v : Verdict) → v ≡ Fine → k < n → Told k v → Checking n k → Checking n (k + 1)
-    unfolding told pairs-right given pair-at _>>_
+    unfolding told pairs-right given pair-at _>>_ each-beside
     check-again v q h e inv = walk-again asked text tape (m .pairs) n k h inv (rw (← e, q, add-one k))
 
     pub pair-stops : (v : Verdict) (number : ℕ) (c : Culprit) → v ≡ Stop number c → k < n → Told k v → Checking n k → Ended (Stop number c)
-    unfolding told pairs-right given _>>_
+    unfolding told pairs-right given _>>_ each-beside
     pair-stops v number c q h e inv = sym (walk-here asked text tape (m .pairs) n k h inv ∙ rw (← e, q))
 
 pub ruleset types = (moved-there, type-plain, type-sorts, type-function, needs)

@@ -9,7 +9,6 @@ use borrow.Author.Needs.{needs}
 use Rattle.meaning.specs.Lists.{pick}
 use Rattle.meaning.specs.Names.{Name, not-after, lesser}
 use Rattle.meaning.specs.Syntax.{Pair}
-use Rattle.meaning.specs.Normal.{nothing-visible}
 use Rattle.meaning.specs.Origins.{in-parameter}
 use Rattle.meaning.specs.Checks.{unless}
 use Rattle.meaning.specs.Clauses.{paired, unpaired}
@@ -104,14 +103,14 @@ module _ (text tape w : List ℕ) (m : Mode) where
       record { inside = omega arith; least = rw (s, p, ← inv .least) e }
 
   pub last-end : (k : ℕ) (best : Found) → k ≤ 0 → Lasting text tape w m k best
-      → found text best ≡ unpaired (mode-formals text tape w m) pairs nothing-visible nothing-visible
+      → found text best ≡ unpaired (mode-formals text tape w m) pairs
   unfolding formals-at
   last-end k best h inv =
       let s : m .count - k ≡ m .count = omega arith in
       let p : m .visible + k * 16 ≡ m .visible = omega arith in
       inv .least
       ∙ ap₂ (λ (b n : ℕ). unpaired-among parameter pairs (items-at text tape w b n)) p s
-      ∙ sym (unpaired-told parameter pairs nothing-visible nothing-visible (items-at text tape w (m .visible) (m .count)))
+      ∙ sym (unpaired-told parameter pairs (items-at text tape w (m .visible) (m .count)))
 
 -- ---- the verdict
 

@@ -17,8 +17,6 @@ use Rattle.forms.specs.declared.Form.{Form}
 use Rattle.forms.specs.Forms.{items-at, visible-at}
 use Rattle.translation.specs.declared.Mode.{Mode}
 use Rattle.translation.specs.Translation.{pairs-at, mode-formals}
-use Rattle.translation.specs.Moved.{is-formal}
-use Rattle.translation.specs.MovedLaws.{is-formal-any}
 use Rattle.clauses.specs.declared.Found.{Found}
 use Rattle.clauses.specs.declared.Found.the-variants.{At, Nothing}
 use Rattle.clauses.specs.Pairs.{found}
@@ -72,24 +70,18 @@ module _ (text tape w : List ℕ) (m : Mode) (actual : Form) where
   abbrev there : List Item
   there = items-at text tape w (actual .visible) (actual .«visible_count»)
 
-  formal-asked : (a : ℕ)
-      → is-formal-sort (mode-formals text tape w m) (pairs-at text tape (m .pairs)) (mode-whole text tape w m) (visible-at text tape w actual) (name-of text a)
-      ≡ is-formal (mode-formals text tape w m) (name-of text a)
-  formal-asked a =
-      is-formal-any (mode-formals text tape w m) (pairs-at text tape (m .pairs)) (mode-whole text tape w m) (visible-at text tape w actual) (name-of text a)
-
-  module _ (a : ℕ) (b : Bool) (e : b ≡ is-formal (mode-formals text tape w m) (name-of text a)) where
+  module _ (a : ℕ) (b : Bool) (e : b ≡ is-formal-sort (mode-formals text tape w m) (name-of text a)) where
     pub name-paired : (r : Bool) → b ≡ true
         → r ≡ is-among (names-in (sorts-among there)) (paired (pairs-at text tape (m .pairs)) (name-of text a))
         → r ≡ sort-fits text tape w m actual (visible-sort (name-of text a))
     unfolding sort-fits sort-right sort-names visible-at pick
-    name-paired r h f = rw (formal-asked a, ← e, h) f
+    name-paired r h f = rw (← e, h) f
 
     pub name-same : (r : Bool) → b ≡ false
         → r ≡ one-origin text tape w (m .visible) (m .count) (actual .visible) (actual .«visible_count») (name-of text a)
         → r ≡ sort-fits text tape w m actual (visible-sort (name-of text a))
     unfolding sort-fits sort-right one-origin origin-among origin-of mode-whole visible-at pick
-    name-same r h f = rw (formal-asked a, ← e, h) f
+    name-same r h f = rw (← e, h) f
 
   pub sort-visible : (s : ℕ) (r : Bool) → s % 2 ≡ 0 → r ≡ sort-fits text tape w m actual (visible-sort (name-of text (s / 2))) → Fits s r
   unfolding sort-of pick

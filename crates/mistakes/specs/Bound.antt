@@ -12,7 +12,7 @@ use Rattle.meaning.specs.Names.{Name}
 use Rattle.meaning.specs.OrderLaws.{same-equal}
 use Rattle.meaning.specs.Syntax.{Pair}
 use Rattle.meaning.specs.Origins.{is-function, Item, one-item, in-parameter}
-use Rattle.meaning.specs.Normal.{Visible, nothing-visible, is-called, move-item, formals}
+use Rattle.meaning.specs.Normal.{Visible, is-called, move-item, formals}
 use Rattle.meaning.specs.Checks.{fine}
 use Rattle.meaning.specs.Clauses.{new-sort, new-function, pairs-right, unpaired}
 use Rattle.names.specs.Word.{name-of}
@@ -50,16 +50,15 @@ module _ (text tape w : List ℕ) (m : Mode) (whole : Visible) (e : items-at tex
       whole-any (mode-formals text tape w m) pairs (mode-whole text tape w m) whole actual e seen ps
       ∙ ap (λ (formal : List Item). pairs-right formal pairs whole actual seen ps) formals-meant
 
-  pub unpaired-meant : (actual : Visible) → unpaired (mode-formals text tape w m) pairs nothing-visible nothing-visible ≡ unpaired bound pairs whole actual
-  unfolding unpaired
-  unpaired-meant actual = rw formals-meant
+  pub unpaired-meant : unpaired (mode-formals text tape w m) pairs ≡ unpaired bound pairs
+  unpaired-meant = rw formals-meant
 
-  module _ (two : m .kind ≡ 2) (actual : Visible) where
-    pub sorts-meant : sort-name text tape w m ≡ new-sort bound pairs whole actual
-    sorts-meant = sort-name-bound text tape w m two whole actual ∙ ap (λ (formal : List Item). new-sort formal pairs whole actual) formals-meant
+  module _ (two : m .kind ≡ 2) where
+    pub sorts-meant : sort-name text tape w m ≡ new-sort bound pairs
+    sorts-meant = sort-name-bound text tape w m two ∙ ap (λ (formal : List Item). new-sort formal pairs) formals-meant
 
-    pub functions-meant : function-name text tape w m ≡ new-function bound pairs whole actual
-    functions-meant = function-name-bound text tape w m two whole actual ∙ ap (λ (formal : List Item). new-function formal pairs whole actual) formals-meant
+    pub functions-meant : function-name text tape w m ≡ new-function bound pairs
+    functions-meant = function-name-bound text tape w m two ∙ ap (λ (formal : List Item). new-function formal pairs) formals-meant
 
 -- ---- the note of a formal function
 
@@ -95,7 +94,7 @@ module _ (text tape w : List ℕ) (m : Mode) (k : ℕ) where
 
   module _ (whole actual : Visible) (e : items-at text tape w (m .visible) (m .count) ≡ whole .items) (two : m .kind ≡ 2)
       (right : pairs-right (bound text tape w m whole e) (pairs text tape w m whole e) whole actual [] (pairs text tape w m whole e) ≡ fine tt)
-      (paired-all : unpaired (bound text tape w m whole e) (pairs text tape w m whole e) whole actual ≡ none) (h : k < m .count)
+      (paired-all : unpaired (bound text tape w m whole e) (pairs text tape w m whole e) ≡ none) (h : k < m .count)
       (f : formal-row text tape w m k ≡ true) (g : is-function (item .shape) ≡ true) where
     row-item : getD (whole .items) k item ≡ item
     unfolding mode-item
@@ -109,7 +108,7 @@ module _ (text tape w : List ℕ) (m : Mode) (k : ℕ) where
         let all = formal-noted (bound text tape w m whole e) (pairs text tape w m whole e) whole actual right paired-all in
         let stands : in-parameter (name-of text (m .parameter)) (getD (whole .items) k item .standing) ≡ true = rw row-item f in
         let noted = every-kept _ (λ (i : Item). in-parameter (name-of text (m .parameter)) (i .standing)) item (whole .items) k (omega arith) all stands in
-        rw (sorts-meant text tape w m whole e two actual, functions-meant text tape w m whole e two actual) ((rw row-item at noted) g)
+        rw (sorts-meant text tape w m whole e two, functions-meant text tape w m whole e two) ((rw row-item at noted) g)
 
     -- and its note in a form that the actual module's items were joined to is right
     pub note-right : (y : Form) (others : List Item) → items-at text tape w (y .visible) (y .«visible_count») ≡ union one-item others (actual .items)

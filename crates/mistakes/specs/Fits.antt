@@ -11,7 +11,7 @@ use Rattle.meaning.specs.Numbers.{other-kind, other-type}
 use Rattle.meaning.specs.Syntax.{Pair}
 use Rattle.meaning.specs.Origins.{Sort, visible-sort, hidden-sort, FunctionType, Shape, sort-shape, function-shape, variable-shape, Item}
 use Rattle.meaning.specs.Normal.{Visible, names-in, sorts-among, move-shape, origin-of}
-use Rattle.meaning.specs.Checks.{Culprit, _>>_, Check, needs}
+use Rattle.meaning.specs.Checks.{Culprit, _>>_, Check, needs, each-beside}
 use Rattle.meaning.specs.Clauses.{same-origins, is-formal-sort, new-sort, new-function}
 use Rattle.meaning.specs.Clauses.{sort-right, sorts-right, kind-right, type-right, all-right, pair-right, pairs-right}
 use Rattle.names.specs.Word.{name-of}
@@ -51,7 +51,7 @@ module _ (text tape w : List ℕ) (m : Mode) where
         any (like new (move-shape (sort-name text tape w m) (function-name text tape w m) s)) (items-at text tape w (actual .visible) (actual .«visible_count»))
 
     unfoldable pub kind-fits : Name → Shape → Bool
-    kind-fits new s = kind-right (mode-formals text tape w m) (pairs-at text tape (m .pairs)) mode-whole (visible-at text tape w actual) new s
+    kind-fits new s = kind-right (visible-at text tape w actual) new s
 
     unfoldable pub type-fits : Name → Shape → Bool
     type-fits new s = type-right (mode-formals text tape w m) (pairs-at text tape (m .pairs)) mode-whole (visible-at text tape w actual) new s
@@ -68,7 +68,7 @@ module _ (text tape w : List ℕ) (m : Mode) where
     -- all formal items that the pair binds pass the test
     unfoldable pub all-fit : Bool → Name → Name → Bool
     all-fit by-type old new =
-        all-right (mode-formals text tape w m) (pairs-at text tape (m .pairs)) mode-whole (visible-at text tape w actual) (item-fits by-type)
+        all-right (mode-formals text tape w m) (item-fits by-type)
         (record { old = old; new = new })
 
     -- 25, 26
@@ -89,12 +89,6 @@ module _ (formal : List Item) (rs : List Pair) (whole other actual : Visible) (e
   unfolding sorts-right
   sorts-any t = ap (λ (fits : Sort → Bool). not (any (λ (s : Sort). not (fits s)) (t .output ∷ t .inputs))) (λ i s. sort-any s i)
 
-  kind-any : (new : Name) (s : Shape) → kind-right formal rs whole actual new s ≡ kind-right formal rs other actual new s
-  unfolding kind-right
-  kind-any new sort-shape = refl
-  kind-any new (variable-shape s) = refl
-  kind-any new (function-shape t) = refl
-
   type-any : (new : Name) (s : Shape) → type-right formal rs whole actual new s ≡ type-right formal rs other actual new s
   unfolding type-right new-sort new-function is-formal-sort
   type-any new sort-shape = refl
@@ -102,19 +96,15 @@ module _ (formal : List Item) (rs : List Pair) (whole other actual : Visible) (e
   type-any new (function-shape t) = rw (sorts-any t)
 
   module _ (r : Pair) where
-    all-kinds : all-right formal rs whole actual (kind-right formal rs whole actual) r ≡ all-right formal rs other actual (kind-right formal rs other actual) r
+    all-types : all-right formal (type-right formal rs whole actual) r ≡ all-right formal (type-right formal rs other actual) r
     unfolding all-right
-    all-kinds = ap (λ (fits : Name → Shape → Bool). all-right formal rs other actual fits r) (λ i new s. kind-any new s i)
-
-    all-types : all-right formal rs whole actual (type-right formal rs whole actual) r ≡ all-right formal rs other actual (type-right formal rs other actual) r
-    unfolding all-right
-    all-types = ap (λ (fits : Name → Shape → Bool). all-right formal rs other actual fits r) (λ i new s. type-any new s i)
+    all-types = ap (λ (fits : Name → Shape → Bool). all-right formal fits r) (λ i new s. type-any new s i)
 
     pair-any : (seen : List Name) → pair-right formal rs whole actual seen r ≡ pair-right formal rs other actual seen r
     unfolding pair-right
-    pair-any seen = rw (all-kinds, all-types)
+    pair-any seen = rw all-types
 
   pub whole-any : (seen : List Name) (ps : List Pair) → pairs-right formal rs whole actual seen ps ≡ pairs-right formal rs other actual seen ps
-  unfolding pairs-right
+  unfolding pairs-right each-beside
   whole-any seen [] = refl
   whole-any seen (r ∷ ps) = rw (pair-any r seen, whole-any (r .old ∷ seen) ps)

@@ -78,12 +78,12 @@ module _ (formal : List Item) (rs : List Pair) (whole actual : Visible) where
 
   -- what becomes of names
   abbrev σ : Name → Name
-  σ = new-sort formal rs whole actual
+  σ = new-sort formal rs
 
   abbrev φ : Name → FunctionType → Name
-  φ = new-function formal rs whole actual
+  φ = new-function formal rs
 
-  module _ (passed : pairs-right formal rs whole actual [] rs ≡ fine tt) (bound : unpaired formal rs whole actual ≡ none) where
+  module _ (passed : pairs-right formal rs whole actual [] rs ≡ fine tt) (bound : unpaired formal rs ≡ none) where
     abbrev Noted : Item → Type 0
     Noted i = is-function (i .shape) ≡ true → any (like (move-name σ φ (i .name) (i .shape)) (move-shape σ φ (i .shape))) (actual .items) ≡ true
 

@@ -51,14 +51,14 @@ pair-free w (r ∷ rs) = rw (same-other-way w (r .old)) (go (same (r .old) w) (p
     go true ih = refl
     go false ih = ih
 
-module _ (p : Name) (rs : List Pair) (whole actual : Visible) where
+module _ (p : Name) (rs : List Pair) where
   abbrev free : Name → Bool
   free w = not (any (λ (r : Pair). same w (r .old)) rs)
 
   abbrev formal : List Item → List Item
   formal is = keep (λ (i : Item). in-parameter p (i .standing)) is
 
-  pub unpaired-told : (is : List Item) → unpaired (formal is) rs whole actual ≡ unpaired-among p rs is
+  pub unpaired-told : (is : List Item) → unpaired (formal is) rs ≡ unpaired-among p rs is
   unfolding unpaired unpaired-among unpaired-from is-unpaired least keep names-in pick
   unpaired-told [] = refl
   unpaired-told (i ∷ is) = go (in-parameter p (i .standing)) (unpaired-told is)

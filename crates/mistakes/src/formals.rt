@@ -15,7 +15,6 @@ ghost use lib.ListN.{length};
 ghost use Rattle.meaning.specs.Lists.{before};
 ghost use Rattle.meaning.specs.Names.{lesser};
 ghost use Rattle.meaning.specs.Numbers.{formal-unpaired};
-ghost use Rattle.meaning.specs.Normal.{nothing-visible};
 ghost use Rattle.meaning.specs.Checks.{unless};
 ghost use Rattle.meaning.specs.Clauses.{unpaired};
 ghost use Rattle.names.specs.Word.{name-of};
@@ -119,7 +118,7 @@ fn least_from(
 // The least formal name without a pair, from the last row to the first.
 fn least_unpaired(library: &[u8], text: &[u8], work: &[u32], t: usize, m: Mode) -> Found
     requires { ⌜ t ≤ length (now work) ⌝ }
-    ensures { λ r. ⌜ found (joint (now (library .entry)) (now (text .entry))) r ≡ unpaired (mode-formals (joint (now (library .entry)) (now (text .entry))) (part (now (work .entry)) 0 t) (now (work .entry)) m) (pairs-at (joint (now (library .entry)) (now (text .entry))) (part (now (work .entry)) 0 t) (m .pairs)) nothing-visible nothing-visible ⌝ }
+    ensures { λ r. ⌜ found (joint (now (library .entry)) (now (text .entry))) r ≡ unpaired (mode-formals (joint (now (library .entry)) (now (text .entry))) (part (now (work .entry)) 0 t) (now (work .entry)) m) (pairs-at (joint (now (library .entry)) (now (text .entry))) (part (now (work .entry)) 0 t) (m .pairs)) ⌝ }
 {
     let mut best = Found::Nothing;
     let mut k = m.count;
@@ -133,7 +132,7 @@ fn least_unpaired(library: &[u8], text: &[u8], work: &[u32], t: usize, m: Mode) 
 // 27: the least formal name without a pair.
 pub fn unpaired(library: &[u8], text: &[u8], work: &[u32], t: usize, m: Mode) -> Verdict
     requires { ⌜ t ≤ length (now work) ⌝ }
-    ensures { λ r. ⌜ told (joint (now (library .entry)) (now (text .entry))) r ≡ unless formal-unpaired (unpaired (mode-formals (joint (now (library .entry)) (now (text .entry))) (part (now (work .entry)) 0 t) (now (work .entry)) m) (pairs-at (joint (now (library .entry)) (now (text .entry))) (part (now (work .entry)) 0 t) (m .pairs)) nothing-visible nothing-visible) ⌝ }
+    ensures { λ r. ⌜ told (joint (now (library .entry)) (now (text .entry))) r ≡ unless formal-unpaired (unpaired (mode-formals (joint (now (library .entry)) (now (text .entry))) (part (now (work .entry)) 0 t) (now (work .entry)) m) (pairs-at (joint (now (library .entry)) (now (text .entry))) (part (now (work .entry)) 0 t) (m .pairs))) ⌝ }
 {
     let least = least_unpaired(library, text, work, t, m);
     match least {

@@ -83,7 +83,7 @@ blank : ResolvedEquation
 blank =
     let o : Origin = record { home = []; section = export-section; declared = declared-sort [] } in
     let s : ResolvedSides = record { left = var o (visible-sort []); right = var o (visible-sort []) } in
-    record { home = 0; position = 0; tag = []; conclusion = s; conditions = [] }
+    record { module-number = 0; position = 0; tag = []; conclusion = s; conditions = [] }
 
 row-stands : (text tape w : List ℕ) (f : Form) (b : ℕ) (es : List ResolvedEquation) (i : ℕ) → EquationsStand text tape w f b es → i < length es
     → EquationStands text tape w f (equation-row-at w (b + i * 8)) (getD es i blank)
@@ -315,14 +315,14 @@ module _ (text : List ℕ) (t : ℕ) (f k : Form) (p order : ℕ) (w u w′ : Li
         equation-row-same x low (f .equations + i * 8) (λ j l m. low-word x order j (omega (arith, room .equations-before, room .notes))) ∙ row-copied-at i h
 
     place-of : ResolvedEquation → Place
-    place-of e = record { home = e .home; position = e .position; text = equation-text ordered e }
+    place-of e = record { module-number = e .module-number; position = e .position; text = equation-text ordered e }
 
     placed : (i : ℕ) → i < count → row-place text low (k .visible) (k .nodes) (equation-row-at low (f .equations + i * 8)) ≡ place-of (equation i)
     unfolding row-place place-of
     placed i h =
         let s = stands-at i h in
         let line = line-there low low-long low-near (row i) (equation i) s (small-at i h) in
-        ap (row-place text low (k .visible) (k .nodes)) (row-low i h) ∙ (λ j. record { home = s .home j; position = s .position j; text = line j })
+        ap (row-place text low (k .visible) (k .nodes)) (row-low i h) ∙ (λ j. record { module-number = s .home j; position = s .position j; text = line j })
 
     compared-alike : (i j : ℕ) → i < count → j < count → row-order text (part x 0 t) low table i j ≡ equation-order ordered (equation i) (equation j)
     unfolding row-order equation-order place-order place-of

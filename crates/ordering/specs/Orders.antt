@@ -80,7 +80,7 @@ by-origin-then-type sorts a b = by-two bytes-not-after (λ (i : Item). origin-te
 
 unfoldable pub row-place : List ℕ → List ℕ → ℕ → ℕ → EquationRow → Place
 row-place text w visible nodes r = record {
-  home = r .home;
+  module-number = r .home;
   position = r .position;
   text = take line-size (equation-at text w visible nodes r);
 }

@@ -43,7 +43,7 @@ module _ (k : Normal) (a : Accepted k) where
       let es = k .hidden .equations in
       let typed : (x : ResolvedEquation) → List·Memᴰ x es → IsTyped x = every-member IsTyped es (a .whole .typed) in
       let said = line-told e f (typed e m) (typed f l) text in
-      λ x. record { home = home x; position = position x; tag = said x .tag; conclusion = said x .conclusion; conditions = said x .conditions }
+      λ x. record { module-number = home x; position = position x; tag = said x .tag; conclusion = said x .conclusion; conditions = said x .conditions }
 
   -- two lists of equations over the same items with the same written lines say the same
   lines-told : (es fs : List ResolvedEquation) → Every IsTyped es → Every IsTyped fs

@@ -11,8 +11,8 @@ use Rattle.meaning.specs.Syntax.{Clause, Import, Module, renamed-by, bound-by}
 use Rattle.meaning.specs.Normal.{Visible, nothing-visible}
 use Rattle.meaning.specs.Checks.{_>>=_, _>>_, Outcome, Check, fine, Culprit, stop}
 use Rattle.meaning.specs.Evaluate.{clause-names, import-names, named-by, missing, too-late, names-right}
-use Rattle.meaning.specs.Mirror.{then-fine, never, fine-same}
-use Rattle.meaning.specs.Visibly.{Seen, visible-of, clause-visibly, clauses-visibly, expressions-visibly, imported-visibly, joined-visibly, evaluate-visibly}
+use Rattle.meaning.specs.OutcomeLaws.{then-fine}
+use Rattle.meaning.specs.VisiblyLaws.{clause-visibly, clauses-visibly, expressions-visibly, imported-visibly, joined-visibly, evaluate-visibly}
 use Rattle.meaning.specs.Reached.{wanted, Placed, reached-among, reached, Ended, module-names, normalise, normalised, refused-at}
 use Rattle.meaning.specs.Laws.{by-cases}
 use Rattle.meaning.specs.Distinct.{Fresh, read-fresh}
@@ -21,6 +21,8 @@ use Rattle.promises.specs.Members.{clear, member-here, member-right, mem
 use Rattle.promises.specs.TwoCalls.{went-on, both-cases}
 use Rattle.promises.specs.Demand.{RefusedAtMost, InTheCall, IsNormalised, ByItself, Comparable, Demand3}
 use Rattle.promises.specs.Proof.{eighteen-told, answer-ended, demand-3, EndedVisibly, shows, refuses, end-visibly, seen-as, in-turn-visibly, normalise-visibly, Eighteen, as-seen, Reflects, normalise-reflects, Showing, stands-visibly, no-refusal}
+use Rattle.meaning.specs.OutcomeLaws.{never, fine-same}
+use Rattle.meaning.specs.VisiblyLaws.{Seen, visible-of}
 
 abbrev pub names-seen : List Seen → List Name
 names-seen env = map (λ (e : Seen). e .name) env

@@ -12,15 +12,15 @@ use lib.ListN.{length}
 use Rattle.meaning.specs.Laws.{by-cases}
 use Rattle.meaning.specs.Lists.{pick, before, each}
 use Rattle.meaning.specs.Names.{Name, same, member}
-use Rattle.meaning.specs.Numbers.{memory-size, accepted, asked-absent, lent-short}
+use Rattle.meaning.specs.Numbers.{memory-size, accepted, asked-absent, lent-short, no-token-there, named-absent, declared-twice, clashing, overloading, bad-variable, bad-sort, bad-renaming, bad-parameter, ill-typed, no-room, formal-absent, formal-twice, actual-absent, other-kind, other-type, formal-unpaired}
 use Rattle.meaning.specs.Syntax.{Signature, Parameter, Pair, Clause, renamed-by, bound-by, Import, Equation, Module}
 use Rattle.meaning.specs.Normal.{Visible, Normal, empty, formals}
 use Rattle.meaning.specs.Origins.{ResolvedSides, Item}
-use Rattle.meaning.specs.Checks.{Culprit, lone, Outcome, fine, stop, _>>=_, _>>_, Check, unless, needs, consistent, fits, room, total-room, Size, checked}
+use Rattle.meaning.specs.Checks.{Culprit, lone, Outcome, fine, stop, _>>=_, _>>_, Check, unless, needs, consistent, fits, room, total-room, Size, checked, each-beside}
 use Rattle.meaning.specs.Clauses.{rename, pair-right, pairs-right, bound-to, bind}
 use Rattle.meaning.specs.Own.{available-sorts}
 use Rattle.meaning.specs.Typing.{made-equation, typed-equations}
-use Rattle.meaning.specs.Evaluate.{Evaluated, named-by, names-right, once-in, once-in-parameters, declared-once, normal-of, clause, clauses, expressions, united, imported, own-checks, own-equations, joined-own, evaluate}
+use Rattle.meaning.specs.Evaluate.{Evaluated, named-by, names-right, once-in, once-in-parameters, declared-once, normal-of, clause, clauses, expressions, united, imported, own-checks, own-equations, joined-own, evaluate, once-in-parameter}
 use Rattle.meaning.specs.Texts.{Texts, Reading, all-read, refused-in, read-texts}
 use Rattle.meaning.specs.Reached.{Placed, reached-among, reached, Ended, normalised, refused-at, end-or, total-of, in-turn, module-names, short-or-blank, normalise}
 use Rattle.meaning.specs.Listing.{lines-text}
@@ -148,11 +148,11 @@ module _ (memory-lent output-lent : ℕ) (asked : Name) (texts : Texts) where
 
 -- a binding's mistake: 22 to 26, or 27 with one name
 abbrev pub BindingMistake : ℕ → Culprit → Type 0
-BindingMistake k w = ((22 ≤ k) × (k ≤ 26)) ⊎ ((k ≡ 27) × (w .actual ≡ []))
+BindingMistake k w = ((formal-absent ≤ k) × (k ≤ other-type)) ⊎ ((k ≡ formal-unpaired) × (w .actual ≡ []))
 
 -- the other numbers of evaluating, told with one name
 abbrev pub OtherNumber : ℕ → Type 0
-OtherNumber k = ((7 ≤ k) × (k ≤ 15)) ⊎ ((17 ≤ k) × (k ≤ 18))
+OtherNumber k = ((named-absent ≤ k) × (k ≤ bad-parameter)) ⊎ ((ill-typed ≤ k) × (k ≤ no-room))
 
 abbrev pub OtherRefusal : ℕ → Culprit → Type 0
 OtherRefusal k w = OtherNumber k × (w .actual ≡ [])
@@ -201,9 +201,9 @@ fits-from b = needs-from OtherRefusal _ _ b (inr (lit≤ tt, lit≤ tt), refl)
 consistent-from : (v : Visible) (own : List Item) → IfRefused OtherRefusal (consistent v own)
 unfolding consistent
 consistent-from v own =
-    then-from OtherRefusal _ _ (unless-other 15 _ (inl (lit≤ tt, lit≤ tt)))
-    (then-from OtherRefusal _ _ (unless-other 10 _ (inl (lit≤ tt, lit≤ tt)))
-    (then-from OtherRefusal _ _ (unless-other 10 _ (inl (lit≤ tt, lit≤ tt))) (unless-other 11 _ (inl (lit≤ tt, lit≤ tt)))))
+    then-from OtherRefusal _ _ (unless-other bad-parameter _ (inl (lit≤ tt, lit≤ tt)))
+    (then-from OtherRefusal _ _ (unless-other clashing _ (inl (lit≤ tt, lit≤ tt)))
+    (then-from OtherRefusal _ _ (unless-other clashing _ (inl (lit≤ tt, lit≤ tt))) (unless-other overloading _ (inl (lit≤ tt, lit≤ tt)))))
 
 pub checked-from : (n : Normal) → IfRefused OtherRefusal (checked n)
 unfolding checked room
@@ -211,23 +211,23 @@ checked-from n = then-from OtherRefusal _ _ (consistent-from (n .visible) []) (t
 
 pub rename-from : (rs : List Pair) (n : Normal) → IfRefused OtherRefusal (rename rs n)
 unfolding rename
-rename-from rs n = then-from OtherRefusal _ _ (unless-other 14 _ (inl (lit≤ tt, lit≤ tt))) (checked-from _)
+rename-from rs n = then-from OtherRefusal _ _ (unless-other bad-renaming _ (inl (lit≤ tt, lit≤ tt))) (checked-from _)
 
 pair-from : (formal : List Item) (rs : List Pair) (whole actual : Visible) (seen : List Name) (r : Pair)
     → IfRefused OfEvaluating (pair-right formal rs whole actual seen r)
 unfolding pair-right
 pair-from formal rs whole actual seen r =
-    then-from OfEvaluating _ _ (wrong 22 _ (lit≤ tt) (lit≤ tt))
-    (then-from OfEvaluating _ _ (wrong 23 _ (lit≤ tt) (lit≤ tt))
-    (then-from OfEvaluating _ _ (wrong 24 _ (lit≤ tt) (lit≤ tt))
-    (then-from OfEvaluating _ _ (wrong 25 _ (lit≤ tt) (lit≤ tt)) (wrong 26 _ (lit≤ tt) (lit≤ tt)))))
+    then-from OfEvaluating _ _ (wrong formal-absent _ (lit≤ tt) (lit≤ tt))
+    (then-from OfEvaluating _ _ (wrong formal-twice _ (lit≤ tt) (lit≤ tt))
+    (then-from OfEvaluating _ _ (wrong actual-absent _ (lit≤ tt) (lit≤ tt))
+    (then-from OfEvaluating _ _ (wrong other-kind _ (lit≤ tt) (lit≤ tt)) (wrong other-type _ (lit≤ tt) (lit≤ tt)))))
   where
-    wrong : (k : ℕ) (b : Bool) → 22 ≤ k → k ≤ 26 → IfRefused OfEvaluating (needs k (record { name = r .old; actual = r .new }) b)
+    wrong : (k : ℕ) (b : Bool) → formal-absent ≤ k → k ≤ other-type → IfRefused OfEvaluating (needs k (record { name = r .old; actual = r .new }) b)
     wrong k b h h′ = needs-from OfEvaluating k _ b (inr (inl (h, h′)))
 
 pairs-from : (formal : List Item) (rs : List Pair) (whole actual : Visible) (seen : List Name) (xs : List Pair)
     → IfRefused OfEvaluating (pairs-right formal rs whole actual seen xs)
-unfolding pairs-right
+unfolding pairs-right each-beside
 pairs-from formal rs whole actual seen [] = tt
 pairs-from formal rs whole actual seen (x ∷ xs) =
     then-from OfEvaluating _ _ (pair-from formal rs whole actual seen x) (pairs-from formal rs whole actual (x .old ∷ seen) xs)
@@ -238,7 +238,7 @@ bind-from p rs n actual =
     by-cases (λ (o : Outcome Normal). IfRefused OfEvaluating o) _ _ _
     (λ e.
     then-from OfEvaluating _ _ (pairs-from (formals p (n .visible)) rs (n .visible) (actual .visible) [] rs)
-    (then-from OfEvaluating _ _ (unless-from OfEvaluating 27 _ (λ w. inr (inr (refl, refl)))) (other-from (checked _) (checked-from _))))
+    (then-from OfEvaluating _ _ (unless-from OfEvaluating formal-unpaired _ (λ w. inr (inr (refl, refl)))) (other-from (checked _) (checked-from _))))
     (λ e. inl (inl (lit≤ tt, lit≤ tt), refl))
 
 clause-from : (env : List Evaluated) (c : Clause) (n : Normal) → IfRefused OfEvaluating (clause env c n)
@@ -271,25 +271,26 @@ names-right-from declared earlier (w ∷ ws) =
 
 once-in-from : (s : Signature) → IfRefused OtherRefusal (once-in s)
 unfolding once-in
-once-in-from s = then-from OtherRefusal _ _ (unless-other 9 _ (inl (lit≤ tt, lit≤ tt))) (unless-other 9 _ (inl (lit≤ tt, lit≤ tt)))
+once-in-from s = then-from OtherRefusal _ _ (unless-other declared-twice _ (inl (lit≤ tt, lit≤ tt))) (unless-other declared-twice _ (inl (lit≤ tt, lit≤ tt)))
 
 once-in-parameters-from : (seen : List Name) (ps : List Parameter) → IfRefused OtherRefusal (once-in-parameters seen ps)
-unfolding once-in-parameters
+unfolding once-in-parameters each-beside once-in-parameter
 once-in-parameters-from seen [] = tt
 once-in-parameters-from seen (p ∷ ps) =
-    by-cases (λ (o : Check). IfRefused OtherRefusal o) _ _ _ (λ e. (inl (lit≤ tt, lit≤ tt), refl))
-    (λ e. then-from OtherRefusal _ _ (once-in-from (p .signature)) (once-in-parameters-from (p .name ∷ seen) ps))
+    then-from OtherRefusal _ _
+    (then-from OtherRefusal _ _ (needs-from OtherRefusal declared-twice _ _ (inl (lit≤ tt, lit≤ tt), refl)) (once-in-from (p .signature)))
+    (once-in-parameters-from (p .name ∷ seen) ps)
 
 own-checks-from : (m : Module) (seen : List Name) (v : Visible) → IfRefused OtherRefusal (own-checks m seen v)
 unfolding own-checks available-sorts
 own-checks-from m seen v =
-    then-from OtherRefusal _ _ (consistent-from v _) (then-from OtherRefusal _ _ available (unless-other 12 _ (inl (lit≤ tt, lit≤ tt))))
+    then-from OtherRefusal _ _ (consistent-from v _) (then-from OtherRefusal _ _ available (unless-other bad-variable _ (inl (lit≤ tt, lit≤ tt))))
   where
     available : IfRefused OtherRefusal (available-sorts m seen)
     available =
-        then-from OtherRefusal _ _ (unless-other 13 _ (inl (lit≤ tt, lit≤ tt)))
-        (then-from OtherRefusal _ _ (unless-other 13 _ (inl (lit≤ tt, lit≤ tt)))
-        (then-from OtherRefusal _ _ (unless-other 13 _ (inl (lit≤ tt, lit≤ tt))) (unless-other 13 _ (inl (lit≤ tt, lit≤ tt)))))
+        then-from OtherRefusal _ _ (unless-other bad-sort _ (inl (lit≤ tt, lit≤ tt)))
+        (then-from OtherRefusal _ _ (unless-other bad-sort _ (inl (lit≤ tt, lit≤ tt)))
+        (then-from OtherRefusal _ _ (unless-other bad-sort _ (inl (lit≤ tt, lit≤ tt))) (unless-other bad-sort _ (inl (lit≤ tt, lit≤ tt)))))
 
 made-from : (home at : ℕ) (tag : Name) (c : Option ResolvedSides) (ks : Option (List ResolvedSides))
     → IfRefused OtherRefusal (made-equation home at tag c ks)
@@ -333,7 +334,7 @@ pub refused-from : (declared earlier : List Name) (home : ℕ) (total : Size) (e
 refused-from declared earlier home total env m e =
     subst (λ (o : Outcome Normal). IfRefused OfEvaluating o) e (evaluate-from declared earlier home total env m)
 
-from-seven : (k : ℕ) (w : Culprit) → OfEvaluating k w → 7 ≤ k
+from-seven : (k : ℕ) (w : Culprit) → OfEvaluating k w → named-absent ≤ k
 from-seven k w (inl (inl h, e)) = h .0
 from-seven k w (inl (inr h, e)) = omega (arith, h .0)
 from-seven k w (inr (inl h)) = omega (arith, h .0)
@@ -341,11 +342,11 @@ from-seven k w (inr (inr h)) = omega (arith, h .0)
 
 abbrev FromSix : Ended → Type 0
 FromSix (normalised count n) = Unit {0}
-FromSix (refused-at number count told culprit) = 6 ≤ number
+FromSix (refused-at number count told culprit) = asked-absent ≤ number
 
 -- what evaluating refuses has a number from 6 up, so 0 is no refusal's
 pub refused-from-six : (asked : Name) (ms : List Module) (number count : ℕ) (told : Name) (culprit : Culprit)
-    → normalise asked ms ≡ refused-at number count told culprit → 6 ≤ number
+    → normalise asked ms ≡ refused-at number count told culprit → asked-absent ≤ number
 unfolding normalise
 refused-from-six asked ms number count told culprit e =
     subst FromSix e
@@ -359,11 +360,11 @@ refused-from-six asked ms number count told culprit e =
 
 -- a call that gives 1 to 6 has evaluated nothing
 pub none-evaluated : (memory-lent output-lent : ℕ) (asked : Name) (texts : Texts) → let r = answer memory-lent output-lent asked texts in
-    1 ≤ r .number → r .number ≤ 6 → r .modules ≡ 0
+    no-token-there ≤ r .number → r .number ≤ asked-absent → r .modules ≡ 0
 none-evaluated memory-lent output-lent asked texts low high =
     go (answer memory-lent output-lent asked texts) (counted memory-lent output-lent asked texts) low high
   where
-    go : (r : Answer) → Counted memory-lent asked texts r → 1 ≤ r .number → r .number ≤ 6 → r .modules ≡ 0
+    go : (r : Answer) → Counted memory-lent asked texts r → no-token-there ≤ r .number → r .number ≤ asked-absent → r .modules ≡ 0
     go r (memory-short d e h) low high = h
     go r (not-read l number at q e h) low high = h
     go r (not-there ms q d e h) low high = h

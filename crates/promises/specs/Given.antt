@@ -5,6 +5,7 @@ use Prim.Native.Nat.{ℕ, _≤_}
 use native.Mathlib.Omega.{arith}
 use mathlib.Core.List.{List, []}
 use lib.Dec.{lit≤}
+use Rattle.meaning.specs.Numbers.{bad-parameter, ill-typed, lent-short, formal-absent, other-type}
 use Rattle.meaning.specs.Laws.{by-cases}
 use Rattle.meaning.specs.Names.{Name}
 use Rattle.meaning.specs.Syntax.{Module}
@@ -16,9 +17,16 @@ use Rattle.meaning.specs.Answer.{Answer, refusal, of-ended, unread, of-read, wi
 use Rattle.promises.specs.Counts.{BindingMistake, OfEvaluating, CountedIn, in-turn-counted, refused-from}
 use Rattle.promises.specs.ReadNumbers.{refused-low}
 
+-- the numbers that came back once: 16, a binding pair wrong, which 22 to 27 replace (document 02, Five), and 20, imports in a cycle (Nine)
+abbrev pub bad-binding : ℕ
+bad-binding = 16
+
+abbrev pub in-cycle : ℕ
+in-cycle = 20
+
 abbrev pub Given : Answer → Type 0
 Given r =
-    (((r .number ≤ 15) ⊎ ((17 ≤ r .number) × (r .number ≤ 19))) × (r .culprit .actual ≡ [])) ⊎ BindingMistake (r .number) (r .culprit)
+    (((r .number ≤ bad-parameter) ⊎ ((ill-typed ≤ r .number) × (r .number ≤ lent-short))) × (r .culprit .actual ≡ [])) ⊎ BindingMistake (r .number) (r .culprit)
 
 evaluating-given : (k count : ℕ) (m : Name) (w : Culprit) → OfEvaluating k w → Given (refusal k count m w 0)
 unfolding refusal
@@ -46,30 +54,30 @@ module _ (memory-lent output-lent : ℕ) (asked : Name) (texts : Texts) where
       by-cases Given _ _ _ (λ e. inl (inr (lit≤ tt, lit≤ tt), refl))
       (λ e. by-cases Given _ _ _ (λ f. read-given (read-texts texts) refl) (λ f. inl (inr (lit≤ tt, lit≤ tt), refl)))
 
-  -- 16 and 20 are none of them
-  pub never-sixteen : answer memory-lent output-lent asked texts .number ≡ 16 → ⊥
+  -- they are given no more
+  pub never-sixteen : answer memory-lent output-lent asked texts .number ≡ bad-binding → ⊥
   never-sixteen e = go (answer memory-lent output-lent asked texts) given e
     where
-      go : (r : Answer) → Given r → r .number ≡ 16 → ⊥
+      go : (r : Answer) → Given r → r .number ≡ bad-binding → ⊥
       go r (inl (inl h, b)) e = omega arith
       go r (inl (inr h, b)) e = omega (arith, h .0)
       go r (inr (inl h)) e = omega (arith, h .0)
       go r (inr (inr h)) e = omega (arith, h .0)
 
-  pub never-twenty : answer memory-lent output-lent asked texts .number ≡ 20 → ⊥
+  pub never-twenty : answer memory-lent output-lent asked texts .number ≡ in-cycle → ⊥
   never-twenty e = go (answer memory-lent output-lent asked texts) given e
     where
-      go : (r : Answer) → Given r → r .number ≡ 20 → ⊥
+      go : (r : Answer) → Given r → r .number ≡ in-cycle → ⊥
       go r (inl (inl h, b)) e = omega arith
       go r (inl (inr h, b)) e = omega (arith, h .1)
       go r (inr (inl h)) e = omega (arith, h .0)
       go r (inr (inr h)) e = omega (arith, h .0)
 
   -- an actual name is told with 22 to 26 alone
-  pub actual-blank : let r = answer memory-lent output-lent asked texts in ((22 ≤ r .number) × (r .number ≤ 26)) ⊎ (r .culprit .actual ≡ [])
+  pub actual-blank : let r = answer memory-lent output-lent asked texts in ((formal-absent ≤ r .number) × (r .number ≤ other-type)) ⊎ (r .culprit .actual ≡ [])
   actual-blank = go (answer memory-lent output-lent asked texts) given
     where
-      go : (r : Answer) → Given r → ((22 ≤ r .number) × (r .number ≤ 26)) ⊎ (r .culprit .actual ≡ [])
+      go : (r : Answer) → Given r → ((formal-absent ≤ r .number) × (r .number ≤ other-type)) ⊎ (r .culprit .actual ≡ [])
       go r (inl h) = inr (h .1)
       go r (inr (inl h)) = inl h
       go r (inr (inr h)) = inr (h .1)

@@ -3,11 +3,11 @@ use mathlib.Core.Path.{_≡_, refl, ap, _∙_}
 use Prim.Native.Nat.{ℕ, _+_}
 use mathlib.Core.Bool.{Bool, false}
 use mathlib.Core.List.{List, [], _∷_, _++_, map, append-assoc}
-use Rattle.meaning.specs.Lists.{pick}
+use Rattle.meaning.specs.Lists.{pick, before}
 use Rattle.meaning.specs.Names.{bytes, Name, same, member, words}
 use Rattle.meaning.specs.Origins.{Origin, ResolvedEquation, Shape, Item}
 use Rattle.meaning.specs.Normal.{Hidden, Normal}
-use Rattle.meaning.specs.Listing.{Line, line, origin-line, kind-key, visible-lines, hidden-item-lines, equation-line, hidden-lines, listing-lines, visible-keys, shown}
+use Rattle.meaning.specs.Listing.{Line, line, origin-line, kind-key, visible-lines, hidden-item-lines, equation-line, hidden-lines, listing-lines, visible-keys, shown, listing-keys}
 use Rattle.promises.specs.ListingLaws.{by-kind}
 
 -- ---- lines of which none is shown
@@ -28,7 +28,7 @@ origin-dropped o ls = refl
 
 -- opens what the keys are tested by
 unfoldable key-opened : Unit {0}
-unfolding same member pick visible-keys words
+unfolding same member pick visible-keys words listing-keys before
 key-opened = tt
 
 item-hides : (s : Shape) → Hides (kind-key "hidden-sort" "hidden-function" "variable" s)

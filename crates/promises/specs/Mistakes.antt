@@ -13,12 +13,12 @@ use lib.ListN.{length}
 use Rattle.meaning.specs.Laws.{by-cases}
 use Rattle.meaning.specs.Lists.{pick, keep, any}
 use Rattle.meaning.specs.Names.{Name, same, member}
-use Rattle.meaning.specs.Numbers.{memory-size, program-output, formal-absent, formal-twice, actual-absent, other-kind, other-type, formal-unpaired}
+use Rattle.meaning.specs.Numbers.{memory-size, program-output, formal-absent, formal-twice, actual-absent, other-kind, other-type, formal-unpaired, lent-short}
 use Rattle.meaning.specs.Syntax.{Pair, Clause, renamed-by, bound-by, Import}
 use Rattle.meaning.specs.Origins.{Shape, sort-shape, function-shape, variable-shape, is-sort, is-function, Item}
 use Rattle.meaning.specs.Written.{shape-rank}
 use Rattle.meaning.specs.Normal.{Visible, Normal, empty, names-in, sorts-among, sort-names, is-called, formals}
-use Rattle.meaning.specs.Checks.{Culprit, lone, Outcome, fine, stop, _>>=_, _>>_, Check, unless, needs, checked}
+use Rattle.meaning.specs.Checks.{Culprit, lone, Outcome, fine, stop, _>>=_, _>>_, Check, unless, needs, checked, each-beside}
 use Rattle.meaning.specs.Clauses.{rename, sorts-right, kind-right, type-right, all-right, pair-right, pairs-right, unpaired, bound-to, bind}
 use Rattle.meaning.specs.Evaluate.{Evaluated, named-by, names-right, declared-once, normal-of, clause, clauses, expressions, united, imported, joined-own, evaluate}
 use Rattle.meaning.specs.Reached.{Placed, reached, Ended, end-or, total-of, in-turn, module-names, normalise}
@@ -33,15 +33,15 @@ use Rattle.promises.specs.SoundEvaluation.{Whole, WholeEnv, normal-of-wh
 use Rattle.promises.specs.PlainText.{read-plain}
 use Rattle.promises.specs.Counts.{BindingMistake, OtherNumber, OtherRefusal, IfRefused, checked-from, rename-from, united-from, names-right-from, declared-once-from, joined-own-from, refusal-within}
 use Rattle.promises.specs.ReadNumbers.{refused-low}
-use Rattle.promises.specs.Given.{never-sixteen}
+use Rattle.promises.specs.Given.{never-sixteen, bad-binding}
 use Rattle.promises.specs.TwoCalls.{pick-both, evaluated}
-use Rattle.promises.specs.OldBinding.{bad-binding, shape-right, right-pair, wrong-pair, bound-before, bind-before, clause-before, clauses-before, expressions-before, evaluate-before, in-turn-before, normalise-by, of-read-by, answer-by, turns-before, answer-before, answer-to-by, printed-before, asfnorm-before}
+use Rattle.promises.specs.OldBinding.{shape-right, right-pair, wrong-pair, bound-before, bind-before, clause-before, clauses-before, expressions-before, evaluate-before, in-turn-before, normalise-by, of-read-by, answer-by, turns-before, answer-before, answer-to-by, printed-before, asfnorm-before}
 
 -- ---- what was told, and what is told
 
 -- k was told with w, and j is told with v: the same, none of 22 to 27; or 16, and one of these with the same formal
 abbrev pub Told : ℕ → Culprit → ℕ → Culprit → Type 0
-Told k w j v = ((k ≡ j) × (w ≡ v) × (j ≤ 19)) ⊎ ((k ≡ bad-binding) × (w ≡ lone (v .name)) × BindingMistake j v)
+Told k w j v = ((k ≡ j) × (w ≡ v) × (j ≤ lent-short)) ⊎ ((k ≡ bad-binding) × (w ≡ lone (v .name)) × BindingMistake j v)
 
 abbrev pub Retold : {A : Type 0} → Outcome A → Outcome A → Type 0
 Retold (fine a) (fine b) = a ≡ b
@@ -49,7 +49,7 @@ Retold (fine a) (stop j v) = ⊥
 Retold (stop k w) (fine b) = ⊥
 Retold (stop k w) (stop j v) = Told k w j v
 
-up-to-nineteen : (k : ℕ) → OtherNumber k → k ≤ 19
+up-to-nineteen : (k : ℕ) → OtherNumber k → k ≤ lent-short
 up-to-nineteen k (inl h) = omega (arith, h .1)
 up-to-nineteen k (inr h) = omega (arith, h .1)
 
@@ -131,7 +131,7 @@ one-retold r true true true true true more now h k = k
 
 module _ (formal : List Item) (rs : List Pair) (whole actual : Visible) where
   abbrev kind-of : Name → Shape → Bool
-  kind-of = kind-right formal rs whole actual
+  kind-of = kind-right actual
 
   abbrev type-of : Name → Shape → Bool
   type-of = type-right formal rs whole actual
@@ -156,7 +156,7 @@ module _ (formal : List Item) (rs : List Pair) (whole actual : Visible) where
       let j = any-found _ (actual .items) e in any-passes (is-called w) (actual .items) (j .0) (j .1) (both-true (is-called w (j .0)) _ (j .2) .0)
 
   module _ (ranks : Every (λ i. shape-rank (i .shape) ≤ 1) formal) where
-    actual-found : (r : Pair) → any (is-called (r .old)) formal ≡ true → all-right formal rs whole actual kind-of r ≡ true
+    actual-found : (r : Pair) → any (is-called (r .old)) formal ≡ true → all-right formal kind-of r ≡ true
         → any (is-called (r .new)) (actual .items) ≡ true
     unfolding all-right
     actual-found r there right =
@@ -168,7 +168,7 @@ module _ (formal : List Item) (rs : List Pair) (whole actual : Visible) where
 
     pairs-retold : (seen : List Name) (xs : List Pair)
         → Retold (unless bad-binding (wrong-pair formal rs whole actual seen xs)) (pairs-right formal rs whole actual seen xs)
-    unfolding wrong-pair right-pair pairs-right pair-right all-right unless
+    unfolding wrong-pair right-pair pairs-right pair-right all-right unless each-beside
     pairs-retold seen [] = refl
     pairs-retold seen (x ∷ xs) =
         rw (all-both (is-called (x .old)) (λ (i : Item). kind-of (x .new) (i .shape)) (λ (i : Item). type-of (x .new) (i .shape))
@@ -191,7 +191,7 @@ bind-retold p rs n actual whole =
     every-so SoundVisible (λ i. shape-rank (i .shape) ≤ 1) formal (λ i s. s .kind) (every-keep SoundVisible _ (v .items) (whole .sound .visible)) in
     pick-both Retold _ _ _ _ _
     (retold-then _ _ _ _ (pairs-retold formal rs v (actual .visible) ranks [] rs)
-    (retold-then _ _ _ _ (unpaired-retold (unpaired formal rs v (actual .visible))) (retold-same (checked _) (checked-from _))))
+    (retold-then _ _ _ _ (unpaired-retold (unpaired formal rs)) (retold-same (checked _) (checked-from _))))
     (inl (refl, refl, lit≤ tt))
 
 module _ (env : List Evaluated) (whole : WholeEnv env) where
@@ -239,7 +239,7 @@ pub record Mistake (before now : Answer) : Type 0 where
   pub told-now : now ≡ refusal number count evaluating culprit 0
 
 abbrev pub RetoldAnswer : Answer → Answer → Type 0
-RetoldAnswer before now = ((before ≡ now) × (now .number ≤ 19)) ⊎ Mistake before now
+RetoldAnswer before now = ((before ≡ now) × (now .number ≤ lent-short)) ⊎ Mistake before now
 
 module _ (memory-lent output-lent : ℕ) (asked : Name) (texts : Texts) where
   abbrev RetoldEnd : Ended → Ended → Type 0
@@ -282,7 +282,7 @@ module _ (memory-lent output-lent : ℕ) (asked : Name) (texts : Texts) where
   retold-within : (r s : Answer) → RetoldAnswer r s → RetoldAnswer (within output-lent asked r) (within output-lent asked s)
   unfolding within refusal
   retold-within r s (inl h) =
-      inl (ap (within output-lent asked) (h .0), by-cases (λ (t : Answer). t .number ≤ 19) _ _ _ (λ e. h .1) (λ e. lit≤ tt))
+      inl (ap (within output-lent asked) (h .0), by-cases (λ (t : Answer). t .number ≤ lent-short) _ _ _ (λ e. h .1) (λ e. lit≤ tt))
   retold-within r s (inr m) =
       inr (record {
         number = m .number;
@@ -310,9 +310,9 @@ input-retold memory-lent output-lent input =
 pub record OneForAnother (r s : Answer) : Type 0 where
   -- 16 exactly where one of 22 to 27 is now
   pub from-sixteen : r .number ≡ bad-binding → BindingMistake (s .number) (s .culprit)
-  pub to-sixteen : 22 ≤ s .number → r .number ≡ bad-binding
+  pub to-sixteen : formal-absent ≤ s .number → r .number ≡ bad-binding
   -- which none was before, and 16 is no more
-  pub none-before : r .number ≤ 19
+  pub none-before : r .number ≤ lent-short
   pub none-now : s .number ≡ bad-binding → ⊥
 
 one-for-another : (r s : Answer) → RetoldAnswer r s → (s .number ≡ bad-binding → ⊥) → OneForAnother r s
@@ -342,9 +342,9 @@ numbers-retold memory-lent output-lent asked texts =
 
 -- ---- what is printed
 
-printed-low : (r : Answer) → r .number ≤ 19 → printed-before r ≡ printed r
+printed-low : (r : Answer) → r .number ≤ lent-short → printed-before r ≡ printed r
 unfolding printed-before printed printed-lines names-told tells-actual pick
-printed-low r h = rw (lt-leb 22 (r .number) (omega arith))
+printed-low r h = rw (lt-leb formal-absent (r .number) (omega arith))
 
 -- every input: the same bytes, or a binding's mistake
 pub printed-retold : (input : List ℕ) → (asfnorm-before input ≡ asfnorm input)

@@ -24,7 +24,7 @@ use Rattle.promises.specs.Members.{clear, found-later, member-here, memb
 use Rattle.promises.specs.Demand.{placed-among, all-placed}
 use Rattle.promises.specs.Alone.{earlier-names}
 use Rattle.promises.specs.Library.{names-both, not-both}
-use Rattle.promises.specs.Given.{never-twenty}
+use Rattle.promises.specs.Given.{never-twenty, in-cycle}
 use Rattle.promises.specs.OldBinding.{normalise-by, of-read-by, answer-by}
 
 -- ---- what a module's names reach
@@ -128,10 +128,6 @@ pub record Naming : Type 0 where
 abbrev pub without-names : List Naming → List Evaluated
 without-names env = map (λ (e : Naming). e .evaluated) env
 
--- 20: imports in a cycle
-abbrev pub in-cycle : ℕ
-in-cycle = 20
-
 -- the names of the modules that the names reach, among those evaluated, the latest first
 unfoldable pub reached-from : List Name → List Naming → List Name
 reached-from wanted [] = []
@@ -185,7 +181,7 @@ in-a-cycle :
     ∷ record { evaluated = record { name = bytes "M"; normal = empty }; names = [] }
     ∷ [])
     cyclic
-    ≡ stop 20 (lone (bytes "M"))
+    ≡ stop in-cycle (lone (bytes "M"))
 unfolding all-opened cyclic acyclic reached-from
 in-a-cycle = refl
 

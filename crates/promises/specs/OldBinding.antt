@@ -23,11 +23,9 @@ use Rattle.meaning.specs.Texts.{Texts, two-texts, Reading, all-read, refused-in
 use Rattle.meaning.specs.Answer.{Answer, refusal, of-ended, unread, within, place-text, request, request-end, has-request, library-too-long, texts-in}
 use Rattle.meaning.specs.Listing.{line, lines-text}
 use Rattle.meaning.specs.Trials.{all-opened}
+use Rattle.promises.specs.Given.{bad-binding}
 
 -- ---- the rule as it was: 16 for every mistake, with the formal's name alone
-
-abbrev pub bad-binding : ℕ
-bad-binding = 16
 
 module _ (formal : List Item) (rs : List Pair) (whole actual : Visible) where
   unfoldable pub shape-right : Name → Shape → Bool
@@ -36,7 +34,7 @@ module _ (formal : List Item) (rs : List Pair) (whole actual : Visible) where
   shape-right new (function-shape t) =
       sorts-right formal rs whole actual t
       && any (λ (i : Item). is-called new i
-      && same-shape (function-shape (move-type (new-sort formal rs whole actual) (new-function formal rs whole actual) t)) (i .shape)) (actual .items)
+      && same-shape (function-shape (move-type (new-sort formal rs) (new-function formal rs) t)) (i .shape)) (actual .items)
 
   -- a name of both kinds needs both
   unfoldable pub right-pair : Pair → Bool
@@ -53,11 +51,11 @@ module _ (formal : List Item) (rs : List Pair) (whole actual : Visible) where
 unfoldable pub bound-before : Name → List Pair → Normal → Normal → Outcome Normal
 bound-before p rs n actual =
     let formal = formals p (n .visible) in
-    let σ = new-sort formal rs (n .visible) (actual .visible) in
-    let φ = new-function formal rs (n .visible) (actual .visible) in
+    let σ = new-sort formal rs in
+    let φ = new-function formal rs in
     do
       unless bad-binding (wrong-pair formal rs (n .visible) (actual .visible) [] rs)
-      unless bad-binding (unpaired formal rs (n .visible) (actual .visible))
+      unless bad-binding (unpaired formal rs)
       checked (unite (move σ φ (without p n)) actual)
 
 unfoldable pub bind-before : Name → List Pair → Normal → Normal → Outcome Normal

@@ -147,7 +147,7 @@ in-read f (all-read ms) = in-ended f (normalise (bytes "M") ms)
 in-read f (refused-in l number at) = []
 
 homes : Texts → List ℕ
-homes texts = in-read (λ n. map (λ (e : ResolvedEquation). e .home) (n .hidden .equations)) (read-texts texts)
+homes texts = in-read (λ n. map (λ (e : ResolvedEquation). e .module-number) (n .hidden .equations)) (read-texts texts)
 
 one-homes : homes one-pair ≡ 1 ∷ 1 ∷ 2 ∷ []
 unfolding all-opened homes in-read in-ended one-pair

@@ -15,8 +15,8 @@ use Rattle.meaning.specs.Normal.{Visible, Normal, nothing-visible, empty}
 use Rattle.meaning.specs.Checks.{Culprit, lone, Outcome, fine, stop, Check}
 use Rattle.meaning.specs.Evaluate.{Evaluated, named-by, names-right, evaluate, import-names, missing, too-late, joined-visible}
 use Rattle.meaning.specs.Reached.{Placed, reached, Ended, normalised, refused-at, end-or, total-of, in-turn, module-names, short-or-blank, normalise}
-use Rattle.meaning.specs.Mirror.{Mirrors, fine-same}
-use Rattle.meaning.specs.Visibly.{Seen, seen-of, visible-half, evaluate-visibly, evaluate-mirrors, imported-visibly}
+use Rattle.meaning.specs.OutcomeLaws.{Mirrors}
+use Rattle.meaning.specs.VisiblyLaws.{seen-of, visible-half, evaluate-mirrors}
 use Rattle.meaning.specs.Written.{visible-in-order}
 use Rattle.meaning.specs.Texts.{Texts}
 use Rattle.meaning.specs.Listing.{line, lines-text, visible-lines, shown}
@@ -29,6 +29,8 @@ use Rattle.promises.specs.VisiblePart.{visible-part}
 use Rattle.promises.specs.Tied.{ended-tied}
 use Rattle.promises.specs.TwoCalls.{in-turn-so}
 use Rattle.promises.specs.Demand.{ReadAs, SameButHidden, Counterparts, InTurn, RefusedAtMost, InTheCall, Comparable, SameAnswer, ShortOfRoom, Agreeing, Demand3}
+use Rattle.meaning.specs.OutcomeLaws.{fine-same}
+use Rattle.meaning.specs.VisiblyLaws.{Seen, imported-visibly, evaluate-visibly}
 
 -- with the visible part of the last module, or with the refusal
 pub data EndedVisibly : Type 0 where

@@ -13,7 +13,7 @@ use Rattle.meaning.specs.Listing.{line, lines-text, equation-line, hidden-lines
 use Rattle.meaning.specs.Grammar.{name, equation, is}
 use Rattle.meaning.specs.Answer.{listing}
 use Rattle.meaning.specs.OrderLaws.{Rearranged, NoTie, order-of, then-both, bytes-ordered, bytes-antisymmetric, bytes-levelled, names-ordered, names-levelled, same-equal, not-after-antisymmetric, by-two-both, sorted-map, sorted-one, sorted-rearranged}
-use Rattle.meaning.specs.ListingOrder.{by-standing, by-rank, visible-ordered, hidden-ordered, Place, place-order, by-home, by-position, place-ordered}
+use Rattle.meaning.specs.ListingOrder.{by-standing, by-rank, visible-ordered, hidden-ordered, Place, place-order, by-position, place-ordered, by-module}
 pub use Rattle.laws.specs.EveryLaws.{kept-member}
 
 -- ---- the same items and equations, in whatever order
@@ -41,7 +41,7 @@ HiddenTold sorts is =
 -- equations of one module, position and written line are one
 abbrev pub EquationsTold : List Item → List ResolvedEquation → Type 0
 EquationsTold hidden es =
-    (a b : ResolvedEquation) → List·Memᴰ a es → List·Memᴰ b es → a .home ≡ b .home → a .position ≡ b .position
+    (a b : ResolvedEquation) → List·Memᴰ a es → List·Memᴰ b es → a .module-number ≡ b .module-number → a .position ≡ b .position
     → equation-text hidden a ≡ equation-text hidden b → a ≡ b
 
 abbrev pub sorts-in-order : List Item → List Item
@@ -140,16 +140,16 @@ hidden-items-one is is′ d told =
 place-told : (a b : Place) → place-order a b ≡ true → place-order b a ≡ true → a ≡ b
 unfolding place-order
 place-told a b e f =
-    let r = then-both by-home a b _ _ e f in
+    let r = then-both by-module a b _ _ e f in
     let s = then-both by-position a b _ _ (r .1) (r .2) in
-    let homes = eqb-true (a .home) (b .home) (r .0) in
+    let homes = eqb-true (a .module-number) (b .module-number) (r .0) in
     let positions = eqb-true (a .position) (b .position) (s .0) in
     let texts = bytes-antisymmetric (a .text) (b .text) (s .1) (s .2) in
-    λ i. record { home = homes i; position = positions i; text = texts i }
+    λ i. record { module-number = homes i; position = positions i; text = texts i }
 
 module _ (hidden : List Item) where
   place-of : ResolvedEquation → Place
-  place-of e = record { home = e .home; position = e .position; text = equation-text hidden e }
+  place-of e = record { module-number = e .module-number; position = e .position; text = equation-text hidden e }
 
   abbrev ordered-equations : List ResolvedEquation → List ResolvedEquation
   ordered-equations es = sorted (equation-order hidden) es
@@ -178,7 +178,7 @@ module _ (hidden : List Item) where
   equations-one d told =
       sorted-one (order-of place-ordered place-of) d (λ a b m k e f.
       let p = place-told (place-of a) (place-of b) e f in
-      told a b m k (ap (λ (x : Place). x .home) p) (ap (λ (x : Place). x .position) p) (ap (λ (x : Place). x .text) p))
+      told a b m k (ap (λ (x : Place). x .module-number) p) (ap (λ (x : Place). x .position) p) (ap (λ (x : Place). x .text) p))
 
 -- ---- one listing
 

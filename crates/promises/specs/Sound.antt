@@ -23,7 +23,7 @@ use Rattle.meaning.specs.OrderLaws.{Pairwise, sorted-rearranged, sorted-length,
 use Rattle.laws.specs.EveryLaws.{every-so, every-append, kept-member, every-keep, pairwise-members}
 pub use Rattle.laws.specs.EveryLaws.{every-member, every-map, every-union, every-any, any-found, any-passes, in-union-left, in-union-right, member-keep, member-map-to}
 pub use Rattle.laws.specs.Outcomes.{Gives, gives-bound, gives-then, both-fine as then-fine}
-pub use Rattle.meaning.specs.Mirror.{unless-fine}
+pub use Rattle.meaning.specs.OutcomeLaws.{unless-fine}
 use Rattle.laws.specs.OwnItems.{declared-name}
 use Rattle.promises.specs.SameListing.{HiddenTold, ItemsTold, SlotsTold, VisibleTold, sorts-in-order}
 use Rattle.promises.specs.Told.{Few, Sound, SoundHidden, SoundVisible, Stands, StandsIn, item-of-origin, origin-of-item, shape-wider}

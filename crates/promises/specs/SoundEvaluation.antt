@@ -13,7 +13,6 @@ use Rattle.meaning.specs.Lists.{pick, keep, union, sorted-onto}
 use Rattle.meaning.specs.Names.{Name, same, member}
 use Rattle.meaning.specs.Origins.{visible-sort, Section, export-section, parameter-section, hidden-section, declared-sort, declared-function, is-sort, one-item, one-equation, Item, ResolvedEquation, in-parameter}
 use Rattle.meaning.specs.Checks.{lone, fine, Size, size, fits, room}
-use Rattle.meaning.specs.Mirror.{needs-fine}
 use Rattle.meaning.specs.Own.{resolved, function-type, own-sort, own-function, own-section, own-slot, own-visible, own-variable, own-hidden-items, available-sorts}
 use Rattle.meaning.specs.Typing.{typed}
 use Rattle.meaning.specs.Syntax.{Function, Signature, Parameter, Variable, variables-of, Pair, Clause, Import, Module}
@@ -23,7 +22,7 @@ use Rattle.meaning.specs.Normal.{Visible, nothing-visible, nothing-hidden, empt
 use Rattle.meaning.specs.Written.{shape-rank, visible-in-order, hidden-in-order, in-order}
 use Rattle.meaning.specs.Listing.{lines-text, listing-lines}
 use Rattle.promises.specs.ListingLaws.{Plain, PlainSection, PlainDeclared, SortIn, PlainEquation, both-true}
-use Rattle.meaning.specs.Numbers.{asked-absent}
+use Rattle.meaning.specs.Numbers.{asked-absent, parameter-room, item-room}
 use Rattle.meaning.specs.Grammar.{name, signature, exports, imports, variables, is}
 use Rattle.meaning.specs.Reached.{reached-among, reached, normalised, refused-at, in-turn, module-names, short-or-blank, normalise}
 use Rattle.meaning.specs.OrderLaws.{rearranged-every, rearranged-length, rearranged-member, Every, Pairwise, same-equal}
@@ -39,6 +38,7 @@ use Rattle.promises.specs.Public.{shown-only, own-shown}
 use Rattle.promises.specs.TypedBinding.{bound-typed}
 use Rattle.promises.specs.TypedOwn.{InReach, equations-typed, typed-plain}
 use Rattle.promises.specs.TermsTold.{OneOutput, one-output}
+use Rattle.meaning.specs.OutcomeLaws.{needs-fine}
 
 -- what evaluating keeps: the items are sound and the equations well typed
 pub record Whole (n : Normal) : Type 0 where
@@ -298,8 +298,8 @@ room-few : (n : Normal) → room n ≡ fine tt → Few n
 unfolding room size
 room-few n e =
     let items = length (n .visible .items) + length (n .hidden .items) in
-    let r = both-true (leb (length (n .visible .parameters)) 8 && leb items 512) _ (fits-fine _ e) in
-    omega (arith, leb-true items 512 (both-true (leb (length (n .visible .parameters)) 8) (leb items 512) (r .0) .1))
+    let r = both-true (leb (length (n .visible .parameters)) parameter-room && leb items item-room) _ (fits-fine _ e) in
+    omega (arith, leb-true items item-room (both-true (leb (length (n .visible .parameters)) parameter-room) (leb items item-room) (r .0) .1))
 
 module _ (m : Module) (plain : PlainModule m) (n : Normal) (whole : Whole n) where
   abbrev own-seen : List Name

@@ -19,9 +19,8 @@ use Rattle.meaning.specs.Typing.{alone}
 use Rattle.meaning.specs.Syntax.{node, _then_}
 use Rattle.meaning.specs.Normal.{Slot, Visible, Normal, slot-names, formals, sorts-among}
 use Rattle.meaning.specs.Written.{numbered, sort-text, type-text, function-type-text, origin-text, shape-text, equation-text, shape-rank}
-use Rattle.meaning.specs.Listing.{is-exported, visible-lines, Line, origin-line, kind-key, item-line, exported-lines, formal-lines, parameter-lines, hidden-item-lines, line, lines-text, equation-line, hidden-lines, listing-lines}
+use Rattle.meaning.specs.Listing.{is-exported, visible-lines, Line, origin-line, kind-key, item-line, exported-lines, formal-lines, parameter-lines, hidden-item-lines, line, lines-text, equation-line, hidden-lines, listing-lines, listing-keys}
 use Rattle.promises.specs.ListingLaws.{first-of, rest-of, not-empty, Within, StartsOutside, starts, told-run, in-name, Plain, PlainOrigin, told-origin, origins-of, SortIn, ShapeIn, told-shape, every-so, every-append, PlainLine, told-lines, by-kind, before-map, OneLine, in-line-then, plain-in-line, number-in-line, origin-in-line, shape-in-line, PlainEquation, equation-in-line}
-use Rattle.meaning.specs.Reader.{listing-keys}
 use Rattle.meaning.specs.Answer.{listing}
 use Rattle.meaning.specs.OrderLaws.{Every, same-self}
 use Rattle.promises.specs.SameListing.{kept-member}

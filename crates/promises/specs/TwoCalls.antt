@@ -15,7 +15,7 @@ use Rattle.meaning.specs.Normal.{Normal, empty}
 use Rattle.meaning.specs.Checks.{Culprit, Outcome, fine, stop}
 use Rattle.meaning.specs.Evaluate.{Evaluated, named-by, evaluate}
 use Rattle.meaning.specs.Reached.{wanted, Placed, reached-among, reached, Ended, normalised, refused-at, end-or, total-of, in-turn, module-names, normalise}
-use Rattle.meaning.specs.Mirror.{never}
+use Rattle.meaning.specs.OutcomeLaws.{never}
 use Rattle.meaning.specs.OrderLaws.{Every}
 use Rattle.promises.specs.Members.{member-append}
 use Rattle.promises.specs.Demand.{InTurn}

@@ -65,7 +65,7 @@ none-kept p xs x e m = go (p x) refl
     go false q = elim (subst (List·Memᴰ x) e (member-keep (λ y. not (p y)) xs x m (ap not q))) [ ]
 
 module _ (formal : List Item) (rs : List Pair) (whole actual : Visible) where
-  module _ (right : pairs-right formal rs whole actual [] rs ≡ fine tt) (all : unpaired formal rs whole actual ≡ none) (i : Item) (m : List·Memᴰ i formal) where
+  module _ (right : pairs-right formal rs whole actual [] rs ≡ fine tt) (all : unpaired formal rs ≡ none) (i : Item) (m : List·Memᴰ i formal) where
     -- the pair of a formal name
     pair-of : (r : Pair) × List·Memᴰ r rs × (r .old ≡ i .name) × (renaming rs (i .name) ≡ r .new)
     unfolding unpaired names-in renaming
@@ -83,8 +83,8 @@ module _ (formal : List Item) (rs : List Pair) (whole actual : Visible) where
         second-true _ _ (ap (same (r .old)) (sym e) ∙ same-self (r .old)) here
 
     pub formal-found : (t : FunctionType) → i .shape ≡ function-shape t
-        → Named (actual .items) (new-function formal rs whole actual (i .name) t)
-        (function-shape (move-type (new-sort formal rs whole actual) (new-function formal rs whole actual) t))
+        → Named (actual .items) (new-function formal rs (i .name) t)
+        (function-shape (move-type (new-sort formal rs) (new-function formal rs) t))
     unfolding new-function type-right is-called pick
     formal-found t e =
         let r = pair-of in
@@ -102,13 +102,13 @@ module _ (p : Name) (rs : List Pair) (n actual : Normal) where
   formal-items = formals p (n .visible)
 
   abbrev σ : Name → Name
-  σ = new-sort formal-items rs (n .visible) (actual .visible)
+  σ = new-sort formal-items rs
 
   abbrev φ : Name → FunctionType → Name
-  φ = new-function formal-items rs (n .visible) (actual .visible)
+  φ = new-function formal-items rs
 
   module _ (right : pairs-right formal-items rs (n .visible) (actual .visible) [] rs ≡ fine tt)
-      (all : unpaired formal-items rs (n .visible) (actual .visible) ≡ none) where
+      (all : unpaired formal-items rs ≡ none) where
     abbrev outside : Item → Bool
     outside i = not (in-parameter p (i .standing))
 

@@ -7,14 +7,14 @@ use mathlib.Core.List.{List, [], _∷_, _++_, append-assoc}
 use lib.Dec.{eqb}
 use lib.ListN.{length, getD, drop, length-append, length-drop}
 use lib.Seq.{take-at, drop-append-seam, drop-drop}
-use borrow.Author.Tests.{eq-eqb, ne-eqb, lt-ltb, le-ltb}
+use borrow.Author.Tests.{eq-eqb, ne-eqb, lt-ltb, le-leb}
 use Rattle.meaning.specs.Lists.{pick, each}
 use Rattle.meaning.specs.Names.{bytes, byte, slice, member}
 use Rattle.meaning.specs.Tokens.{run, run-end}
 use Rattle.meaning.specs.OrderLaws.{Every}
-use Rattle.meaning.specs.Listing.{Line, line-text, lines-text}
+use Rattle.meaning.specs.Listing.{Line, line-text, lines-text, listing-keys}
 use Rattle.meaning.specs.Answer.{in-line}
-use Rattle.meaning.specs.Reader.{Reading, a-line, at-end, listing-keys, in-key, line-at}
+use Rattle.meaning.specs.Reader.{Reading, a-line, at-end, in-key, line-at}
 use Rattle.names.proofs.Runs.{run-from}
 use Rattle.promises.specs.ListingLaws.{Within, not-byte, key-letter, PlainLine, key-letters, not-so, both-true, every-so, every-append}
 
@@ -68,7 +68,7 @@ keyed : (text : List ℕ) (at k e : ℕ) → k ≡ run-end in-key text at → e 
 unfolding line-at pick
 keyed text at k e hk he l m h =
     let f = run-from in-key text at k hk in
-    rw (← hk, ← he, le-ltb (length text) at (omega arith), ne-eqb at (length text) (λ z. omega arith), lt-ltb e (length text) m, lt-ltb k e l, h)
+    rw (← hk, ← he, ne-eqb at (length text) (λ z. omega arith), h, lt-ltb k e l, lt-ltb e (length text) m, le-leb at (length text) (omega arith))
 
 pub line-size : (l : Line) → length (line-text l) ≡ length (l .key) + length (l .value) + 2
 unfolding line-text
@@ -120,7 +120,7 @@ pub lines-from : (ls : List Line) (text : List ℕ) (at : ℕ) → at ≤ length
 unfolding Gives lines-text each line-at pick
 lines-from [] text at p h r =
     let e : at ≡ length text = omega (arith, length-drop at text, ap length h) in
-    rw (le-ltb (length text) at (omega arith), eq-eqb at (length text) e)
+    rw (eq-eqb at (length text) e)
 lines-from (l ∷ ls) text at p h r = (
   line-given text at l (lines-text ls) p h (r .0),
   lines-from ls text (at + length (line-text l)) (omega (arith, text-size text at l (lines-text ls) p h)) (lines-past text at l ls h) (r .1),

@@ -3,14 +3,13 @@ use mathlib.Core.Path.{_≡_, refl, sym, ap, _∙_}
 use Prim.Native.String.{String}
 use mathlib.Core.Bool.{Bool, true, false}
 use mathlib.Core.List.{List, [], _∷_, _++_, map}
-use Rattle.meaning.specs.Lists.{pick, each}
+use Rattle.meaning.specs.Lists.{pick, each, before}
 use Rattle.meaning.specs.Names.{bytes, Name, same, member, words}
 use Rattle.meaning.specs.Tokens.{number-in}
 use Rattle.meaning.specs.Origins.{Item, ResolvedEquation}
 use Rattle.meaning.specs.Normal.{Visible, Hidden, Normal, slot-names, formals}
 use Rattle.meaning.specs.OrderLaws.{Every}
-use Rattle.meaning.specs.Reader.{listing-keys}
-use Rattle.meaning.specs.Listing.{Line, line, exported-lines, formal-lines, is-exported, parameter-lines, visible-lines, hidden-item-lines, equation-line, hidden-lines, listing-lines, visible-keys, shown}
+use Rattle.meaning.specs.Listing.{Line, line, exported-lines, formal-lines, is-exported, parameter-lines, visible-lines, hidden-item-lines, equation-line, hidden-lines, listing-lines, visible-keys, shown, listing-keys}
 use Rattle.laws.specs.EveryLaws.{every-append, every-keep, every-each}
 use Rattle.promises.specs.ListingLaws.{Plain, Within, all-pass, within-by, among-so, by-kind}
 use Rattle.promises.specs.Told.{SoundVisible, Sound, exported-of, keyed, formals-sound, items-keyed, every-named}
@@ -21,7 +20,7 @@ use Rattle.reading_back.specs.Front.{leading}
 
 -- opens what keys are tested by
 unfoldable keys-opened : Unit {0}
-unfolding listing-keys visible-keys words member same pick number-in key-number in-front
+unfolding listing-keys visible-keys words member same pick number-in key-number in-front before
 keys-opened = tt
 
 abbrev front-keys : String

@@ -3,21 +3,20 @@
 use mathlib.Core.Path.{_≡_, refl, sym, ap, ap₂, subst, _∙_}
 use Prim.Native.Nat.{ℕ, _+_}
 use native.Mathlib.Omega.{arith}
-use mathlib.Core.Bool.{Bool, true, false, not, _&&_, true≢false, false≢true}
+use mathlib.Core.Bool.{Bool, true, false, not, _&&_, true≢false, false≢true, _||_}
 use mathlib.Core.Option.{Option, none, some, Option·map}
 use mathlib.Core.List.{List, [], _∷_, map, Permᴰ·map}
 use lib.ListN.{length}
 use Rattle.meaning.specs.Laws.{by-cases}
-use Rattle.meaning.specs.Lists.{pick, keep, any, sum, union}
+use Rattle.meaning.specs.Lists.{pick, keep, any, sum, union, first-bad}
 use Rattle.meaning.specs.Names.{Name, same, not-after, member, least, lesser}
 use Rattle.meaning.specs.Numbers.{formal-unpaired}
 use Rattle.meaning.specs.Syntax.{Pair}
 use Rattle.meaning.specs.Origins.{Origin, Sort, visible-sort, hidden-sort, FunctionType, ResolvedTerm, var, app, ResolvedTerms, none-left, _and-then_, ResolvedSides, ResolvedEquation, Shape, sort-shape, function-shape, variable-shape, same-shape, is-function, Item, one-equation}
 use Rattle.meaning.specs.Normal.{Slot, Visible, Normal, names-in, sort-names, is-called, origin-of, slot-names, formals, unite-hidden, unite, move-type, move-equation, move-visible, move-hidden, move, move-item, move-hidden-item}
-use Rattle.meaning.specs.Checks.{Outcome, fine, _>>_, unless, consistent, term-nodes, terms-nodes, sides-nodes, equation-nodes, size, room, checked}
+use Rattle.meaning.specs.Checks.{Outcome, fine, _>>_, unless, consistent, term-nodes, terms-nodes, sides-nodes, equation-nodes, size, room, checked, each-beside}
 use Rattle.meaning.specs.Clauses.{paired, otherwise, renaming, may-name, renames, wrong-renaming, rename, same-origins, is-among, is-formal-sort, new-sort, new-function, sort-right, sorts-right, kind-right, type-right, all-right, pairs-right, unpaired, without-visible, without, bound-to, bind}
 use Rattle.meaning.specs.OrderLaws.{Every, Rearranged, rearranged-length, rearranged-every, any-none}
-use Rattle.meaning.specs.Mirror.{then-fine, unless-fine, fine-same}
 use Rattle.meaning.specs.PairLaws.{RightPair, pair-fine, fine-pair}
 use Rattle.promises.specs.ListingLaws.{both-true}
 use Rattle.promises.specs.SameListing.{keep-rearranged}
@@ -27,6 +26,7 @@ use Rattle.replacing.specs.Exchanging.{map-twice, map-length, any-map, p
 use Rattle.replacing.specs.Reordering.{Tagged, equation-equal, equations-symmetric, sum-rearranged, union-rearranged, none-of}
 use Rattle.replacing.specs.VisibleAlike.{member-rearranged, Once, OneOrigin, consistent-clear, clear-one, Like, like, like-none, any-alike, keep-alike, AlikeVisible, sorts-alike, names-alike, sort-names-alike, member-alike, consistent-alike, formals-alike, origin-of-alike, items-union-alike, unite-visible-alike}
 use Rattle.promises.specs.TwoCalls.{came-through}
+use Rattle.meaning.specs.OutcomeLaws.{then-fine, unless-fine, fine-same}
 
 -- ---- nothing is left, nothing is wrong
 
@@ -48,10 +48,14 @@ none-least (w ∷ ws) e = go (least ws) e
     go (some v) e = by-cases (λ (x : Option Name). x ≡ none → w ∷ ws ≡ []) (not-after w v) (some w) (some v)
         (λ q f. let z : _≡_ {A = ℕ} 0 1 = cc in absurd (omega arith)) (λ q f. let z : _≡_ {A = ℕ} 0 1 = cc in absurd (omega arith)) e
 
-pick-none : {A : Type 0} (b : Bool) (more : Option A) (a : A) → pick b more (some a) ≡ none → (b ≡ true) × (more ≡ none)
+pick-none : {A : Type 0} (b : Bool) (a : A) (more : Option A) → pick b (some a) more ≡ none → (b ≡ false) × (more ≡ none)
 unfolding pick
-pick-none true more a e = (refl, e)
-pick-none false more a e = let z : _≡_ {A = ℕ} 0 1 = cc in absurd (omega arith)
+pick-none true a more e = let z : _≡_ {A = ℕ} 0 1 = cc in absurd (omega arith)
+pick-none false a more e = (refl, e)
+
+neither : (a b : Bool) → (not a || b) ≡ false → (a ≡ true) × (b ≡ false)
+neither true b e = (refl, e)
+neither false b e = absurd (true≢false e)
 
 not-true : (b : Bool) → not b ≡ true → b ≡ false
 not-true true e = absurd (false≢true e)
@@ -252,11 +256,11 @@ module _ (τ : Name → Name) (keeps : (v w : Name) → same (τ v) (τ w) ≡ s
 
   renamings-alike : {is is′ : List Item} → Like (re-item τ) is is′ → (seen : List Name) (rs : List Pair) → Every Easier rs
       → wrong-renaming is seen rs ≡ none → wrong-renaming is′ (map τ seen) (re-pairs rs) ≡ none
-  unfolding wrong-renaming re-pair pick
+  unfolding wrong-renaming re-pair pick first-bad
   renamings-alike d seen [] h e = refl
   renamings-alike {is} {is′} d seen (r ∷ rs) h e =
       let p = pick-none _ _ _ e in
-      let q = both-true _ _ (p .0) in
+      let q = neither _ _ (p .0) in
       rw (renames-alike d r (h .0) (q .0), member-kept τ keeps (r .old) seen, q .1) (renamings-alike d (r .old ∷ seen) rs (h .1) (p .1))
 
   pub rename-alike : {n n′ : Normal} → Both n n′ → (rs : List Pair) → Every Easier rs → (k : Normal) → rename rs n ≡ fine k
@@ -305,21 +309,21 @@ module _ (τ : Name → Name) (keeps : (v w : Name) → same (τ v) (τ w) ≡ s
     actual′ = a′ .visible
 
     abbrev σ : Name → Name
-    σ = new-sort F rs whole actual
+    σ = new-sort F rs
 
     abbrev σ′ : Name → Name
-    σ′ = new-sort F′ (re-pairs rs) whole′ actual′
+    σ′ = new-sort F′ (re-pairs rs)
 
     abbrev φ : Name → FunctionType → Name
-    φ = new-function F rs whole actual
+    φ = new-function F rs
 
     abbrev φ′ : Name → FunctionType → Name
-    φ′ = new-function F′ (re-pairs rs) whole′ actual′
+    φ′ = new-function F′ (re-pairs rs)
 
     like-F : Like (re-item τ) F F′
     like-F = formals-alike τ keeps p (b .alike .visible)
 
-    formal-sort-kept : (s : Name) → is-formal-sort F′ (re-pairs rs) whole′ actual′ (τ s) ≡ is-formal-sort F rs whole actual s
+    formal-sort-kept : (s : Name) → is-formal-sort F′ (τ s) ≡ is-formal-sort F s
     unfolding is-formal-sort
     formal-sort-kept s = any-alike (re-item τ) (is-called (τ s)) (is-called s) (called-kept τ keeps s) (sorts-alike τ keeps like-F)
 
@@ -327,7 +331,7 @@ module _ (τ : Name → Name) (keeps : (v w : Name) → same (τ v) (τ w) ≡ s
     unfolding new-sort
     same-σ s =
         ap₂ (λ (b : Bool) (w : Name). pick b w (τ s)) (formal-sort-kept s) (renaming-kept rs s)
-        ∙ pick-map τ (is-formal-sort F rs whole actual s) (renaming rs s) s
+        ∙ pick-map τ (is-formal-sort F s) (renaming rs s) s
 
     same-φ : (f : Name) (t : FunctionType) → φ′ (τ f) (re-type τ t) ≡ τ (φ f t)
     unfolding new-function re-item re-shape
@@ -371,7 +375,7 @@ module _ (τ : Name → Name) (keeps : (v w : Name) → same (τ v) (τ w) ≡ s
         (λ (s : Sort). not (sort-right F rs whole actual s)) (λ s. ap not (sort-right-kept s)) (t .output ∷ t .inputs))
 
     kind-right-kept : (w : Name) (s : Shape)
-        → kind-right F′ (re-pairs rs) whole′ actual′ (τ w) (re-shape τ s) ≡ kind-right F rs whole actual w s
+        → kind-right actual′ (τ w) (re-shape τ s) ≡ kind-right actual w s
     unfolding kind-right re-shape re-item
     kind-right-kept w sort-shape = member-alike τ keeps w (sort-names-alike τ keeps (c .alike .visible))
     kind-right-kept w (variable-shape s) = refl
@@ -397,7 +401,7 @@ module _ (τ : Name → Name) (keeps : (v w : Name) → same (τ v) (τ w) ≡ s
         (c .alike .visible .items))
 
     all-right-kept : (right right′ : Name → Shape → Bool) → ((w : Name) (s : Shape) → right′ (τ w) (re-shape τ s) ≡ right w s) → (r : Pair)
-        → all-right F′ (re-pairs rs) whole′ actual′ right′ (re-pair τ r) ≡ all-right F rs whole actual right r
+        → all-right F′ right′ (re-pair τ r) ≡ all-right F right r
     unfolding all-right re-pair re-item
     all-right-kept right right′ kept r =
         ap not (any-alike (re-item τ) (λ (i : Item). is-called (τ (r .old)) i && not (right′ (τ (r .new)) (i .shape)))
@@ -412,20 +416,20 @@ module _ (τ : Name → Name) (keeps : (v w : Name) → same (τ v) (τ w) ≡ s
       not-before = ap not (member-kept τ keeps (r .old) seen) ∙ h .not-before;
       actual-there =
           any-alike (re-item τ) (is-called (τ (r .new))) (is-called (r .new)) (called-kept τ keeps (r .new)) (c .alike .visible .items) ∙ h .actual-there;
-      kinds = all-right-kept (kind-right F rs whole actual) (kind-right F′ (re-pairs rs) whole′ actual′) kind-right-kept r ∙ h .kinds;
+      kinds = all-right-kept (kind-right actual) (kind-right actual′) kind-right-kept r ∙ h .kinds;
       types = all-right-kept (type-right F rs whole actual) (type-right F′ (re-pairs rs) whole′ actual′) type-right-kept r ∙ h .types;
     }
 
     pairs-right-kept : (seen : List Name) (xs : List Pair) → pairs-right F rs whole actual seen xs ≡ fine tt
         → pairs-right F′ (re-pairs rs) whole′ actual′ (map τ seen) (re-pairs xs) ≡ fine tt
-    unfolding pairs-right re-pair _>>_
+    unfolding pairs-right re-pair _>>_ each-beside
     pairs-right-kept seen [] e = refl
     pairs-right-kept seen (x ∷ xs) e =
         let both = then-fine _ _ tt e in
         let right = pair-right-kept seen x (pair-fine F rs whole actual seen x (both .0)) in
         rw (fine-pair F′ (re-pairs rs) whole′ actual′ (map τ seen) (re-pair τ x) right) (pairs-right-kept (x .old ∷ seen) xs (both .1))
 
-    none-unpaired : unpaired F rs whole actual ≡ none → unpaired F′ (re-pairs rs) whole′ actual′ ≡ none
+    none-unpaired : unpaired F rs ≡ none → unpaired F′ (re-pairs rs) ≡ none
     unfolding unpaired re-pair
     none-unpaired e =
         let d =
@@ -445,7 +449,7 @@ module _ (τ : Name → Name) (keeps : (v w : Name) → same (τ v) (τ w) ≡ s
     unfolding bound-to _>>_ unless
     bound-alike k e =
         let f = then-fine (pairs-right F rs whole actual [] rs) _ k e in
-        let g = then-fine (unless formal-unpaired (unpaired F rs whole actual)) _ k (f .1) in
+        let g = then-fine (unless formal-unpaired (unpaired F rs)) _ k (f .1) in
         rw (pairs-right-kept [] rs (f .0), none-unpaired (unless-fine _ _ (g .0)))
         (union-follows (move-alike σ σ′ φ φ′ same-σ same-φ (without-alike p (b .alike)) still-tagged) (c .alike)
         (move-tagged σ σ′ φ φ′ same-σ same-φ (without p n) still-tagged) (c .tagged) k (g .1))

@@ -105,7 +105,7 @@ module _ (τ : Name → Name) where
 
   unfoldable pub re-equation : ResolvedEquation → ResolvedEquation
   re-equation e = record {
-    home = e .home;
+    module-number = e .module-number;
     position = e .position;
     tag = e .tag;
     conclusion = re-sides (e .conclusion);

@@ -5,7 +5,7 @@ use mathlib.Core.Path.{_≡_, ap, _∙_, refl, sym, ap₂, subst}
 use Prim.Native.Nat.{ℕ, _+_}
 use native.Mathlib.Omega.{arith}
 use mathlib.Core.List.{List, [], _∷_, map, Permᴰ·symm, _++_, map-append, List·Permᴰ·nil, List·Permᴰ·trans, Permᴰ·refl, Permᴰ·map, Permᴰ·append-right, Permᴰ·append-left}
-use mathlib.Core.Bool.{Bool, _||_}
+use mathlib.Core.Bool.{Bool, _||_, not}
 use mathlib.Core.Option.{Option, none, some, Option·map}
 use Rattle.meaning.specs.Names.{Name, same, member}
 use Rattle.meaning.specs.Numbers.{accepted, declared-twice}
@@ -14,13 +14,12 @@ use Rattle.meaning.specs.Normal.{Normal, Visible, nothing-visible, nothing-hidd
 use Rattle.meaning.specs.Written.{in-order}
 use Rattle.meaning.specs.Reached.{Placed, reached, normalised, normalise, Ended, refused-at, total-of, module-names}
 use Rattle.meaning.specs.OrderLaws.{Every, Rearranged, rearranged-every, rearranged-member}
-use Rattle.meaning.specs.Lists.{pick, any, each, repeated}
+use Rattle.meaning.specs.Lists.{pick, any, each, repeated, first-bad}
 use Rattle.meaning.specs.Origins.{ResolvedEquation, Item, one-equation}
-use Rattle.meaning.specs.Checks.{Outcome, fine, stop, _>>=_, _>>_, unless, consistent, Size, size, add-sizes, room, total-room, checked}
+use Rattle.meaning.specs.Checks.{Outcome, fine, stop, _>>=_, _>>_, unless, consistent, Size, size, add-sizes, room, total-room, checked, needs, each-beside}
 use Rattle.meaning.specs.Own.{own-visible, own-hidden-items, constants}
 use Rattle.meaning.specs.Typing.{made-equation, typed-equations}
-use Rattle.meaning.specs.Evaluate.{Evaluated, clause-names, import-names, named-by, names-right, same-function, name-of-function, once-in, once-in-parameters, declared-once, normal-of, clause, clauses, expressions, united, imported, seen-sorts, joined-visible, own-checks, own-equations, joined-hidden, joined-own, evaluate}
-use Rattle.meaning.specs.Mirror.{then-fine, bind-fine, unless-fine, fine-same}
+use Rattle.meaning.specs.Evaluate.{Evaluated, clause-names, import-names, named-by, names-right, same-function, once-in, once-in-parameters, declared-once, normal-of, clause, clauses, expressions, united, imported, seen-sorts, joined-visible, own-checks, own-equations, joined-hidden, joined-own, evaluate, once-in-parameter}
 use Rattle.promises.specs.ListingLaws.{every-so}
 use Rattle.promises.specs.SameListing.{SameNormal}
 use Rattle.promises.specs.SoundEvaluation.{PlainModule, call-accepted, Whole, empty-whole, Accepted, evaluated-accepted}
@@ -37,16 +36,17 @@ use Rattle.replacing.specs.Reordering.{Tagged}
 use Rattle.replacing.specs.VisibleAlike.{Like, like, like-none, consistent-clear, once-rearranged, clear-one, AlikeVisible, member-alike, sort-names-alike, consistent-alike, items-union-alike}
 use Rattle.replacing.specs.OwnAlike.{each-map, variables-kept, own-visible-alike, own-hidden-kept, available-kept, constants-alike, variables-right, equations-kept, finds-alike}
 use lib.ListN.{getD}
+use Rattle.meaning.specs.OutcomeLaws.{then-fine, bind-fine, unless-fine, fine-same}
 
 -- ---- lists
 
-repeated-none : {A B : Type 0} (g : A → B) (e : B → B → Bool) (d : A → A → Bool) → ((x y : A) → e (g x) (g y) ≡ d x y) → (seen xs : List A)
-    → repeated e (map g seen) (map g xs) ≡ Option·map g (repeated d seen xs)
-unfolding repeated
-repeated-none g e d h seen [] = refl
-repeated-none g e d h seen (x ∷ xs) =
-    ap₂ (λ (b : Bool) (r : Option _). pick b (some (g x)) r) (any-map g (e (g x)) (d x) (h x) seen) (repeated-none g e d h (x ∷ seen) xs)
-    ∙ pick-map (Option·map g) (any (d x) seen) (some x) (repeated d (x ∷ seen) xs)
+repeated-none : {A : Type 0} (g : A → A) (e : A → A → Bool) → ((x y : A) → e (g x) (g y) ≡ e x y) → (τ : Name → Name) (called : A → Name)
+    → ((x : A) → called (g x) ≡ τ (called x)) → (met xs : List A) → repeated called e (map g met) (map g xs) ≡ Option·map τ (repeated called e met xs)
+unfolding repeated first-bad
+repeated-none g e h τ called k met [] = refl
+repeated-none g e h τ called k met (x ∷ xs) =
+    rw (any-map g (e (g x)) (e x) (h x) met, repeated-none g e h τ called k (x ∷ met) xs, k x)
+    (pick-map (Option·map τ) (any (e x) met) (some (called x)) (repeated called e (x ∷ met) xs))
 
 -- the tags of a module's equations, from position `at` on
 abbrev pub HasTags : (ℕ → ℕ → Name) → ℕ → ℕ → List Equation → Type 0
@@ -322,28 +322,23 @@ module _ (τ : Name → Name) (keeps : (v w : Name) → same (τ v) (τ w) ≡ s
   same-function-kept f g =
       rw (keeps (f .name) (g .name), agree-map τ same same keeps (f .inputs) (g .inputs), keeps (f .output) (g .output))
 
-  no-function : (o : Option Function) → name-of-function o ≡ none → o ≡ none
-  unfolding name-of-function
-  no-function none e = refl
-  no-function (some f) e = let z : _≡_ {A = ℕ} 0 1 = cc in absurd (omega arith)
-
   once-in-kept : (s : Signature) → once-in s ≡ fine tt → once-in (re-signature τ s) ≡ fine tt
-  unfolding once-in re-signature _>>_ unless name-of-function
+  unfolding once-in re-signature re-function _>>_ unless
   once-in-kept s e =
-      let a =
-      then-fine (unless declared-twice (repeated same [] (s .sorts)))
-      (unless declared-twice (name-of-function (repeated same-function [] (s .functions)))) tt e in
-      let sorts : repeated same [] (map τ (s .sorts)) ≡ none =
-      repeated-none τ same same keeps [] (s .sorts) ∙ ap (Option·map τ) (unless-fine declared-twice (repeated same [] (s .sorts)) (a .0)) in
-      let functions : repeated same-function [] (map (re-function τ) (s .functions)) ≡ none =
-      repeated-none (re-function τ) same-function same-function same-function-kept [] (s .functions)
-      ∙ ap (Option·map (re-function τ)) (no-function (repeated same-function [] (s .functions))
-      (unless-fine declared-twice (name-of-function (repeated same-function [] (s .functions))) (a .1))) in
+      let a = then-fine _ _ tt e in
+      let as-it-is : Name → Name = λ w. w in
+      let called : Function → Name = λ f. f .name in
+      let sorts =
+      repeated-none τ same keeps τ as-it-is (λ w. refl) [] (s .sorts)
+      ∙ ap (Option·map τ) (unless-fine declared-twice (repeated as-it-is same [] (s .sorts)) (a .0)) in
+      let functions =
+      repeated-none (re-function τ) same-function same-function-kept τ called (λ f. refl) [] (s .functions)
+      ∙ ap (Option·map τ) (unless-fine declared-twice (repeated called same-function [] (s .functions)) (a .1)) in
       rw (sorts, functions)
 
   once-in-parameters-kept : (seen : List Name) (ps : List Parameter) → once-in-parameters seen ps ≡ fine tt
       → once-in-parameters seen (map (re-parameter τ) ps) ≡ fine tt
-  unfolding once-in-parameters re-parameter _>>_ pick
+  unfolding once-in-parameters re-parameter _>>_ pick each-beside
   once-in-parameters-kept seen [] e = refl
   once-in-parameters-kept seen (p ∷ ps) e =
       let q = went-on (member (p .name) seen) _ _ _ tt e in

@@ -6,7 +6,7 @@ use native.Mathlib.Omega.{arith}
 use mathlib.Core.Bool.{Bool, true, false, not, _&&_, _||_, false≢true}
 use mathlib.Core.Option.{Option, none, some, Option·map}
 use mathlib.Core.List.{List, [], _∷_, _++_, map, map-append, List·Memᴰ, Permᴰ·refl, Memᴰ·append-left}
-use Rattle.meaning.specs.Lists.{pick, any, first, or-else, first-some, none-in, each}
+use Rattle.meaning.specs.Lists.{pick, any, first, or-else, first-some, none-in, each, first-bad}
 use Rattle.meaning.specs.Names.{Name, same, member}
 use Rattle.meaning.specs.Syntax.{Function, Signature, Parameter, Variable, Term, node, Terms, no-terms, _then_, Sides, Equation, Module, conditions-of, group-variables, variables-of}
 use Rattle.meaning.specs.Origins.{Section, export-section, hidden-section, parameter-section, declared-sort, declared-function, declared-variable, Origin, Sort, visible-sort, hidden-sort, same-sort, FunctionType, Head, app, ResolvedSides, ResolvedEquation, Shape, sort-shape, function-shape, variable-shape, Item}
@@ -15,7 +15,6 @@ use Rattle.meaning.specs.Checks.{fine, _>>=_, _>>_, unless, functions-clash, co
 use Rattle.meaning.specs.Own.{resolved, function-type, own-sort, own-function, own-section, own-slot, own-visible, own-variable, own-hidden-items, lacking, lacking-variable, parameter-functions, available-sorts, wrong-variable, is-constant, constants}
 use Rattle.meaning.specs.Typing.{Typed, TypedList, head-of, of-shape, found-with, no-arguments, takes, is-variable, joined-typed, equated, joined-sides, made-equation, applied, alone, with-arguments, typed, typed-list, typed-sides, typed-conditions, typed-equations}
 use Rattle.meaning.specs.OrderLaws.{Every, Rearranged, same-equal}
-use Rattle.meaning.specs.Mirror.{then-fine, bind-fine, unless-fine, fine-same}
 use Rattle.promises.specs.ListingLaws.{both-true, agree-equal, sort-equal}
 use Rattle.promises.specs.Told.{SoundVisible}
 use Rattle.promises.specs.Sound.{compatible, every-member, functions-agree, no-variable}
@@ -25,6 +24,7 @@ use Rattle.replacing.specs.Exchanging.{map-map, map-twice, pick-map, any
 use Rattle.replacing.specs.Reordering.{first-image}
 use Rattle.replacing.specs.VisibleAlike.{consistent-clear, Like, like, member-map-from, AlikeVisible, keep-alike, names-alike}
 use Rattle.promises.specs.Members.{member-append}
+use Rattle.meaning.specs.OutcomeLaws.{then-fine, bind-fine, unless-fine, fine-same}
 
 -- ---- lists
 
@@ -222,7 +222,7 @@ module _ (τ : Name → Name) (keeps : (v w : Name) → same (τ v) (τ w) ≡ s
 
   pub variables-right : (cs cs′ : List Name) → ((w : Name) → member (τ w) cs′ ≡ member w cs) → (seen : List Name) (vs : List Variable)
       → wrong-variable cs seen vs ≡ none → wrong-variable cs′ (map τ seen) (map re-variable vs) ≡ none
-  unfolding wrong-variable re-variable pick
+  unfolding wrong-variable re-variable pick first-bad
   variables-right cs cs′ h seen [] e = refl
   variables-right cs cs′ h seen (v ∷ vs) e =
       rw (member-kept τ keeps (v .name) seen, h (v .name))

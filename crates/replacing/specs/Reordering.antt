@@ -277,7 +277,7 @@ sides-decided =
 
 -- an equation's tag is not compared: it is that of its module and position
 pub record Tagged (tags : ℕ → ℕ → Name) (e : ResolvedEquation) : Type 0 where
-  pub tagged : tags (e .home) (e .position) ≡ e .tag
+  pub tagged : tags (e .module-number) (e .position) ≡ e .tag
 
 abbrev Compared : Type 0
 Compared = ((ℕ × ℕ) × ResolvedSides) × List ResolvedSides
@@ -294,7 +294,7 @@ unfolding one-equation
 equation-equal tags a b h k e =
     let q = compared-decided .equal (compared a) (compared b) e in
     let tag : a .tag ≡ b .tag = sym (h .tagged) ∙ (λ i. tags (q i .0 .0 .0) (q i .0 .0 .1)) ∙ k .tagged in
-    λ i. record { home = q i .0 .0 .0; position = q i .0 .0 .1; tag = tag i; conclusion = q i .0 .1; conditions = q i .1 }
+    λ i. record { module-number = q i .0 .0 .0; position = q i .0 .0 .1; tag = tag i; conclusion = q i .0 .1; conditions = q i .1 }
 
 pub equation-self : (a : ResolvedEquation) → one-equation a a ≡ true
 unfolding one-equation

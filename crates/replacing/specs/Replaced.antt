@@ -203,7 +203,7 @@ module _ (τ τ′ : Name → Name) where
   resolved-equation-agrees e h =
       let conditions = all-agreed _ (re-sides τ) (re-sides τ′) resolved-sides-agree (e .conditions) (h .1) in
       λ i. record {
-        home = e .home;
+        module-number = e .module-number;
         position = e .position;
         tag = e .tag;
         conclusion = resolved-sides-agree (e .conclusion) (h .0) i;

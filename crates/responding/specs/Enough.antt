@@ -4,7 +4,7 @@ use mathlib.Core.Path.{_≡_, refl, sym, ap, _∙_}
 use Prim.Native.Nat.{ℕ, zero, suc, _+_, _-_, _<_, _≤_, min}
 use native.Mathlib.Omega.{arith}
 use native.Mathlib.Numerals.{unary-clauses}
-use mathlib.Core.Bool.{Bool, true, false}
+use mathlib.Core.Bool.{Bool, true, false, _&&_}
 use mathlib.Core.List.{List, [], _∷_}
 use lib.Dec.{eqb, leb, ltb}
 use lib.ListN.{length, take, drop, length-take, length-drop}
@@ -17,12 +17,19 @@ use Rattle.meaning.specs.Tokens.{run, run-end}
 use Rattle.meaning.specs.Syntax.{Module}
 use Rattle.meaning.specs.Grammar.{Result, done, refused, read}
 use Rattle.meaning.specs.Texts.{two-texts, behind, read-behind, library-first, read-texts}
-use Rattle.meaning.specs.Answer.{answer, in-line, request, request-end, has-request, library-request, library-request-end, library-written, library-length, has-library-line, library-too-long, texts-in, answer-to, printed, asfnorm}
+use Rattle.meaning.specs.Answer.{answer, in-line, request, request-end, has-request, library-request, library-request-end, library-digits, library-written, library-length, has-library-line, library-too-long, texts-in, answer-to, printed, asfnorm}
 use Rattle.responding.specs.Program.{answer-behind, asfnorm-with, as-lent}
 
--- the longest first line, the longest line of a library, the longest library, and a text that is one byte too long
+-- where the longest first line ends, and the longest line of a library
+abbrev request-most : ℕ
+request-most = length request + name-size
+
+abbrev library-most : ℕ
+library-most = length library-request + library-digits
+
+-- both lines, the longest library, and a text that is one byte too long
 abbrev pub input-size : ℕ
-input-size = length request + name-size + 1 + (length library-request + 9 + 1) + text-size + text-size + 1
+input-size = request-most + 1 + (library-most + 1) + text-size + text-size + 1
 
 drop-take : (i n : ℕ) (s : List ℕ) → drop i (take n s) ≡ take (n - i) (drop i s)
 drop-take zero n s = simp unary-clauses
@@ -77,13 +84,12 @@ module _ (c c′ : List ℕ) (h : text-size < length c) (h′ : text-size < leng
 
 -- ---- what follows the first line
 
-neither : (a b : Bool) → pick a (pick b false false) false ≡ false
-unfolding pick
+neither : (a b : Bool) → (a && b && false) ≡ false
 neither true true = refl
 neither true false = refl
 neither false b = refl
 
-module _ (rest : List ℕ) (k : ℕ) (many : 18 + text-size + text-size + 1 ≤ k) (more : k < length rest) where
+module _ (rest : List ℕ) (k : ℕ) (many : library-most + 1 + text-size + text-size + 1 ≤ k) (more : k < length rest) where
   abbrev cut : List ℕ
   cut = take k rest
 
@@ -91,29 +97,30 @@ module _ (rest : List ℕ) (k : ℕ) (many : 18 + text-size + text-size + 1 ≤ 
   cut-size = omega (arith, more, length-take k rest)
 
   line-ends : library-request-end cut ≡ min k (library-request-end rest)
-  line-ends = line-taken rest k 8 (omega (arith, many))
+  line-ends = line-taken rest k (length library-request) (omega (arith, many))
 
   module _ (memory-lent output-lent : ℕ) (asked : Name) where
     alone-same : answer memory-lent output-lent asked (two-texts [] cut) ≡ answer memory-lent output-lent asked (two-texts [] rest)
     alone-same = long-same cut rest (omega (arith, cut-size, many)) (omega (arith, more, many)) memory-lent output-lent asked []
 
     -- a line that is too long is none
-    module _ (long : 17 < library-request-end rest) where
-      no-line : (s : List ℕ) → 17 < library-request-end s → has-library-line s ≡ false
+    module _ (long : library-most < library-request-end rest) where
+      no-line : (s : List ℕ) → library-most < library-request-end s → has-library-line s ≡ false
       unfolding has-library-line pick
       no-line s l =
-          rw (lt-leb (library-request-end s) 17 l) (neither (same (take 8 s) library-request) (ltb (library-request-end s) (length s)))
+          let e = library-request-end s in
+          rw (lt-leb e library-most l, neither (same (take (length library-request) s) library-request) (ltb e (length s)))
 
       unlined-same : answer-behind memory-lent output-lent asked cut ≡ answer-behind memory-lent output-lent asked rest
       unfolding answer-behind library-too-long texts-in pick
       unlined-same = rw (no-line cut (omega (arith, line-ends, long, many)), no-line rest long) alone-same
 
-    module _ (short : library-request-end rest ≤ 17) where
+    module _ (short : library-request-end rest ≤ library-most) where
       same-line-end : library-request-end cut ≡ library-request-end rest
       same-line-end = omega (arith, line-ends, short, many)
 
       same-written : library-written cut ≡ library-written rest
-      same-written = rw same-line-end (slice-taken rest k 8 (library-request-end rest) (omega (arith, short, many)))
+      same-written = rw same-line-end (slice-taken rest k (length library-request) (library-request-end rest) (omega (arith, short, many)))
 
       same-line : has-library-line cut ≡ has-library-line rest
       unfolding has-library-line
@@ -123,7 +130,7 @@ module _ (rest : List ℕ) (k : ℕ) (many : 18 + text-size + text-size + 1 ≤ 
           rw (
             same-written,
             same-line-end,
-            take-take 8 k rest (omega (arith, many)),
+            take-take (length library-request) k rest (omega (arith, many)),
             cut-size,
             lt-ltb (library-request-end rest) k here,
             lt-ltb (library-request-end rest) (length rest) there,
@@ -179,20 +186,21 @@ module _ (rest : List ℕ) (k : ℕ) (many : 18 + text-size + text-size + 1 ≤ 
       by-length true e = fitting-same (leb-true (library-length rest) text-size e)
       by-length false e = over-same (leb-false (library-length rest) text-size e) (has-library-line rest) refl
 
-    by-line : (b : Bool) → leb (library-request-end rest) 17 ≡ b → answer-behind memory-lent output-lent asked cut ≡ answer-behind memory-lent output-lent asked rest
-    by-line true e = by-length (leb-true (library-request-end rest) 17 e) (leb (library-length rest) text-size) refl
-    by-line false e = unlined-same (leb-false (library-request-end rest) 17 e)
+    by-line : (b : Bool) → leb (library-request-end rest) library-most ≡ b
+        → answer-behind memory-lent output-lent asked cut ≡ answer-behind memory-lent output-lent asked rest
+    by-line true e = by-length (leb-true (library-request-end rest) library-most e) (leb (library-length rest) text-size) refl
+    by-line false e = unlined-same (leb-false (library-request-end rest) library-most e)
 
     rest-same : answer-behind memory-lent output-lent asked cut ≡ answer-behind memory-lent output-lent asked rest
-    rest-same = by-line (leb (library-request-end rest) 17) refl
+    rest-same = by-line (leb (library-request-end rest) library-most) refl
 
 -- ---- the whole input
 
 -- a first line that is too long is none
-not-asked : (input : List ℕ) → 50 < request-end input → has-request input ≡ false
+not-asked : (input : List ℕ) → request-most < request-end input → has-request input ≡ false
 unfolding has-request
 not-asked input long =
-    rw (lt-leb (request-end input) 50 long) (neither (same (take 10 input) request) (ltb (request-end input) (length input)))
+    rw (lt-leb (request-end input) request-most long) (neither (same (take (length request) input) request) (ltb (request-end input) (length input)))
 
 module _ (input : List ℕ) (n : ℕ) (most : input-size ≤ n) (more : n < length input) where
   abbrev front : List ℕ
@@ -202,10 +210,10 @@ module _ (input : List ℕ) (n : ℕ) (most : input-size ≤ n) (more : n < leng
   front-size = omega (arith, more, length-take n input)
 
   ends : request-end front ≡ min n (request-end input)
-  ends = line-taken input n 10 (omega (arith, most))
+  ends = line-taken input n (length request) (omega (arith, most))
 
   module _ (memory-lent output-lent : ℕ) where
-    module _ (short : request-end input ≤ 50) where
+    module _ (short : request-end input ≤ request-most) where
       same-end : request-end front ≡ request-end input
       same-end = omega (arith, ends, short, most)
 
@@ -215,15 +223,15 @@ module _ (input : List ℕ) (n : ℕ) (most : input-size ≤ n) (more : n < leng
           let here : request-end input < n = omega (arith, short, most) in
           let there : request-end input < length input = omega (arith, short, most, more) in
           rw (
-            take-take 10 n input (omega (arith, most)),
+            take-take (length request) n input (omega (arith, most)),
             same-end,
             front-size,
             lt-ltb (request-end input) n here,
             lt-ltb (request-end input) (length input) there,
           )
 
-      still-called : slice front 10 (request-end front) ≡ slice input 10 (request-end input)
-      still-called = rw same-end (slice-taken input n 10 (request-end input) (omega (arith, short, most)))
+      still-called : slice front (length request) (request-end front) ≡ slice input (length request) (request-end input)
+      still-called = rw same-end (slice-taken input n (length request) (request-end input) (omega (arith, short, most)))
 
       abbrev behind-it : List ℕ
       behind-it = drop (request-end input + 1) input
@@ -238,13 +246,13 @@ module _ (input : List ℕ) (n : ℕ) (most : input-size ≤ n) (more : n < leng
       unfolding answer-to answer-behind
       short-same = rw (still-asked, still-called, still-answered)
 
-    long-line-same : 50 < request-end input → answer-to memory-lent output-lent front ≡ answer-to memory-lent output-lent input
+    long-line-same : request-most < request-end input → answer-to memory-lent output-lent front ≡ answer-to memory-lent output-lent input
     unfolding answer-to pick
     long-line-same long = rw (not-asked front (omega (arith, ends, long, most)), not-asked input long)
 
-    front-same : (b : Bool) → leb (request-end input) 50 ≡ b → answer-to memory-lent output-lent front ≡ answer-to memory-lent output-lent input
-    front-same true e = short-same (leb-true (request-end input) 50 e)
-    front-same false e = long-line-same (leb-false (request-end input) 50 e)
+    front-same : (b : Bool) → leb (request-end input) request-most ≡ b → answer-to memory-lent output-lent front ≡ answer-to memory-lent output-lent input
+    front-same true e = short-same (leb-true (request-end input) request-most e)
+    front-same false e = long-line-same (leb-false (request-end input) request-most e)
 
 pub front-enough : (memory-lent output-lent : ℕ) (input : List ℕ) (n : ℕ) → input-size ≤ n
     → asfnorm-with memory-lent output-lent (take n input) ≡ asfnorm-with memory-lent output-lent input
@@ -253,7 +261,7 @@ front-enough memory-lent output-lent input n most = go (leb (length input) n) re
   where
     go : (b : Bool) → leb (length input) n ≡ b → asfnorm-with memory-lent output-lent (take n input) ≡ asfnorm-with memory-lent output-lent input
     go true e = rw (take-all n input (leb-true (length input) n e))
-    go false e = ap printed (front-same input n most (leb-false (length input) n e) memory-lent output-lent (leb (request-end input) 50) refl)
+    go false e = ap printed (front-same input n most (leb-false (length input) n e) memory-lent output-lent (leb (request-end input) request-most) refl)
 
 -- so the program prints what document 02 says of its whole input, though it reads no more
 pub read-enough : (input : List ℕ) → asfnorm (take input-size input) ≡ asfnorm input

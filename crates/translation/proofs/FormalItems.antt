@@ -20,7 +20,7 @@ use Rattle.walks.specs.Lists.{any-keep}
 use Rattle.walks.specs.Shapes.{is-sort-kind}
 use Rattle.walks.specs.Rows.{Finding, find-start, nowhere, find-again, somewhere}
 use Rattle.translation.specs.Translation.{formals-at}
-use Rattle.translation.specs.Moved.{formal-sort, formal-function, is-formal, is-formal-function}
+use Rattle.translation.specs.Moved.{formal-sort, formal-function, is-formal-function}
 
 -- ---- one row
 
@@ -93,8 +93,8 @@ module _ (text tape w : List ℕ) (b n p a : ℕ) where
   abbrev sort-asked : Bool
   sort-asked = any (formal-sort (name-of text p) (name-of text a)) rows
 
-  sorts-asked : is-formal (formals-at text tape w b n (name-of text p)) (name-of text a) ≡ sort-asked
-  unfolding is-formal is-formal-sort sorts-among formals-at
+  sorts-asked : is-formal-sort (formals-at text tape w b n (name-of text p)) (name-of text a) ≡ sort-asked
+  unfolding is-formal-sort sorts-among formals-at
   sorts-asked =
       any-keep (λ (i : Item). is-sort (i .shape)) (is-called (name-of text a)) (keep inside rows)
       ∙ any-keep inside (λ (i : Item). pick (is-sort (i .shape)) (is-called (name-of text a) i) false) rows
@@ -109,7 +109,7 @@ module _ (text tape w : List ℕ) (b n p a : ℕ) where
 
 module _ (text tape w : List ℕ) (b n p a : ℕ) where
   abbrev formal-sort-there : Bool
-  formal-sort-there = is-formal (formals-at text tape w b n (name-of text p)) (name-of text a)
+  formal-sort-there = is-formal-sort (formals-at text tape w b n (name-of text p)) (name-of text a)
 
   pub sort-there : (i : ℕ) (y : Row) (r : Bool) → i < n → Finding (formal-sort (name-of text p) (name-of text a)) text tape w b n i
       → y ≡ row-at w (b + i * 16) → r ≡ formal-sort (name-of text p) (name-of text a) (item-of text tape y) → r ≡ true → true ≡ formal-sort-there

@@ -14,7 +14,7 @@ use Rattle.names.specs.Word.{name-of}
 use Rattle.tables.specs.Entries.{role-at, word-at}
 use Rattle.translation.specs.declared.Mode.{Mode}
 use Rattle.translation.specs.Translation.{pairs-from, pairs-at, mode-formals, sort-name}
-use Rattle.translation.specs.Moved.{SmallWord, Renamed, NewSort, is-formal, is-formal-function, shape-name}
+use Rattle.translation.specs.Moved.{SmallWord, Renamed, NewSort, is-formal-function, shape-name}
 
 -- ---- pairs: at place i, with `left` pairs at most to come
 
@@ -75,16 +75,16 @@ module _ (text tape w : List ℕ) (m : Mode) (a : ℕ) where
     }
 
     module _ (l : m .kind ≡ 1 → ⊥) (b : Bool)
-        (f : b ≡ is-formal (mode-formals text tape w m) (name-of text a)) where
+        (f : b ≡ is-formal-sort (mode-formals text tape w m) (name-of text a)) where
       pub sort-bound : (r : ℕ) → b ≡ true → Renamed text tape (m .pairs) a r → NewSort text tape w m a r
-      unfolding sort-name new-sort is-formal is-formal-sort pick
+      unfolding sort-name new-sort pick
       sort-bound r q n = record {
         name = n .name ∙ rw (ne-eqb (m .kind) 0 h, ne-eqb (m .kind) 1 l, ← f, q);
         small = n .small;
       }
 
       pub sort-free : b ≡ false → NewSort text tape w m a a
-      unfolding sort-name new-sort is-formal is-formal-sort pick
+      unfolding sort-name new-sort pick
       sort-free q = record { name = rw (ne-eqb (m .kind) 0 h, ne-eqb (m .kind) 1 l, ← f, q); small = λ u. u }
 
 module _ (text tape w : List ℕ) (m : Mode) (a : ℕ) (s : Shape) where

@@ -8,7 +8,7 @@ use lib.ListN.{length}
 use Rattle.meaning.specs.Lists.{pick, any}
 use Rattle.meaning.specs.Names.{Name, same}
 use Rattle.meaning.specs.Origins.{Shape, same-shape, is-sort, Item, in-parameter}
-use Rattle.meaning.specs.Normal.{nothing-visible, is-called, move-type}
+use Rattle.meaning.specs.Normal.{is-called, move-type}
 use Rattle.meaning.specs.Clauses.{renaming, is-formal-sort}
 use Rattle.names.specs.Word.{name-of}
 use Rattle.tables.specs.declared.Row.{Row}
@@ -27,10 +27,6 @@ formal-sort p a i =
 -- an item called f of the shape s that stands in the parameter p
 unfoldable pub formal-function : Name → Name → Shape → Item → Bool
 formal-function p f s i = pick (in-parameter p (i .standing)) (is-called f i && same-shape s (i .shape)) false
-
--- is there a formal sort called a, whatever the pairs and the two modules are?
-unfoldable pub is-formal : List Item → Name → Bool
-is-formal formal a = is-formal-sort formal [] nothing-visible nothing-visible a
 
 unfoldable pub is-formal-function : List Item → Name → Shape → Bool
 is-formal-function formal f s = any (λ (i : Item). is-called f i && same-shape s (i .shape)) formal

@@ -15,7 +15,6 @@ use Rattle.names.specs.Word.{name-of}
 use Rattle.forms.specs.Forms.{items-at}
 use Rattle.translation.specs.declared.Mode.{Mode}
 use Rattle.translation.specs.Translation.{pairs-at, formals-at, mode-formals, sort-name, function-name, moved, moved-hidden, moved-in}
-use Rattle.translation.specs.Moved.{is-formal}
 
 -- ---- new names that are the old ones
 
@@ -110,14 +109,14 @@ module _ (text tape w : List ℕ) (m : Mode) (h : m .kind ≡ 1) where
       one : (f : Name) (t : FunctionType) → function-name text tape w m f t ≡ renaming (pairs-at text tape (m .pairs)) f
       one f t = rw (ne-eqb (m .kind) 0 (λ u. omega arith), eq-eqb (m .kind) 1 h)
 
--- ---- a mode of kind 2 binds the formal items, whatever the two modules are
+-- ---- a mode of kind 2 binds the formal items
 
-module _ (text tape w : List ℕ) (m : Mode) (h : m .kind ≡ 2) (whole actual : Visible) where
+module _ (text tape w : List ℕ) (m : Mode) (h : m .kind ≡ 2) where
   abbrev bound-sort : Name → Name
-  bound-sort = new-sort (mode-formals text tape w m) (pairs-at text tape (m .pairs)) whole actual
+  bound-sort = new-sort (mode-formals text tape w m) (pairs-at text tape (m .pairs))
 
   abbrev bound-function : Name → FunctionType → Name
-  bound-function = new-function (mode-formals text tape w m) (pairs-at text tape (m .pairs)) whole actual
+  bound-function = new-function (mode-formals text tape w m) (pairs-at text tape (m .pairs))
 
   pub sort-name-bound : sort-name text tape w m ≡ bound-sort
   unfolding sort-name new-sort is-formal-sort pick
@@ -132,11 +131,6 @@ module _ (text tape w : List ℕ) (m : Mode) (h : m .kind ≡ 2) (whole actual :
     where
       one : (f : Name) (t : FunctionType) → function-name text tape w m f t ≡ bound-function f t
       one f t = rw (ne-eqb (m .kind) 0 (λ u. omega arith), ne-eqb (m .kind) 1 (λ u. omega arith))
-
--- a formal sort is one whatever the pairs and the two modules are
-pub is-formal-any : (formal : List Item) (rs : List Pair) (whole actual : Visible) (a : Name) → is-formal-sort formal rs whole actual a ≡ is-formal formal a
-unfolding is-formal-sort is-formal
-is-formal-any formal rs whole actual a = refl
 
 -- ---- memories in which the mode's table is the same
 

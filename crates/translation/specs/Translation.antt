@@ -8,7 +8,7 @@ use Rattle.meaning.specs.Names.{Name}
 use Rattle.meaning.specs.Numbers.{pair-limit}
 use Rattle.meaning.specs.Syntax.{Pair}
 use Rattle.meaning.specs.Origins.{FunctionType, Item, in-parameter}
-use Rattle.meaning.specs.Normal.{nothing-visible, move-item, move-hidden-item}
+use Rattle.meaning.specs.Normal.{move-item, move-hidden-item}
 use Rattle.meaning.specs.Clauses.{renaming, new-sort, new-function}
 use Rattle.names.specs.Word.{name-of}
 use Rattle.tape.specs.Tape.{old-role}
@@ -39,13 +39,13 @@ module _ (text tape w : List ℕ) (m : Mode) where
   unfoldable pub sort-name : Name → Name
   sort-name a =
       let renamed = renaming (pairs-at text tape (m .pairs)) a in
-      let bound = new-sort mode-formals (pairs-at text tape (m .pairs)) nothing-visible nothing-visible a in
+      let bound = new-sort mode-formals (pairs-at text tape (m .pairs)) a in
       pick (eqb (m .kind) 0) a (pick (eqb (m .kind) 1) renamed bound)
 
   unfoldable pub function-name : Name → FunctionType → Name
   function-name f t =
       let renamed = renaming (pairs-at text tape (m .pairs)) f in
-      let bound = new-function mode-formals (pairs-at text tape (m .pairs)) nothing-visible nothing-visible f t in
+      let bound = new-function mode-formals (pairs-at text tape (m .pairs)) f t in
       pick (eqb (m .kind) 0) f (pick (eqb (m .kind) 1) renamed bound)
 
   -- what becomes of a visible item, and of a hidden one

@@ -10,12 +10,13 @@ ghost use mathlib.Core.Path.{_≡_};
 ghost use Prim.Native.Nat.{_≤_};
 ghost use lib.ListN.{length};
 ghost use Rattle.meaning.specs.Origins.{in-parameter};
+ghost use Rattle.meaning.specs.Clauses.{is-formal-sort};
 ghost use Rattle.names.specs.Word.{name-of};
 ghost use Rattle.names.specs.Joint.{joint};
 ghost use Rattle.tables.specs.Rows.{section-of, item-of, shape-of};
 ghost use Rattle.forms.specs.Memory.{part};
 ghost use Rattle.translation.specs.Translation.{mode-formals};
-ghost use Rattle.translation.specs.Moved.{formal-sort, formal-function, is-formal, is-formal-function};
+ghost use Rattle.translation.specs.Moved.{formal-sort, formal-function, is-formal-function};
 
 // Is s the parameter called p?
 pub fn in_parameter(library: &[u8], text: &[u8], p: u32, s: Section) -> bool
@@ -42,7 +43,7 @@ fn is_such_sort(library: &[u8], text: &[u8], tape: &[u32], p: u32, w: u32, row: 
 // Is there a formal sort called w?
 pub fn is_formal_sort(library: &[u8], text: &[u8], work: &[u32], t: usize, m: Mode, w: u32) -> bool
     requires { ⌜ t ≤ length (now work) ⌝ }
-    ensures { λ r. ⌜ r ≡ is-formal (mode-formals (joint (now (library .entry)) (now (text .entry))) (part (now (work .entry)) 0 t) (now (work .entry)) m) (name-of (joint (now (library .entry)) (now (text .entry))) w) ⌝ }
+    ensures { λ r. ⌜ r ≡ is-formal-sort (mode-formals (joint (now (library .entry)) (now (text .entry))) (part (now (work .entry)) 0 t) (now (work .entry)) m) (name-of (joint (now (library .entry)) (now (text .entry))) w) ⌝ }
 {
     let visible = m.visible;
     let count = m.count;

@@ -4,6 +4,7 @@ use mathlib.Core.Path.{_≡_}
 use Prim.Native.Nat.{ℕ, _+_, _%_, _^_, _≤_}
 use mathlib.Core.List.{List, _++_, map}
 use lib.ListN.{length, take, drop}
+use Rattle.meaning.specs.Numbers.{module-limit}
 use Rattle.meaning.specs.OrderLaws.{Every}
 use Rattle.meaning.specs.Syntax.{Module}
 use Rattle.meaning.specs.Texts.{two-texts, all-read, refused-in, read-behind, read-texts}
@@ -30,7 +31,7 @@ pub record WordsOf (tape places : List ℕ) (count : ℕ) (words : List ℕ) : T
 -- n entries of the library stand on the tape, and both texts are read as the customer's is behind the library's modules
 pub record Stands (library text : List ℕ) (n : ℕ) (t : List ℕ) : Type 0 where
   pub modules : List Module
-  pub few : length modules ≤ 64
+  pub few : length modules ≤ module-limit
   pub next : read-texts (two-texts library text) ≡ read-behind modules text
   pub said : entries library n t ≡ flat-modules modules
   pub inside : Inside library n t

@@ -17,7 +17,6 @@ use Rattle.meaning.specs.Checks.{Outcome, fine, stop}
 use Rattle.meaning.specs.Typing.{typed-sides, typed-conditions, joined-sides, made-equation}
 use Rattle.limits.specs.EveryLaws.{every-append}
 use Rattle.tape.specs.Tape.{Entry, entry, tag-role, condition-role, conclusion-role}
-use Rattle.tape.specs.Tape as on-tape
 use Rattle.forms.specs.Memory.{Kept}
 use Rattle.forms.specs.Forms.{flat-sides, flat-equation}
 use Rattle.walks.specs.Lists.{each-append}
@@ -28,6 +27,7 @@ use Rattle.typing.specs.Equations.{Pass, begins-at, sides-from, after-co
 use Rattle.typing.specs.Meant.{Spells, Layout, node-here, Pointed}
 use Rattle.typing.specs.Sides.{spells-size}
 use Rattle.typing.specs.Chosen.{Mark, flat-mark, mark-size, joined-chosen, Stand, stand-stays, stand-append, chosen, Chosen, AgreeChosen, pass-typed}
+use Rattle.tape.specs.Tape as on-tape
 
 -- ---- the entries of an equation
 
@@ -135,7 +135,7 @@ module _ (text : List ℕ) (k : Known) (w₀ : List ℕ) where
     wrong-first h = rw h
 
     both-passes : (c : ResolvedSides) (ks : List ResolvedSides) → Chosen text k w₀ conclusion-role (c ∷ []) (i + 1) m q 0 q₀ e₀ w o → Second (some ks)
-        → WellEquation (record { home = home; position = at; tag = tag; conclusion = c; conditions = ks }) i (m + 1) q q₀ e₀ w (after-conclusion text k end i (o .answer) (o .memory))
+        → WellEquation (record { module-number = home; position = at; tag = tag; conclusion = c; conditions = ks }) i (m + 1) q q₀ e₀ w (after-conclusion text k end i (o .answer) (o .memory))
     unfolding after-conclusion flat-equation each
     both-passes c ks h rest =
         let g = rest (q + length (h .words)) (o .memory) (h .kept) (omega arith) (omega (arith, h .room)) in

@@ -65,7 +65,7 @@ module _ (text : List ℕ) (k : Known) (w₀ : List ℕ) (m : Module) where
     tag = s .tag;
     start = s .start;
     words = s .words;
-    row = stand-stays (r .home ∷ r .position ∷ s .tag ∷ length (r .conditions) ∷ s .start ∷ length (s .words) ∷ []) b w u (λ j a c. x j c) (s .row);
+    row = stand-stays (r .module-number ∷ r .position ∷ s .tag ∷ length (r .conditions) ∷ s .start ∷ length (s .words) ∷ []) b w u (λ j a c. x j c) (s .row);
     tagged = s .tagged;
     stand = stand-stays (s .words) (m .nodes + s .start) w u (λ j a c. y j (omega arith) (omega (arith, s .within))) (s .stand);
     nodes = s .nodes;
@@ -87,7 +87,7 @@ module _ (text : List ℕ) (k : Known) (w₀ : List ℕ) (m : Module) where
     one-more (some c) (some ks) name rest left position i size q tag w o h y x e more = rw (h .answer) (go rest (more (h .free) (o .memory) (h .kept) (omega (arith, h .counted)) (h .room)))
       where
         r : ResolvedEquation
-        r = record { home = m .home; position = position; tag = name; conclusion = c; conditions = ks }
+        r = record { module-number = m .home; position = position; tag = name; conclusion = c; conditions = ks }
 
         go : (rest : Outcome (List ResolvedEquation)) → AgreeAll rest (position + 1) (h .free) q₀ e₀ (o .memory) (equations-from text k m left (position + 1) (i + size) (h .free) (o .memory))
             → AgreeAll (rest >>= (λ xs. fine (r ∷ xs))) position q q₀ e₀ w (equations-from text k m left (position + 1) (i + size) (h .free) (o .memory))

@@ -49,7 +49,7 @@ module _ (text : List ℕ) (k : Known) (w₀ : List ℕ) (m : Module) where
     pub tag : ℕ
     pub start : ℕ
     pub words : List ℕ
-    pub row : Stand b (r .home ∷ r .position ∷ tag ∷ length (r .conditions) ∷ start ∷ length words ∷ []) w
+    pub row : Stand b (r .module-number ∷ r .position ∷ tag ∷ length (r .conditions) ∷ start ∷ length words ∷ []) w
     pub tagged : name-of text tag ≡ r .tag
     pub stand : Stand (m .nodes + start) words w
     pub nodes : map (node-here text k w₀) words ≡ flat-equation r
@@ -88,7 +88,7 @@ module _ (text : List ℕ) (k : Known) (w₀ : List ℕ) (m : Module) where
 
     -- rows stand in front of the nodes
     stored-turn : (r : ResolvedEquation) (position i size q : ℕ) (w : List ℕ) (o : Pass) → WellEquation text k w₀ r i size q q₀ e₀ w o → q₀ ≤ m .rows
-        → m .rows + position * 8 + 6 ≤ m .nodes → m .nodes ≤ q → q + (size + size) ≤ e₀ → r .home ≡ m .home → r .position ≡ position → name-at text (tape-in k w₀) i ≡ r .tag
+        → m .rows + position * 8 + 6 ≤ m .nodes → m .nodes ≤ q → q + (size + size) ≤ e₀ → r .module-number ≡ m .home → r .position ≡ position → name-at text (tape-in k w₀) i ≡ r .tag
         → WellTurn r position i size q q₀ e₀ w (after-equation k m position i q (o .answer) (o .memory))
     unfolding after-equation stored equation-words row-of
     stored-turn r position i size q w o h x y z v e f g =
@@ -98,7 +98,7 @@ module _ (text : List ℕ) (k : Known) (w₀ : List ℕ) (m : Module) where
         let s₂ : span (q + length (h .words)) q ≡ length (h .words) = span-is (q + length (h .words)) q (omega (arith, h .room, size-of-memory)) ∙ omega arith in
         let tag = word-at (tape-in k u) i in
         let vs = m .home ∷ position ∷ tag ∷ length (r .conditions) ∷ span q (m .nodes) ∷ span (q + length (h .words)) q ∷ [] in
-        let wanted : vs ≡ (r .home ∷ r .position ∷ tag ∷ length (r .conditions) ∷ (q - m .nodes) ∷ length (h .words) ∷ []) = λ z. sym e z ∷ sym f z ∷ tag ∷ length (r .conditions) ∷ s₁ z ∷ s₂ z ∷ [] in
+        let wanted : vs ≡ (r .module-number ∷ r .position ∷ tag ∷ length (r .conditions) ∷ (q - m .nodes) ∷ length (h .words) ∷ []) = λ z. sym e z ∷ sym f z ∷ tag ∷ length (r .conditions) ∷ s₁ z ∷ s₂ z ∷ [] in
         let fr = kept-sets vs u b in
         let there : m .nodes + (q - m .nodes) ≡ q = omega arith in
         let stands = stand-stays (h .words) q u (sets u b vs) (λ j a d. fr .above j (omega arith)) (h .stand) in
@@ -134,7 +134,7 @@ module _ (text : List ℕ) (k : Known) (w₀ : List ℕ) (m : Module) where
     turn-made none ks tag position i size q w o h x y z v g = wrong-turn position i q (o .answer) (o .memory) h
     turn-made (some c) none tag position i size q w o h x y z v g = wrong-turn position i q (o .answer) (o .memory) h
     turn-made (some c) (some ks) tag position i size q w o h x y z v g =
-        stored-turn (record { home = m .home; position = position; tag = tag; conclusion = c; conditions = ks }) position i size q w o h x y z v refl refl g
+        stored-turn (record { module-number = m .home; position = position; tag = tag; conclusion = c; conditions = ks }) position i size q w o h x y z v refl refl g
 
     -- one turn of the loop over a module's equations
     pub turn-typed : (e : Equation) (position i q : ℕ) (w : List ℕ) → i < k .tape → Spells text k w₀ i (on-tape.flat-equation e) → Kept q₀ e₀ w₀ w

@@ -266,7 +266,7 @@ module _ (text : List ℕ) (t : ℕ) (f : Form) (v : Visible) (hidden : List Ite
         → EquationStands text (part w 0 t) w g (equation-row-at w b) r
     row-stands r b h s =
         let size : f .nodes + s .start + length (s .words) ≤ length w = omega (arith, s .within, h, kept .size, laid .inside) in
-        rw (row-told (r .home) (r .position) (s .tag) (length (r .conditions)) (s .start) (length (s .words)) b w (s .row))
+        rw (row-told (r .module-number) (r .position) (s .tag) (length (r .conditions)) (s .start) (length (s .words)) b w (s .row))
         (record {
           home = refl;
           position = refl;

@@ -1,10 +1,10 @@
 -- `listing_reader::key_number` meets its contract.
 -- Assumes nothing.
-use Rattle.meaning.specs.Reader.{listing-keys}
 use Rattle.listing_reader.specs.Places.{key-number}
 use borrow.Author.Needs.{needs}
 use Rattle.listing_reader.proofs.key_number.Statement.{statement}
 use Rattle.listing_reader.proofs.key_number.Tie as tie
+use Rattle.meaning.specs.Listing.{listing-keys}
 
 pub key-number-spec : {M : Type 1} → statement M
 unfolding key-number listing-keys

@@ -15,7 +15,7 @@ use Rattle.meaning.specs.Checks.{_>>=_, _>>_, lone, Outcome, Check, unle
 use Rattle.meaning.specs.Clauses.{renaming, wrong-renaming, rename, new-sort, new-function, pairs-right, unpaired, without-visible, without, bound-to, bind}
 use Rattle.meaning.specs.Typing.{made-equation, typed-sides, typed-conditions, typed-equations}
 use Rattle.meaning.specs.Evaluate.{Evaluated, named-by, names-right, declared-once, normal-of, clause, clauses, expressions, united, imported, seen-sorts, joined-visible, own-checks, own-equations, joined-own, evaluate}
-use Rattle.meaning.specs.Mirror.{Mirrors, mirror-then, mirror-room, mirror-pick, mirror-bind, mirror-told, told, told-bind}
+use Rattle.meaning.specs.OutcomeLaws.{Mirrors, mirror-then, mirror-room, mirror-pick, mirror-bind, mirror-told, told, told-bind}
 
 -- ---- the evaluation over visible parts
 
@@ -32,8 +32,8 @@ bound-visibly p rs v actual =
     let formal = formals p v in
     do
       pairs-right formal rs v actual [] rs
-      unless formal-unpaired (unpaired formal rs v actual)
-      checked-visibly (unite-visible (move-visible (new-sort formal rs v actual) (new-function formal rs v actual) (without-visible p v)) actual)
+      unless formal-unpaired (unpaired formal rs)
+      checked-visibly (unite-visible (move-visible (new-sort formal rs) (new-function formal rs) (without-visible p v)) actual)
 
 unfoldable pub bind-visibly : Name → List Pair → Visible → Visible → Outcome Visible
 bind-visibly p rs v actual = let r = bound-visibly p rs v actual in pick (member p (slot-names (v .parameters))) r (stop bad-parameter (lone p))
@@ -169,22 +169,23 @@ typed-told known h h′ at at′ (e ∷ es) =
     told-bind _ _ _ _ (made-told h h′ at at′ (e .tag) (typed-sides known (e .conclusion)) (typed-conditions known (conditions-of e)))
     (λ x y. told-bind _ _ _ _ (typed-told known h h′ (at + 1) (at′ + 1) es) (λ xs ys. refl))
 
-equations-told : (h h′ : ℕ) (m : Module) (seen : List Name) (v : Visible) → told (own-equations h m seen v) ≡ told (own-equations h′ m seen v)
+equations-told : (h h′ : ℕ) (m : Module) (seen-sorts : List Name) (v : Visible)
+    → told (own-equations h m seen-sorts v) ≡ told (own-equations h′ m seen-sorts v)
 unfolding own-equations
-equations-told h h′ m seen v = typed-told _ h h′ 0 0 (m .equations)
+equations-told h h′ m seen-sorts v = typed-told _ h h′ 0 0 (m .equations)
 
-joined-mirrors : (home : ℕ) (total : Size) (m : Module) (n : Normal)
-    → Mirrors visible-half (joined-own home total m n) (joined-visibly m (n .visible))
+joined-mirrors : (number : ℕ) (total : Size) (m : Module) (n : Normal)
+    → Mirrors visible-half (joined-own number total m n) (joined-visibly m (n .visible))
 unfolding joined-own joined-visibly room total-room in-order
-joined-mirrors home total m n =
+joined-mirrors number total m n =
     mirror-then visible-half _ _ _
-    (rw (equations-told 0 home)
-    (mirror-told visible-half (own-equations home m (seen-sorts m (n .visible)) (joined-visible m (n .visible))) _ _
+    (rw (equations-told 0 number)
+    (mirror-told visible-half (own-equations number m (seen-sorts m (n .visible)) (joined-visible m (n .visible))) _ _
     (λ rs. mirror-room visible-half _ _ _ (mirror-room visible-half _ _ _ refl))))
 
-pub evaluate-mirrors : (declared earlier : List Name) (home : ℕ) (total : Size) (env : List Evaluated) (m : Module)
-    → Mirrors visible-half (evaluate declared earlier home total env m) (evaluate-visibly (names-right declared earlier (named-by m)) (map seen-of env) m)
+pub evaluate-mirrors : (declared earlier : List Name) (number : ℕ) (total : Size) (env : List Evaluated) (m : Module)
+    → Mirrors visible-half (evaluate declared earlier number total env m) (evaluate-visibly (names-right declared earlier (named-by m)) (map seen-of env) m)
 unfolding evaluate evaluate-visibly
-evaluate-mirrors declared earlier home total env m =
+evaluate-mirrors declared earlier number total env m =
     mirror-then visible-half _ _ _ (mirror-then visible-half _ _ _
-    (mirror-bind visible-half visible-half _ _ _ _ (imported-mirrors env (m .imports)) (λ n. joined-mirrors home total m n)))
+    (mirror-bind visible-half visible-half _ _ _ _ (imported-mirrors env (m .imports)) (λ n. joined-mirrors number total m n)))

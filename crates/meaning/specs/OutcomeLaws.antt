@@ -1,4 +1,4 @@
--- Two outcomes that agree, but for room: the first may be 18 where the second goes on.
+-- Laws of outcomes: two that agree but for room, where the first may be 18 and the second goes on; and what a fine one says of its steps.
 use mathlib.Core.Path.{_≡_, refl, sym, ap, subst}
 use mathlib.Core.Logic.{_⊎_, inl, inr}
 use mathlib.Core.Bool.{Bool, true, false}
