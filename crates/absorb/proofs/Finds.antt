@@ -14,7 +14,7 @@ use Rattle.meaning.specs.Names.{same}
 use Rattle.meaning.specs.Origins.{same-section, same-origin, same-shape, Item, one-item}
 use Rattle.names.specs.Word.{name-of}
 use Rattle.tables.specs.declared.Row.{Row}
-use Rattle.tables.specs.Rows.{item-of, row-at, row-words}
+use Rattle.tables.specs.Rows.{item-of, row-at, row-words, row-size}
 use Rattle.tables.specs.RowLaws.{row-back}
 use Rattle.forms.specs.Memory.{Kept}
 use Rattle.forms.specs.Forms.{items-at}
@@ -29,9 +29,9 @@ use Rattle.absorb.specs.Turns.{Space}
 
 module _ (text tape w : List ℕ) (b i : ℕ) (x : Row) where
   abbrev one-there : Bool
-  one-there = one-item (item-of text tape x) (item-of text tape (row-at w (b + i * 16)))
+  one-there = one-item (item-of text tape x) (item-of text tape (row-at w (b + i * row-size)))
 
-  pub item-other : (v : ℕ) (a : Bool) → v ≡ getD w (b + i * 16 + 1) 0 → a ≡ same (name-of text (x .name)) (name-of text v) → a ≡ false → false ≡ one-there
+  pub item-other : (v : ℕ) (a : Bool) → v ≡ getD w (b + i * row-size + 1) 0 → a ≡ same (name-of text (x .name)) (name-of text v) → a ≡ false → false ≡ one-there
   unfolding one-item item-of row-at
   item-other v a e f h = rw (← e, ← f, h) (go (same-section _ _) (same-shape _ _) (same-origin _ _))
     where
@@ -39,7 +39,7 @@ module _ (text tape w : List ℕ) (b i : ℕ) (x : Row) where
       go true z o = refl
       go false z o = refl
 
-  pub item-there : (y : Row) (r : Bool) → y ≡ row-at w (b + i * 16) → r ≡ one-item (item-of text tape x) (item-of text tape y) → r ≡ one-there
+  pub item-there : (y : Row) (r : Bool) → y ≡ row-at w (b + i * row-size) → r ≡ one-item (item-of text tape x) (item-of text tape y) → r ≡ one-there
   item-there y r e f = rw (← e) f
 
 -- ---- `place_item`
@@ -59,22 +59,22 @@ module _ (text tape w : List ℕ) (t b n at : ℕ) (x : Row) (e : at ≡ before 
       record {
         row = e;
         items = rw there (sym (union-found one-item xs item there));
-        kept = kept-all (b + n * 16) (b + n * 16 + 16) w;
+        kept = kept-all (b + n * row-size) (b + n * row-size + row-size) w;
       }
 
-  module _ (room : Space (length w) t b n x) (w′ : List ℕ) (l : w′ ≡ sets w (b + n * 16) (row-words x)) where
-    written : Kept (b + n * 16) (b + n * 16 + 16) w w′
+  module _ (room : Space (length w) t b n x) (w′ : List ℕ) (l : w′ ≡ sets w (b + n * row-size) (row-words x)) where
+    written : Kept (b + n * row-size) (b + n * row-size + row-size) w w′
     unfolding row-words
     written =
         let nine = room .row .nine in
-        rw l (kept-wider (b + n * 16) (b + n * 16 + length (row-words x)) (b + n * 16) (b + n * 16 + 16) w (sets w (b + n * 16) (row-words x)) (omega arith) (omega arith)
-        (kept-sets (row-words x) w (b + n * 16)))
+        rw l (kept-wider (b + n * row-size) (b + n * row-size + length (row-words x)) (b + n * row-size) (b + n * row-size + row-size) w (sets w (b + n * row-size) (row-words x)) (omega arith) (omega arith)
+        (kept-sets (row-words x) w (b + n * row-size)))
 
     grown : items-at text tape w′ b (n + 1) ≡ xs ++ (item ∷ [])
     grown =
-        let last : row-at w′ (b + n * 16) ≡ x = rw l (row-back w (b + n * 16) x (room .row) (room .room)) in
+        let last : row-at w′ (b + n * row-size) ≡ x = rw l (row-back w (b + n * row-size) x (room .row) (room .room)) in
         let first : items-at text tape w′ b n ≡ xs =
-        items-same w w′ text tape b n (kept-same (b + n * 16) (b + n * 16 + 16) b (b + n * 16) w w′ (inl (omega arith)) written) in
+        items-same w w′ text tape b n (kept-same (b + n * row-size) (b + n * row-size + row-size) b (b + n * row-size) w w′ (inl (omega arith)) written) in
         rw (add-one n, items-grow text tape w′ b n, first, last)
 
     pub place-new : n ≤ at → Placed text tape w b n item n w′

@@ -13,10 +13,10 @@ use borrow.Author.Needs.{needs}
 use borrow.Author.Tests.{eqb-true, eqb-false}
 use Rattle.meaning.specs.Lists.{keep, union}
 use Rattle.meaning.specs.Origins.{Item, one-item}
-use Rattle.tables.specs.Rows.{item-of, row-at}
+use Rattle.tables.specs.Rows.{item-of, row-at, row-size}
 use Rattle.forms.specs.Memory.{part, KeptTwo}
 use Rattle.forms.specs.Forms.{items-at}
-use Rattle.forms.specs.FormLaws.{kept-two-same, kept-two-then, row-same, items-same, tape-same, items-grow, items-split, length-items, item-at}
+use Rattle.forms.specs.FormLaws.{kept-two-same, kept-two-then, items-same, tape-same, items-grow, items-split, length-items, item-at}
 use Rattle.forms.specs.FullLists.{take-union}
 use Rattle.translation.specs.declared.Mode.{Mode}
 use Rattle.translation.specs.Translation.{moved-in}
@@ -25,6 +25,7 @@ use Rattle.walks.specs.Lists.{keep-append}
 use Rattle.absorb.specs.ListLaws.{union-then, union-stays, map-keep-more, keep-taken, keep-left}
 use Rattle.absorb.specs.Absorb.{Absorbed, AbsorbedWithin, taken}
 use Rattle.absorb.specs.Turns.{Taken, TurnRoom, Turned, RoomWithin}
+use Rattle.tables.specs.RowLaws.{row-same}
 
 kept-all : (a e b f : ℕ) (w : List ℕ) → KeptTwo a e b f w w
 kept-all a e b f w = record { size = refl; kept = λ i p q. refl }
@@ -41,7 +42,7 @@ module _ (text w₀ : List ℕ) (t : ℕ) (m : Mode) (visible drop : Bool) (s ns
 
   -- a source item, whether it is taken, and what it becomes
   abbrev old : ℕ → Item
-  old i = item-of text tape (row-at w₀ (s + i * 16))
+  old i = item-of text tape (row-at w₀ (s + i * row-size))
 
   abbrev wanted : Item → Bool
   wanted = taken text drop (m .parameter)
@@ -60,8 +61,8 @@ module _ (text w₀ : List ℕ) (t : ℕ) (m : Mode) (visible drop : Bool) (s ns
     pub within : n ≤ cap
     pub noted : (i : ℕ) → i < k → wanted (old i) ≡ true → getD w (o + i) 0 < n
     pub notes : (i : ℕ) (z : Item) → i < k → wanted (old i) ≡ true → getD (items-at text tape w d n) (getD w (o + i) 0) z ≡ new (old i)
-    pub kept : KeptTwo (d + nd * 16) (d + cap * 16) o (o + ns) w₀ w
-    pub kept-few : KeptTwo (d + nd * 16) (d + (nd + ns) * 16) o (o + ns) w₀ w
+    pub kept : KeptTwo (d + nd * row-size) (d + cap * row-size) o (o + ns) w₀ w
+    pub kept-few : KeptTwo (d + nd * row-size) (d + (nd + ns) * row-size) o (o + ns) w₀ w
 
   pub absorb-start : nd ≤ cap → Absorbing w₀ nd 0
   unfolding items-at keep union
@@ -73,8 +74,8 @@ module _ (text w₀ : List ℕ) (t : ℕ) (m : Mode) (visible drop : Bool) (s ns
     within = fits;
     noted = λ i h. absurd (omega arith);
     notes = λ i z h. absurd (omega arith);
-    kept = kept-all (d + nd * 16) (d + cap * 16) o (o + ns) w₀;
-    kept-few = kept-all (d + nd * 16) (d + (nd + ns) * 16) o (o + ns) w₀;
+    kept = kept-all (d + nd * row-size) (d + cap * row-size) o (o + ns) w₀;
+    kept-few = kept-all (d + nd * row-size) (d + (nd + ns) * row-size) o (o + ns) w₀;
   }
 
   -- one row more
@@ -97,19 +98,19 @@ module _ (text w₀ : List ℕ) (t : ℕ) (m : Mode) (visible drop : Bool) (s ns
     tape-stays : part w 0 t ≡ tape
     tape-stays =
         tape-same w₀ w t (inv .kept .size)
-        (kept-two-same (d + nd * 16) (d + cap * 16) o (o + ns) 0 t w₀ w (inl (omega (arith, room .tape-table))) (inl (room .tape-note)) (inv .kept))
+        (kept-two-same (d + nd * row-size) (d + cap * row-size) o (o + ns) 0 t w₀ w (inl (omega (arith, room .tape-table))) (inl (room .tape-note)) (inv .kept))
 
-    source-stays : k < ns → row-at w (s + k * 16) ≡ row-at w₀ (s + k * 16)
+    source-stays : k < ns → row-at w (s + k * row-size) ≡ row-at w₀ (s + k * row-size)
     source-stays h =
-        row-same w₀ w (s + k * 16)
-        (kept-two-same (d + nd * 16) (d + cap * 16) o (o + ns) (s + k * 16) (s + k * 16 + 15) w₀ w
+        row-same w₀ w (s + k * row-size)
+        (kept-two-same (d + nd * row-size) (d + cap * row-size) o (o + ns) (s + k * row-size) (s + k * row-size + row-size) w₀ w
         (⊎-elim (λ u. inl (omega arith)) (λ u. inr (omega arith)) (room .table-source))
         (⊎-elim (λ u. inl (omega arith)) (λ u. inr (omega arith)) (room .note-source)) (inv .kept))
 
     mode-stays : items-at text tape w (m .visible) (m .count) ≡ items-at text tape w₀ (m .visible) (m .count)
     mode-stays =
         items-same w₀ w text tape (m .visible) (m .count)
-        (kept-two-same (d + nd * 16) (d + cap * 16) o (o + ns) (m .visible) (m .visible + m .count * 16) w₀ w
+        (kept-two-same (d + nd * row-size) (d + cap * row-size) o (o + ns) (m .visible) (m .visible + m .count * row-size) w₀ w
         (⊎-elim (λ u. inl (omega arith)) (λ u. inr u) (room .table-mode)) (room .note-mode) (inv .kept))
 
     -- ---- a row that is left out
@@ -183,11 +184,11 @@ module _ (text w₀ : List ℕ) (t : ℕ) (m : Mode) (visible drop : Bool) (s ns
             within = omega (arith, tk .few);
             noted = λ i l q. noted-now i l q (eqb i k) refl;
             notes = λ i z l q. notes-now i z l q (eqb i k) refl;
-            kept = kept-two-then (d + nd * 16) (d + cap * 16) o (o + ns) w₀ w w′ (inv .kept)
-                (kept-wider (d + n * 16) (d + n * 16 + 16) (o + k) (o + k + 1) (d + nd * 16) (d + cap * 16) o (o + ns) w w′
+            kept = kept-two-then (d + nd * row-size) (d + cap * row-size) o (o + ns) w₀ w w′ (inv .kept)
+                (kept-wider (d + n * row-size) (d + n * row-size + row-size) (o + k) (o + k + 1) (d + nd * row-size) (d + cap * row-size) o (o + ns) w w′
                 (omega arith) (omega arith) (omega arith) (omega arith) (tk .kept));
-            kept-few = kept-two-then (d + nd * 16) (d + (nd + ns) * 16) o (o + ns) w₀ w w′ (inv .kept-few)
-                (kept-wider (d + n * 16) (d + n * 16 + 16) (o + k) (o + k + 1) (d + nd * 16) (d + (nd + ns) * 16) o (o + ns) w w′
+            kept-few = kept-two-then (d + nd * row-size) (d + (nd + ns) * row-size) o (o + ns) w₀ w w′ (inv .kept-few)
+                (kept-wider (d + n * row-size) (d + n * row-size + row-size) (o + k) (o + k + 1) (d + nd * row-size) (d + (nd + ns) * row-size) o (o + ns) w w′
                 (omega arith) (omega arith) (omega arith) (omega arith) (tk .kept));
           }
 
@@ -196,13 +197,13 @@ module _ (text w₀ : List ℕ) (t : ℕ) (m : Mode) (visible drop : Bool) (s ns
     pub absorb-again : (w′ : List ℕ) (n′ : ℕ) → k < ns → n < cap → Turned text (part w 0 t) w m visible drop s k d n o n′ w′ → Absorbing w′ n′ (k + 1)
     absorb-again w′ n′ h free turned = by (wanted (old k)) refl
       where
-        same : item-of text (part w 0 t) (row-at w (s + k * 16)) ≡ old k
+        same : item-of text (part w 0 t) (row-at w (s + k * row-size)) ≡ old k
         same = ap₂ (item-of text) tape-stays (source-stays h)
 
         by : (b : Bool) → wanted (old k) ≡ b → Absorbing w′ n′ (k + 1)
         by true takes =
-            taken-in w′ n′ h free takes (item-of text (part w 0 t) (row-at w (s + k * 16))) same
-            (subst (λ (u : List ℕ). Taken text u w m visible (item-of text (part w 0 t) (row-at w (s + k * 16))) d n (o + k) n′ w′) tape-stays
+            taken-in w′ n′ h free takes (item-of text (part w 0 t) (row-at w (s + k * row-size))) same
+            (subst (λ (u : List ℕ). Taken text u w m visible (item-of text (part w 0 t) (row-at w (s + k * row-size))) d n (o + k) n′ w′) tape-stays
             (turned .takes (ap wanted same ∙ takes)))
         by false q =
             let e : n′ ≡ n = turned .left (ap wanted same ∙ q) in
@@ -238,14 +239,14 @@ module _ (text w₀ : List ℕ) (t : ℕ) (m : Mode) (visible drop : Bool) (s ns
     -- ---- the table is full
 
     abbrev rest : List Item
-    rest = map new (keep wanted (items-at text tape w₀ (s + k * 16) (ns - k)))
+    rest = map new (keep wanted (items-at text tape w₀ (s + k * row-size) (ns - k)))
 
     come-all : k < ns → come ns ≡ come k ++ rest
     come-all h =
         let e : ns ≡ k + (ns - k) = omega arith in
         ap come e ∙ ap (λ (xs : List Item). map new (keep wanted xs)) (items-split text tape w₀ s k (ns - k))
-        ∙ ap (map new) (keep-append wanted (items-at text tape w₀ s k) (items-at text tape w₀ (s + k * 16) (ns - k)))
-        ∙ map-append new (keep wanted (items-at text tape w₀ s k)) (keep wanted (items-at text tape w₀ (s + k * 16) (ns - k)))
+        ∙ ap (map new) (keep-append wanted (items-at text tape w₀ s k) (items-at text tape w₀ (s + k * row-size) (ns - k)))
+        ∙ map-append new (keep wanted (items-at text tape w₀ s k)) (keep wanted (items-at text tape w₀ (s + k * row-size) (ns - k)))
 
     pub absorb-full : k < ns → cap ≤ n → AbsorbedWithin text tape w₀ m visible drop s ns d nd o cap n w
     absorb-full h l =

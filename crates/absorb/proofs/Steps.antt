@@ -1,7 +1,7 @@
 -- Laws of one turn: a row is moved, placed and noted; or it is left out.
 use mathlib.Core.Path.{_≡_, refl, sym, ap, _∙_}
 use mathlib.Core.Logic.{_⊎_, inl, inr, ⊎-elim}
-use Prim.Native.Nat.{ℕ, zero, suc, _+_, _*_, _≤_, _<_}
+use Prim.Native.Nat.{ℕ, _+_, _*_, _≤_, _<_}
 use mathlib.Core.Bool.{Bool, true, false, false≢true}
 use mathlib.Core.List.{List, [], _∷_}
 use native.Mathlib.Omega.{arith}
@@ -12,10 +12,10 @@ use mir.Syntax.{w32}
 use mir.Val.{Fits}
 use Rattle.meaning.specs.Lists.{pick, any, before, union}
 use Rattle.meaning.specs.Origins.{Item, one-item}
+use Rattle.laws.specs.Decides.{items-decided}
 use Rattle.tables.specs.declared.Row.{Row}
-use Rattle.tables.specs.Rows.{item-of, row-at, words-from}
-use Rattle.tables.specs.RowLaws.{section-is-word}
-use Rattle.tables.specs.Decides.{items-decided}
+use Rattle.tables.specs.Rows.{item-of, row-at, row-size}
+use Rattle.tables.specs.RowLaws.{section-is-word, length-words}
 use Rattle.forms.specs.Memory.{Kept}
 use Rattle.forms.specs.Forms.{items-at}
 use Rattle.forms.specs.FormLaws.{kept-set, kept-same, kept-is-two, kept-two-swap, kept-two-then, items-same, length-items}
@@ -67,8 +67,8 @@ module _ (text tape w w₁ w₂ : List ℕ) (t : ℕ) (m : Mode) (visible : Bool
 
   rows-kept : (r : ℕ) → r ≤ n + 1 → items-at text tape w₂ d r ≡ items-at text tape w₁ d r
   rows-kept r h =
-      let off : (d + r * 16 ≤ place) ⊎ (place + 1 ≤ d) = ⊎-elim (λ a. inr (omega arith)) (λ a. inl (omega arith)) (room .apart) in
-      items-same w₁ w₂ text tape d r (kept-same place (place + 1) d (d + r * 16) w₁ w₂ off note-kept)
+      let off : (d + r * row-size ≤ place) ⊎ (place + 1 ≤ d) = ⊎-elim (λ a. inr (omega arith)) (λ a. inl (omega arith)) (room .apart) in
+      items-same w₁ w₂ text tape d r (kept-same place (place + 1) d (d + r * row-size) w₁ w₂ off note-kept)
 
   taking : (r : ℕ) → n ≤ r → r ≤ n + 1 → at < r → items-at text tape w₁ d r ≡ union one-item xs (new ∷ [])
       → ((z : Item) → getD (union one-item xs (new ∷ [])) at z ≡ new) → Taken text tape w m visible old d n place r w₂
@@ -80,8 +80,8 @@ module _ (text tape w w₁ w₂ : List ℕ) (t : ℕ) (m : Mode) (visible : Bool
         few = b;
         noted = rw noted-at c;
         note = λ z. rw (noted-at, same) (note z);
-        kept = kept-two-then (d + n * 16) (d + n * 16 + 16) place (place + 1) w w₁ w₂ (kept-is-two (d + n * 16) (d + n * 16 + 16) place (place + 1) w w₁ (p .kept))
-            (kept-two-swap place (place + 1) (d + n * 16) (d + n * 16 + 16) w₁ w₂ (kept-is-two place (place + 1) (d + n * 16) (d + n * 16 + 16) w₁ w₂ note-kept));
+        kept = kept-two-then (d + n * row-size) (d + n * row-size + row-size) place (place + 1) w w₁ w₂ (kept-is-two (d + n * row-size) (d + n * row-size + row-size) place (place + 1) w w₁ (p .kept))
+            (kept-two-swap place (place + 1) (d + n * row-size) (d + n * row-size + row-size) w₁ w₂ (kept-is-two place (place + 1) (d + n * row-size) (d + n * row-size + row-size) w₁ w₂ note-kept));
       }
 
   pub take-found : at < n → Taken text tape w m visible old d n place n w₂
@@ -110,22 +110,17 @@ module _ (text tape w w₁ w₂ : List ℕ) (t : ℕ) (m : Mode) (visible : Bool
 
 -- ---- `absorb_row`
 
-length-words : (w : List ℕ) (b c : ℕ) → length (words-from w b c) ≡ c
-unfolding words-from
-length-words w b zero = refl
-length-words w b (suc c) = ap suc (length-words w (suc b) c)
-
 -- what is read of a memory of words is a row
-pub turn-place : (w : List ℕ) (t s k d n o : ℕ) (x : Row) → TurnRoom (length w) t k d n o → x ≡ row-at w (s + k * 16)
+pub turn-place : (w : List ℕ) (t s k d n o : ℕ) (x : Row) → TurnRoom (length w) t k d n o → x ≡ row-at w (s + k * row-size)
     → ((i : ℕ) → Fits w32 (getD w i 0)) → Place (length w) t d n (o + k) x
 unfolding row-at
 turn-place w t s k d n o x room e fits = record {
   space = record {
     tape = room .tape;
     row = rw e (record {
-      standing-word = section-is-word (getD w (s + k * 16) 0) (omega (arith, fits (s + k * 16)));
-      section-word = section-is-word (getD w (s + k * 16 + 4) 0) (omega (arith, fits (s + k * 16 + 4)));
-      nine = length-words w (s + k * 16 + 6) 9;
+      standing-word = section-is-word (getD w (s + k * row-size) 0) (omega (arith, fits (s + k * row-size)));
+      section-word = section-is-word (getD w (s + k * row-size + 4) 0) (omega (arith, fits (s + k * row-size + 4)));
+      nine = length-words w (s + k * row-size + 6) 9;
     });
     room = room .room;
   };
@@ -134,12 +129,12 @@ turn-place w t s k d n o x room e fits = record {
   apart = room .apart;
 }
 
-module _ (text tape w : List ℕ) (m : Mode) (visible drop : Bool) (s k d n o : ℕ) (x : Row) (b : Bool) (e : x ≡ row-at w (s + k * 16))
+module _ (text tape w : List ℕ) (m : Mode) (visible drop : Bool) (s k d n o : ℕ) (x : Row) (b : Bool) (e : x ≡ row-at w (s + k * row-size))
     (f : b ≡ taken text drop (m .parameter) (item-of text tape x)) where
   pub turn-taken : (r : ℕ) (w′ : List ℕ) → b ≡ true → Taken text tape w m visible (item-of text tape x) d n (o + k) r w′
       → Turned text tape w m visible drop s k d n o r w′
   turn-taken r w′ q h =
-      let yes : taken text drop (m .parameter) (item-of text tape (row-at w (s + k * 16))) ≡ true = rw (← e, ← f) q in
+      let yes : taken text drop (m .parameter) (item-of text tape (row-at w (s + k * row-size))) ≡ true = rw (← e, ← f) q in
       record {
         left = λ no. absurd (false≢true (sym no ∙ yes));
         stays = λ no. absurd (false≢true (sym no ∙ yes));
@@ -148,7 +143,7 @@ module _ (text tape w : List ℕ) (m : Mode) (visible drop : Bool) (s k d n o : 
 
   pub turn-left : b ≡ false → Turned text tape w m visible drop s k d n o n w
   turn-left q =
-      let no : taken text drop (m .parameter) (item-of text tape (row-at w (s + k * 16))) ≡ false = rw (← e, ← f) q in
+      let no : taken text drop (m .parameter) (item-of text tape (row-at w (s + k * row-size))) ≡ false = rw (← e, ← f) q in
       record { left = λ u. refl; stays = λ u. refl; takes = λ yes. absurd (false≢true (sym no ∙ yes)) }
 
 pub ruleset turns = (moved-space, take-found, take-new, turn-taken, turn-left, needs)

@@ -8,6 +8,7 @@ use lib.ListN.{getD, take}
 use Rattle.meaning.specs.Lists.{pick, keep, any, before, union}
 use Rattle.meaning.specs.Origins.{Item, one-item, in-parameter}
 use Rattle.names.specs.Word.{name-of}
+use Rattle.tables.specs.Rows.{row-size}
 use Rattle.forms.specs.Memory.{Kept, KeptTwo}
 use Rattle.forms.specs.Forms.{items-at}
 use Rattle.translation.specs.declared.Mode.{Mode}
@@ -17,7 +18,7 @@ use Rattle.translation.specs.Translation.{moved-in}
 pub record Placed (text tape w : List ℕ) (b n : ℕ) (x : Item) (r : ℕ) (w′ : List ℕ) : Type 0 where
   pub row : r ≡ before (one-item x) (items-at text tape w b n)
   pub items : items-at text tape w′ b (pick (any (one-item x) (items-at text tape w b n)) n (n + 1)) ≡ union one-item (items-at text tape w b n) (x ∷ [])
-  pub kept : Kept (b + n * 16) (b + n * 16 + 16) w w′
+  pub kept : Kept (b + n * row-size) (b + n * row-size + row-size) w w′
 
 -- which source rows are taken: where `drop` says so, those that stand in the parameter are left out
 unfoldable pub taken : List ℕ → Bool → ℕ → Item → Bool
@@ -35,7 +36,7 @@ pub record Absorbed (text tape w : List ℕ) (m : Mode) (visible drop : Bool) (s
   pub notes :
       (i : ℕ) (x : Item) → i < ns → taken text drop (m .parameter) (getD (items-at text tape w s ns) i x) ≡ true
       → getD (items-at text tape w′ d r) (getD w′ (o + i) 0) x ≡ moved-in text tape w m visible (getD (items-at text tape w s ns) i x)
-  pub kept : KeptTwo (d + nd * 16) (d + (nd + ns) * 16) o (o + ns) w w′
+  pub kept : KeptTwo (d + nd * row-size) (d + (nd + ns) * row-size) o (o + ns) w w′
 
 -- the same while the table has less than `cap` rows. Where it stops before the end the table is full
 pub record AbsorbedWithin (text tape w : List ℕ) (m : Mode) (visible drop : Bool) (s ns d nd o cap r : ℕ) (w′ : List ℕ) : Type 0 where
@@ -45,5 +46,5 @@ pub record AbsorbedWithin (text tape w : List ℕ) (m : Mode) (visible drop : Bo
       (map (moved-in text tape w m visible) (keep (taken text drop (m .parameter)) (items-at text tape w s ns))))
   pub grows : nd ≤ r
   pub within : r ≤ cap
-  pub kept : KeptTwo (d + nd * 16) (d + cap * 16) o (o + ns) w w′
+  pub kept : KeptTwo (d + nd * row-size) (d + cap * row-size) o (o + ns) w w′
   pub whole : (r < cap) ⊎ (nd + ns ≤ cap) → Absorbed text tape w m visible drop s ns d nd o r w′

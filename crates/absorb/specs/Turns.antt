@@ -7,7 +7,7 @@ use lib.ListN.{getD}
 use Rattle.meaning.specs.Lists.{union}
 use Rattle.meaning.specs.Origins.{Item, one-item}
 use Rattle.tables.specs.declared.Row.{Row}
-use Rattle.tables.specs.Rows.{item-of, row-at}
+use Rattle.tables.specs.Rows.{item-of, row-at, row-size}
 use Rattle.tables.specs.RowLaws.{IsRow}
 use Rattle.forms.specs.Memory.{KeptTwo}
 use Rattle.forms.specs.Forms.{items-at}
@@ -21,35 +21,35 @@ use Rattle.absorb.specs.Absorb.{taken}
 pub record Space (size t b n : ℕ) (x : Row) : Type 0 where
   pub tape : t ≤ size
   pub row : IsRow x
-  pub room : b + n * 16 + 16 ≤ size
+  pub room : b + n * row-size + row-size ≤ size
 
 -- and for a word at a place apart from them
 pub record Place (size t d n place : ℕ) (x : Row) : Type 0 where
   pub space : Space size t d n x
   pub few : n < 65536
   pub word : place < size
-  pub apart : Apart d (d + n * 16 + 16) place (place + 1)
+  pub apart : Apart d (d + n * row-size + row-size) place (place + 1)
 
 pub record TurnRoom (size t k d n o : ℕ) : Type 0 where
   pub tape : t ≤ size
   pub few : n < 65536
-  pub room : d + n * 16 + 16 ≤ size
+  pub room : d + n * row-size + row-size ≤ size
   pub word : o + k < size
-  pub apart : Apart d (d + n * 16 + 16) (o + k) (o + k + 1)
+  pub apart : Apart d (d + n * row-size + row-size) (o + k) (o + k + 1)
 
 -- for all rows of a source, up to `cap` rows in the table: it and the note lie behind the tape, within the memory, apart from each other, from
 -- the source and from the table of the mode
 pub record RoomWithin (size t : ℕ) (m : Mode) (s ns d cap o : ℕ) : Type 0 where
   pub tape-table : t ≤ d
   pub tape-note : t ≤ o
-  pub table : d + cap * 16 ≤ size
+  pub table : d + cap * row-size ≤ size
   pub note : o + ns ≤ size
   pub few : cap ≤ 65536
-  pub table-note : Apart d (d + cap * 16) o (o + ns)
-  pub table-source : Apart d (d + cap * 16) s (s + ns * 16)
-  pub note-source : Apart o (o + ns) s (s + ns * 16)
-  pub table-mode : Apart d (d + cap * 16) (m .visible) (m .visible + m .count * 16)
-  pub note-mode : Apart o (o + ns) (m .visible) (m .visible + m .count * 16)
+  pub table-note : Apart d (d + cap * row-size) o (o + ns)
+  pub table-source : Apart d (d + cap * row-size) s (s + ns * row-size)
+  pub note-source : Apart o (o + ns) s (s + ns * row-size)
+  pub table-mode : Apart d (d + cap * row-size) (m .visible) (m .visible + m .count * row-size)
+  pub note-mode : Apart o (o + ns) (m .visible) (m .visible + m .count * row-size)
 
 -- and for all of them behind nd rows
 abbrev pub Room : ℕ → ℕ → Mode → ℕ → ℕ → ℕ → ℕ → ℕ → Type 0
@@ -64,12 +64,12 @@ pub record Taken (text tape w : List ℕ) (m : Mode) (visible : Bool) (x : Item)
   pub few : r ≤ n + 1
   pub noted : getD w′ place 0 < r
   pub note : (z : Item) → getD (items-at text tape w′ d r) (getD w′ place 0) z ≡ moved-in text tape w m visible x
-  pub kept : KeptTwo (d + n * 16) (d + n * 16 + 16) place (place + 1) w w′
+  pub kept : KeptTwo (d + n * row-size) (d + n * row-size + row-size) place (place + 1) w w′
 
 -- row k of the source, if it is taken
 pub record Turned (text tape w : List ℕ) (m : Mode) (visible drop : Bool) (s k d n o r : ℕ) (w′ : List ℕ) : Type 0 where
-  pub left : taken text drop (m .parameter) (item-of text tape (row-at w (s + k * 16))) ≡ false → r ≡ n
-  pub stays : taken text drop (m .parameter) (item-of text tape (row-at w (s + k * 16))) ≡ false → w′ ≡ w
+  pub left : taken text drop (m .parameter) (item-of text tape (row-at w (s + k * row-size))) ≡ false → r ≡ n
+  pub stays : taken text drop (m .parameter) (item-of text tape (row-at w (s + k * row-size))) ≡ false → w′ ≡ w
   pub takes :
-      taken text drop (m .parameter) (item-of text tape (row-at w (s + k * 16))) ≡ true
-      → Taken text tape w m visible (item-of text tape (row-at w (s + k * 16))) d n (o + k) r w′
+      taken text drop (m .parameter) (item-of text tape (row-at w (s + k * row-size))) ≡ true
+      → Taken text tape w m visible (item-of text tape (row-at w (s + k * row-size))) d n (o + k) r w′

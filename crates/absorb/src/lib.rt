@@ -1,4 +1,5 @@
 // Items of one table absorbed into another, all in one working memory: each is found there, or goes behind. A note says where each went.
+use tables::ROW_STEP;
 use tables::Row;
 use tables::entries::put_word;
 use tables::entries::same_word;
@@ -15,7 +16,7 @@ ghost use lib.ListN.{length};
 ghost use Rattle.meaning.specs.Lists.{before};
 ghost use Rattle.meaning.specs.Origins.{one-item};
 ghost use Rattle.names.specs.Joint.{joint};
-ghost use Rattle.tables.specs.Rows.{item-of, row-at};
+ghost use Rattle.tables.specs.Rows.{item-of, row-at, row-size};
 ghost use Rattle.forms.specs.Memory.{part};
 ghost use Rattle.forms.specs.Forms.{items-at};
 ghost use Rattle.absorb.specs.Absorb.{Placed, Absorbed, AbsorbedWithin, taken};
@@ -24,10 +25,10 @@ ghost use Rattle.absorb.specs.Turns.{Space, Place, Taken, TurnRoom, Turn
 // Is row i of the table at `base` one with x? Names are compared first, and decide most: only then the row is read.
 fn is_item(library: &[u8], text: &[u8], work: &[u32], t: usize, base: u32, i: u32, x: Row) -> bool
     requires { ⌜ t ≤ length (now work) ⌝ }
-    ensures { λ r. ⌜ r ≡ one-item (item-of (joint (now (library .entry)) (now (text .entry))) (part (now (work .entry)) 0 t) x) (item-of (joint (now (library .entry)) (now (text .entry))) (part (now (work .entry)) 0 t) (row-at (now (work .entry)) (base + i * 16))) ⌝ }
+    ensures { λ r. ⌜ r ≡ one-item (item-of (joint (now (library .entry)) (now (text .entry))) (part (now (work .entry)) 0 t) x) (item-of (joint (now (library .entry)) (now (text .entry))) (part (now (work .entry)) 0 t) (row-at (now (work .entry)) (base + i * row-size))) ⌝ }
 {
     let name = x.name;
-    let called = word_at(work, base as usize + i as usize * 16 + 1);
+    let called = word_at(work, base as usize + i as usize * ROW_STEP + 1);
     if same_word(library, text, name, called) {
         let y = read_row(work, base, i);
         return one_item(library, text, &work[0..t], x, y);

@@ -12,8 +12,8 @@ use borrow.Author.Tests.{eqb-true, eq-eqb}
 use Rattle.meaning.specs.Lists.{pick, agree}
 use Rattle.meaning.specs.Names.{same}
 use Rattle.meaning.specs.OrderLaws.{same-self, same-equal, Every}
+use Rattle.laws.specs.Decides.{Decides, agree-decided}
 use Rattle.tape.specs.Tape.{Entry, spelled, entries}
-use Rattle.tables.specs.Decides.{Decides, agree-decided}
 use Rattle.alike.specs.Alike.{same-entry, entries-from, section-role, run-size}
 
 -- ---- entries that are the same

@@ -1,8 +1,11 @@
 // Entries of two tapes compared, each tape that of a text and the library behind it: two entries are the same if their roles are, and their names,
 // wherever these stand. Compared are so many entries, those up to a place, and those of one section of a module.
+pub mod sections;
+
 use spelling::same_wherever;
 use tables::entries::role_at;
 use tables::entries::word_at;
+use tape::roles;
 ghost use mathlib.Core.Path.{_≡_};
 ghost use Prim.Native.Nat.{_-_};
 ghost use Rattle.meaning.specs.Lists.{agree};
@@ -131,20 +134,20 @@ fn is_declaring(role: u32, first: u32, last: u32) -> bool
     if is_between(role, first, last) {
         return true;
     }
-    is_between(role, 9, 10)
+    is_between(role, roles::INPUT, roles::OUTPUT)
 }
 
 // Has an entry of the section the role?
 fn is_of_section(section: u32, role: u32) -> bool
     ensures { λ r. ⌜ r ≡ section-role section role ⌝ }
 {
-    if section == 0 {
-        return is_declaring(role, 2, 4);
+    if section == sections::PARAMETERS {
+        return is_declaring(role, roles::PARAMETER, roles::PARAMETER_FUNCTION);
     }
-    if section == 1 {
-        return is_declaring(role, 5, 6);
+    if section == sections::EXPORTS {
+        return is_declaring(role, roles::EXPORT_SORT, roles::EXPORT_FUNCTION);
     }
-    is_between(role, 11, 16)
+    is_between(role, roles::IMPORT, roles::ACTUAL)
 }
 
 // How many entries from i on, before `end`, are of the section.

@@ -1,8 +1,9 @@
 // An answer written as lines, as `asfnorm` prints it.
 use answers::Answer;
 use answers::Name;
-use framing::put_digits;
+use meaning::numbers;
 use pen::put_bytes;
+use pen::put_digits;
 use pen::put_text;
 ghost use mathlib.Core.Path.{_≡_};
 ghost use lib.ListN.{take};
@@ -51,10 +52,10 @@ fn put_name(page: &mut [u8], at: usize, limit: usize, key: &[u8], name: Name) ->
 fn put_actual(page: &mut [u8], at: usize, limit: usize, number: u32, actual: Name) -> usize
     ensures { λ r. ⌜ pen r (now (page .exit)) ≡ written limit (actual-text number actual) (pen at (now (page .entry))) ⌝ }
 {
-    if number < 22 {
+    if number < numbers::FORMAL_ABSENT {
         return at;
     }
-    if 27 < number {
+    if numbers::FORMAL_UNPAIRED < number {
         return at;
     }
     put_name(page, at, limit, b"actual", actual)
@@ -97,7 +98,7 @@ pub fn put_answer(page: &mut [u8], limit: usize, listing: &[u8], r: Answer) -> u
     let size = r.listing;
     let a = put_number(page, 0, limit, b"answer", number as usize);
     let b = put_number(page, a, limit, b"modules", modules as usize);
-    if number == 0 {
+    if number == numbers::ACCEPTED {
         return put_bytes(page, b, limit, listing, 0, size);
     }
     put_refusal(page, b, limit, r)

@@ -1,5 +1,6 @@
 // The answer of a call: document 01's number and values.
 use forms::Culprit;
+use meaning::numbers;
 ghost use mathlib.Core.Path.{_≡_};
 ghost use mathlib.Core.List.{[]};
 ghost use Rattle.meaning.specs.Numbers.{asked-absent, lent-short};
@@ -43,7 +44,7 @@ pub fn short_or_blank(name: &[u8]) -> Name
     ensures { λ r. ⌜ r ≡ held (short-or-blank (now (name .entry))) ⌝ }
 {
     let mut bytes = [0; 42];
-    if 40 < name.len() {
+    if numbers::NAME_SIZE < name.len() {
         return blank();
     }
     let length = pen::put_text(&mut bytes, 0, 43, name);
@@ -65,7 +66,7 @@ fn module_in(library: &[u8], text: &[u8], w: u32) -> Name
 {
     let name = name_in(library, text, w);
     let size = name.length;
-    if 40 < size {
+    if numbers::NAME_SIZE < size {
         return blank();
     }
     name
@@ -77,7 +78,7 @@ pub fn listed(modules: u32, listing: usize) -> Answer
 {
     let none = blank();
     Answer {
-        number: 0,
+        number: numbers::ACCEPTED,
         modules,
         evaluating: none,
         culprit: none,
@@ -112,7 +113,7 @@ pub fn absent(asked: &[u8]) -> Answer
     let none = blank();
     let name = short_or_blank(asked);
     Answer {
-        number: 6,
+        number: numbers::ASKED_ABSENT,
         modules: 0,
         evaluating: name,
         culprit: name,
@@ -156,7 +157,7 @@ pub fn lent_short(asked: &[u8], modules: u32) -> Answer
     let none = blank();
     let evaluating = short_or_blank(asked);
     Answer {
-        number: 19,
+        number: numbers::LENT_SHORT,
         modules,
         evaluating,
         culprit: none,

@@ -19,6 +19,7 @@ use Rattle.meaning.specs.Listing.{lines-text, listing-lines}
 use Rattle.meaning.specs.Answer.{refusal, of-ended, unread, of-read, within, output-after}
 use Rattle.names.specs.Word.{name-of}
 use Rattle.names.specs.Joint.{joint}
+use Rattle.forms.specs.Forms.{form-size}
 use Rattle.two_texts.specs.declared.Both.{Both}
 use Rattle.two_texts.specs.declared.Both.the-variants.{Done, Refused}
 use Rattle.two_texts.specs.Both.{Said}
@@ -279,9 +280,9 @@ module _ (asked : List ℕ) (x : Reading) (text : List ℕ) (t : ℕ) (w : List 
   pub listed-within : t ≤ length w
   listed-within = evaluated .tape
 
-  module _ (table : ℕ) (f : Form) (place : table ≡ table-start) (form : f ≡ form-at w (table + last * 16)) where
+  module _ (table : ℕ) (f : Form) (place : table ≡ table-start) (form : f ≡ form-at w (table + last * form-size)) where
     form-so : f ≡ kept-form w last
-    form-so = form ∙ ap (λ (b : ℕ). form-at w (b + last * 16)) place
+    form-so = form ∙ ap (λ (b : ℕ). form-at w (b + last * form-size)) place
 
     pub hidden-few : f .«hidden_count» < 2147483648
     hidden-few =

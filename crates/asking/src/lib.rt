@@ -6,7 +6,9 @@ use answers::Name;
 use answers::blank;
 use answers::name_in;
 use answers::short_or_blank;
+use asking_again::reasons;
 use layout::tape_end;
+use meaning::numbers;
 use memory::memory_size;
 use modules::Heads;
 use modules::find_asked;
@@ -216,10 +218,10 @@ fn decide_read(
     let count = h.count;
     let new_count = g.count;
     if count <= k {
-        return absent(asked, 1);
+        return absent(asked, reasons::ABSENT_BEFORE);
     }
     if new_count <= new_k {
-        return absent(asked, 2);
+        return absent(asked, reasons::ABSENT_NOW);
     }
     decide_reached(
         asked,
@@ -307,7 +309,7 @@ pub fn decide(
     let size = memory_size();
     if work.len() < size {
         memory::zero_all(work);
-        return nameless(19, 0, false, false, 0, 0);
+        return nameless(numbers::LENT_SHORT, 0, false, false, 0, 0);
     }
     let r = decide_texts(asked, old_library, old_text, new_library, new_text, work);
     memory::zero_all(work);

@@ -1,5 +1,6 @@
 // Two sets of modules, one of the old specification and one of the new, walked upwards in pairs. Each specification lies on a tape of its own, with
 // its texts and its heads: `library`, `text`, `tape` and `h` are the old one's, `behind`, `other`, `more` and `g` the new one's.
+use asking_again::reasons;
 use modules::Heads;
 use modules::name_of_module;
 use objections::Objection;
@@ -41,7 +42,7 @@ fn left_over(by: u32, name: u32, new_name: bool) -> Objection
     ensures { λ r. ⌜ r ≡ Against (record { reason = 3; by = by; name = name; «new_name» = «new_name» }) ⌝ }
 {
     Objection::Against(Why {
-        reason: 3,
+        reason: reasons::REACHED_OTHERWISE,
         by,
         name,
         new_name,

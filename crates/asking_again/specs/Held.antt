@@ -14,6 +14,7 @@ use Rattle.meaning.specs.Reached.{Placed, reached, module-names}
 use Rattle.meaning.specs.Distinct.{read-fresh}
 use Rattle.meaning.specs.Answer.{listing, answer}
 use Rattle.meaning.specs.OrderLaws.{Every}
+use Rattle.laws.specs.EveryLaws.{every-so, every-any}
 use Rattle.promises.specs.VisiblePart.{visible-part}
 use Rattle.promises.specs.Demand.{ReadAs, ShortOfRoom}
 use Rattle.promises.specs.Proof.{Showing}
@@ -23,8 +24,6 @@ use Rattle.asking_again.specs.Decide.{keep-after, numbers, decide, names
 use Rattle.asking_again.specs.Changed.{changed-each, changed-within}
 use Rattle.asking_again.specs.Exact.{Kept, decided}
 use Rattle.promises.specs.TwoCalls.{reached-such}
-use Rattle.promises.specs.ListingLaws.{every-so}
-use Rattle.promises.specs.Sound.{every-any}
 
 -- ---- the statement
 

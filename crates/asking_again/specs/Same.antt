@@ -7,7 +7,7 @@ use Rattle.meaning.specs.Names.{Name, same}
 use Rattle.meaning.specs.OrderLaws.{same-self, same-equal}
 use Rattle.meaning.specs.Syntax.{Signature, Parameter, Pair, Clause, renamed-by, bound-by, Import, VariableGroup, Term, Terms, node, no-terms, _then_, Sides, Equation, Module}
 use Rattle.meaning.specs.Evaluate.{same-function}
-use Rattle.promises.specs.ListingLaws.{both-true}
+use Rattle.laws.specs.Decides.{both-true}
 use Rattle.promises.specs.Deciding.{Decides, names-decided, lists-decided, both-decided, by-parts}
 
 -- ---- the tests

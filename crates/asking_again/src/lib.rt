@@ -1,1 +1,2 @@
-// Theorems alone: which modules must be asked again before a stored visible part is shown. This crate has no function.
+// Theorems: which modules must be asked again before a stored visible part is shown. Its code are the reasons.
+pub mod reasons;

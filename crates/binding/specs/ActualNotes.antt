@@ -14,11 +14,11 @@ use Rattle.meaning.specs.Normal.{Visible, move-shape, move-item, formals}
 use Rattle.meaning.specs.Checks.{fine}
 use Rattle.meaning.specs.Clauses.{pairs-right, unpaired}
 use Rattle.names.specs.Word.{name-of}
-use Rattle.tables.specs.Rows.{item-of, row-at}
+use Rattle.tables.specs.Rows.{item-of, row-at, row-size}
 use Rattle.forms.specs.declared.Form.{Form}
 use Rattle.forms.specs.Memory.{Same}
 use Rattle.forms.specs.Forms.{items-at, node-shape, node-of}
-use Rattle.forms.specs.FormLaws.{row-same, items-same}
+use Rattle.forms.specs.FormLaws.{items-same}
 use Rattle.forms.specs.FlatMoves.{move-node}
 use Rattle.translation.specs.declared.Mode.{Mode}
 use Rattle.translation.specs.Translation.{pairs-at, sort-name, function-name, moved, moved-in}
@@ -28,6 +28,7 @@ use Rattle.joining.specs.Found.{pointable, Noted, function-moved}
 use Rattle.uniting.specs.Noting.{item-moved, node-moved, shape-moved, note-inside, note-item}
 use Rattle.clauses.specs.Notes.{mode-item, formal-row, moved-place, FormalsNoted}
 use Rattle.mistakes.specs.Bound.{NotedAs, note-right}
+use Rattle.tables.specs.RowLaws.{row-same}
 
 -- ---- a visible function is known at nodes by its name and its type
 
@@ -44,11 +45,11 @@ node-known k i j f e s = ap (node-shape true k i) s ∙ by (j .shape) f
 
 -- what stays: the mode's table, the notes while the others are absorbed, and rows that are there
 pub record StaysNoted (w w₁ w₂ w₃ : List ℕ) (m : Mode) (notes count : ℕ) (all : Form) : Type 0 where
-  pub table : Same (m .visible) (m .visible + m .count * 16) w w₂
-  pub table-last : Same (m .visible) (m .visible + m .count * 16) w w₃
+  pub table : Same (m .visible) (m .visible + m .count * row-size) w w₂
+  pub table-last : Same (m .visible) (m .visible + m .count * row-size) w w₃
   pub notes-stay : Same notes (notes + m .count) w₁ w₂
-  pub rows : Same (all .visible) (all .visible + count * 16) w₁ w₃
-  pub rows-last : Same (all .visible) (all .visible + all .«visible_count» * 16) w₂ w₃
+  pub rows : Same (all .visible) (all .visible + count * row-size) w₁ w₃
+  pub rows-last : Same (all .visible) (all .visible + all .«visible_count» * row-size) w₂ w₃
 
 module _ (text tape w w₁ w₂ w₃ : List ℕ) (m : Mode) (nd notes count : ℕ) (all : Form)
     (x : Absorbed text tape w m true true (m .visible) (m .count) (all .visible) nd notes count w₁) (grows : count ≤ all .«visible_count»)
@@ -60,7 +61,7 @@ module _ (text tape w w₁ w₂ w₃ : List ℕ) (m : Mode) (nd notes count : �
   φ = function-name text tape w m
 
   abbrev source : ℕ → Item
-  source i = item-of text tape (row-at w (m .visible + i * 16))
+  source i = item-of text tape (row-at w (m .visible + i * row-size))
 
   abbrev goal : ℕ → Item
   goal i = item-moved σ φ true (source i)
@@ -69,7 +70,7 @@ module _ (text tape w w₁ w₂ w₃ : List ℕ) (m : Mode) (nd notes count : �
   note i = getD w₃ (notes + i) 0
 
   abbrev there : ℕ → Item
-  there i = item-of text tape (row-at w₃ (all .visible + note i * 16))
+  there i = item-of text tape (row-at w₃ (all .visible + note i * row-size))
 
   table-then : items-at text tape w₂ (m .visible) (m .count) ≡ items-at text tape w (m .visible) (m .count)
   table-then = items-same w w₂ text tape (m .visible) (m .count) (stays .table)
@@ -77,10 +78,10 @@ module _ (text tape w w₁ w₂ w₃ : List ℕ) (m : Mode) (nd notes count : �
   module _ (i : ℕ) (h : i < m .count) where
     source-then : mode-item text tape w₂ m i ≡ source i
     unfolding mode-item
-    source-then = ap (item-of text tape) (row-same w w₂ (m .visible + i * 16) (λ j a b. stays .table j (omega arith) (omega arith)))
+    source-then = ap (item-of text tape) (row-same w w₂ (m .visible + i * row-size) (λ j a b. stays .table j (omega arith) (omega arith)))
 
-    source-last : item-of text tape (row-at w₃ (m .visible + i * 16)) ≡ source i
-    source-last = ap (item-of text tape) (row-same w w₃ (m .visible + i * 16) (λ j a b. stays .table-last j (omega arith) (omega arith)))
+    source-last : item-of text tape (row-at w₃ (m .visible + i * row-size)) ≡ source i
+    source-last = ap (item-of text tape) (row-same w w₃ (m .visible + i * row-size) (λ j a b. stays .table-last j (omega arith) (omega arith)))
 
     formal : formal-row text tape w₂ m i ≡ in-parameter (name-of text (m .parameter)) (source i .standing)
     unfolding formal-row
@@ -94,9 +95,9 @@ module _ (text tape w w₁ w₂ w₃ : List ℕ) (m : Mode) (nd notes count : �
         let first = getD w₁ (notes + i) 0 in
         let inside = note-inside text tape w m true true (m .visible) (m .count) (all .visible) nd notes count w₁ x i h takes in
         let same-note : note i ≡ first = z .others i h e ∙ stays .notes-stay (notes + i) (omega arith) (omega arith) in
-        let row = row-same w₁ w₃ (all .visible + first * 16) (λ j a b. stays .rows j (omega arith) (omega arith)) in
+        let row = row-same w₁ w₃ (all .visible + first * row-size) (λ j a b. stays .rows j (omega arith) (omega arith)) in
         let whole : there i ≡ goal i =
-        ap (λ (n : ℕ). item-of text tape (row-at w₃ (all .visible + n * 16))) same-note ∙ ap (item-of text tape) row
+        ap (λ (n : ℕ). item-of text tape (row-at w₃ (all .visible + n * row-size))) same-note ∙ ap (item-of text tape) row
         ∙ note-item text tape w m true true (m .visible) (m .count) (all .visible) nd notes count w₁ x i h takes in
         record {
           inside = omega (arith, same-note, inside, grows);
@@ -113,9 +114,9 @@ module _ (text tape w w₁ w₂ w₃ : List ℕ) (m : Mode) (nd notes count : �
         let n = moved-place text tape w₂ m all (mode-item text tape w₂ m i) in
         let same-note : note i ≡ n = z .formals i h e in
         let inside = found .inside in
-        let row = row-same w₂ w₃ (all .visible + n * 16) (λ j a b. stays .rows-last j (omega arith) (omega arith)) in
-        let whole : there i ≡ item-of text tape (row-at w₂ (all .visible + n * 16)) =
-        ap (λ (k : ℕ). item-of text tape (row-at w₃ (all .visible + k * 16))) same-note ∙ ap (item-of text tape) row in
+        let row = row-same w₂ w₃ (all .visible + n * row-size) (λ j a b. stays .rows-last j (omega arith) (omega arith)) in
+        let whole : there i ≡ item-of text tape (row-at w₂ (all .visible + n * row-size)) =
+        ap (λ (k : ℕ). item-of text tape (row-at w₃ (all .visible + k * row-size))) same-note ∙ ap (item-of text tape) row in
         let same-goal : moved text tape w₂ m (mode-item text tape w₂ m i) ≡ goal i =
         moved-apart text tape w w₂ m table-then true (mode-item text tape w₂ m i) ∙ ap (move-item σ φ) source-then in
         record {
@@ -140,7 +141,7 @@ module _ (text tape w w₁ w₂ w₃ : List ℕ) (m : Mode) (nd notes count : �
             (ap (λ (j : Item). is-function (j .shape)) (source-then i h) ∙ f) all others joined)
         go false q = kept-right i h q
 
-    function-last : (i : ℕ) → i < m .count → pointable true (item-of text tape (row-at w₃ (m .visible + i * 16)) .shape) ≡ true
+    function-last : (i : ℕ) → i < m .count → pointable true (item-of text tape (row-at w₃ (m .visible + i * row-size)) .shape) ≡ true
         → is-function (source i .shape) ≡ true
     unfolding pointable pick
     function-last i h q = ap (λ (j : Item). is-function (j .shape)) (sym (source-last i h)) ∙ q

@@ -10,6 +10,7 @@ use Rattle.meaning.specs.Names.{Name}
 use Rattle.meaning.specs.Numbers.{equation-room}
 use Rattle.meaning.specs.Origins.{FunctionType, one-equation}
 use Rattle.meaning.specs.Normal.{Hidden, Normal, unite-hidden, unite, move-equation}
+use Rattle.tables.specs.Rows.{row-size}
 use Rattle.forms.specs.declared.Form.{Form}
 use Rattle.forms.specs.declared.Block.{Block}
 use Rattle.forms.specs.Memory.{part, Kept}
@@ -43,7 +44,7 @@ module _ (text : List ℕ) (t : ℕ) (w : List ℕ) (m : Mode) (g actual f : For
 
   open Block b using (low, high, «visible_notes» as notes)
 
-  table-apart : Apart low high (m .visible) (m .visible + m .count * 16)
+  table-apart : Apart low high (m .visible) (m .visible + m .count * row-size)
   table-apart = mode-apart (length w) t m g b (own-step (length w) t m g actual b room)
 
   inside : InsideBlock b f
@@ -59,7 +60,8 @@ module _ (text : List ℕ) (t : ℕ) (w : List ℕ) (m : Mode) (g actual f : For
 
   pub own-hidden-room : HiddenRoom (length w) t m g f b notes
   own-hidden-room =
-      hidden-room-in laid inside m g notes _ (outside-in (omega (arith, laid, fit)) (room .room .own .outside)) (apart-in (omega (arith, laid, fit)) table-apart)
+      hidden-room-in laid inside m g notes _ (outside-in (omega (arith, laid, fit)) (room .room .own .outside))
+      (apart-in (omega (arith, laid, fit)) table-apart)
       (omega arith) (omega (arith, no-hidden, fit)) (omega (arith, no-hidden, fit)) (omega (arith, fit)) (room .room .own .nodes)
       (inr (omega (arith, laid))) (inl (omega (arith, laid, fit)))
 

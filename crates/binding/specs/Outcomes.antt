@@ -7,7 +7,7 @@ use Prim.Native.Nat.{ℕ, _≤_}
 use native.Mathlib.Omega.{arith}
 use Rattle.meaning.specs.Lists.{pick}
 use Rattle.meaning.specs.Names.{Name, member}
-use Rattle.meaning.specs.Numbers.{formal-unpaired}
+use Rattle.meaning.specs.Numbers.{formal-unpaired, bad-parameter}
 use Rattle.meaning.specs.Syntax.{Pair}
 use Rattle.meaning.specs.Origins.{Item}
 use Rattle.meaning.specs.Normal.{Visible, Normal, slot-names, formals}
@@ -104,14 +104,14 @@ module _ (text : List ℕ) (t : ℕ) (w : List ℕ) (p pairs : ℕ) (g actual : 
   there-meant n s = ap (λ (v : Visible). member name (slot-names (v .parameters))) (sym (s .visible))
 
   -- 15
-  pub no-parameter : (r : Bool) → r ≡ there → r ≡ false → Bound text t w p pairs g actual b (Refused 15 (record { name = p; actual = 0 })) w
+  pub no-parameter : (r : Bool) → r ≡ there → r ≡ false → Bound text t w p pairs g actual b (Refused bad-parameter (record { name = p; actual = 0 })) w
   unfolding bind pick
   no-parameter r known e = record {
     kept = kept-all (b .low) (b .high) w;
     made-in = tt;
     made = λ n a s u.
         let missing = there-meant n s ∙ sym known ∙ e in
-        refused-makes text (part w 0 t) w 15 (record { name = p; actual = 0 }) (bind name rs n a) (rw (missing, lone-of text p));
+        refused-makes text (part w 0 t) w bad-parameter (record { name = p; actual = 0 }) (bind name rs n a) (rw (missing, lone-of text p));
   }
 
   module _ (m : Mode) (mode : m ≡ binding-mode p pairs g) (r : Bool) (known : r ≡ there) (has : r ≡ true) where

@@ -10,6 +10,7 @@ use Rattle.meaning.specs.Lists.{pick}
 use Rattle.meaning.specs.Normal.{nothing-visible, nothing-hidden, empty, move-visible}
 use Rattle.meaning.specs.Clauses.{without-visible}
 use Rattle.names.specs.Word.{name-of}
+use Rattle.tables.specs.Rows.{row-size}
 use Rattle.forms.specs.declared.Form.{Form}
 use Rattle.forms.specs.declared.Block.{Block}
 use Rattle.forms.specs.Memory.{part, Kept}
@@ -39,7 +40,7 @@ module _ (text : List ℕ) (t : ℕ) (w : List ℕ) (m : Mode) (g : Form) (b : B
 
   open Block b using (low, high, «visible_notes» as notes)
 
-  table-apart : Apart low high (m .visible) (m .visible + m .count * 16)
+  table-apart : Apart low high (m .visible) (m .visible + m .count * row-size)
   table-apart = mode-apart (length w) t m g b given
 
   -- ---- room

@@ -2,6 +2,7 @@
 use mathlib.Core.Path.{_≡_, sym, subst}
 use Prim.Native.Nat.{ℕ, _+_, _*_, _≤_}
 use native.Mathlib.Omega.{arith}
+use Rattle.tables.specs.Rows.{row-size}
 use Rattle.forms.specs.declared.Form.{Form}
 use Rattle.forms.specs.declared.Block.{Block}
 use Rattle.forms.specs.FormLaws.{Apart}
@@ -26,7 +27,8 @@ abbrev pub Counts : Form → Form → Type 0
 Counts g actual = Fits g × Fits actual
 
 -- the mode's table is that of g
-pub mode-apart : (size t : ℕ) (m : Mode) (g : Form) (b : Block) → OwnRoom size t m g b → Apart (b .low) (b .high) (m .visible) (m .visible + m .count * 16)
+pub mode-apart : (size t : ℕ) (m : Mode) (g : Form) (b : Block) → OwnRoom size t m g b
+    → Apart (b .low) (b .high) (m .visible) (m .visible + m .count * row-size)
 mode-apart size t m g b own = rw (own .mode .table, own .mode .count) (own .room .outside .visible)
 
 pub own-step : (size t : ℕ) (m : Mode) (g actual : Form) (b : Block) → StepRoom size t m g actual b → OwnRoom size t m g b

@@ -10,10 +10,11 @@ use Rattle.meaning.specs.Lists.{pick, keep, union}
 use Rattle.meaning.specs.Origins.{Item, one-item}
 use Rattle.meaning.specs.Normal.{Visible, nothing-hidden, Normal, unite-visible, move-item}
 use Rattle.names.specs.Word.{name-of}
+use Rattle.tables.specs.Rows.{row-size}
 use Rattle.forms.specs.declared.Form.{Form}
 use Rattle.forms.specs.declared.Block.{Block}
 use Rattle.forms.specs.Memory.{part, Kept}
-use Rattle.forms.specs.Forms.{items-at, visible-at, Stands}
+use Rattle.forms.specs.Forms.{items-at, visible-at, Stands, slot-size}
 use Rattle.forms.specs.FormLaws.{Apart, kept-same, kept-two-same}
 use Rattle.frames.specs.Changes.{onward, wider, around, apart-in, tape-kept, still-stands}
 use Rattle.translation.specs.declared.Mode.{Mode}
@@ -43,7 +44,7 @@ pub as-is-kind : (o : Mode) → o ≡ as-is → o .kind ≡ 0
 unfolding as-is
 as-is-kind o e = ap (λ (m : Mode). m .kind) e
 
-pub as-is-apart : (low high : ℕ) (o : Mode) → o ≡ as-is → Apart low high (o .visible) (o .visible + o .count * 16)
+pub as-is-apart : (low high : ℕ) (o : Mode) → o ≡ as-is → Apart low high (o .visible) (o .visible + o .count * row-size)
 unfolding as-is
 as-is-apart low high o e = rw e (inl (omega arith))
 
@@ -82,7 +83,7 @@ module _ (text : List ℕ) (t : ℕ) (w : List ℕ) (m : Mode) (g actual : Form)
 
   open Block b using (low, high, «visible_notes» as notes)
 
-  table-apart : Apart low high (m .visible) (m .visible + m .count * 16)
+  table-apart : Apart low high (m .visible) (m .visible + m .count * row-size)
   table-apart = mode-apart (length w) t m g b mine
 
   module _ (own : Form) (w₂ : List ℕ) (x : OwnBound text t w m g b own w₂) where
@@ -102,8 +103,8 @@ module _ (text : List ℕ) (t : ℕ) (w : List ℕ) (m : Mode) (g actual : Form)
     slots-room =
         let y = own-there .lies in
         let n = few-slots in
-        let start : low ≤ own .parameters + own .«parameter_count» * 2 = omega (arith, y, laid) in
-        let end : own .parameters + (own .«parameter_count» + actual .«parameter_count») * 2 ≤ high = omega (arith, y, n, fit, laid) in
+        let start : low ≤ own .parameters + own .«parameter_count» * slot-size = omega (arith, y, laid) in
+        let end : own .parameters + (own .«parameter_count» + actual .«parameter_count») * slot-size ≤ high = omega (arith, y, n, fit, laid) in
         record {
           tape = omega (arith, y, laid);
           few = omega (arith, n, fit);
@@ -319,11 +320,11 @@ module _ (text : List ℕ) (t : ℕ) (w : List ℕ) (m : Mode) (g actual : Form)
           let q = same-count in
           let a = all-inside .lies in
           let grows = y .absorbed .grows in
-          let slots-first = kept-same _ _ (all .visible) (all .visible + own .«visible_count» * 16) w₂ w₃
+          let slots-first = kept-same _ _ (all .visible) (all .visible + own .«visible_count» * row-size) w₂ w₃
           (inr (omega (arith, e, a, k, fit, laid))) (both .parameters .kept) in
-          let rows-stay = kept-two-same _ _ _ _ (all .visible) (all .visible + own .«visible_count» * 16) w₃ w₄
+          let rows-stay = kept-two-same _ _ _ _ (all .visible) (all .visible + own .«visible_count» * row-size) w₃ w₄
           (inl (omega (arith, d, a, q))) (inl (omega (arith, a, n, fit, laid))) (y .absorbed .kept) in
-          let rows-left = kept-same _ _ (all .visible) (all .visible + all .«visible_count» * 16) w₄ w₅ (inl (omega (arith, a, fit, laid))) (z .kept) in
+          let rows-left = kept-same _ _ (all .visible) (all .visible + all .«visible_count» * row-size) w₄ w₅ (inl (omega (arith, a, fit, laid))) (z .kept) in
           let notes-first = kept-same _ _ notes (notes + m .count) w₂ w₃ (inr (omega (arith, e, k, fit, laid))) (both .parameters .kept) in
           let notes-then = kept-two-same _ _ _ _ notes (notes + m .count) w₃ w₄ (inr (omega (arith, d, q, n, fit, laid))) (inl (omega (arith, c, fit, laid)))
           (y .absorbed .kept) in

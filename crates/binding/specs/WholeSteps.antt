@@ -9,6 +9,7 @@ use Rattle.meaning.specs.Origins.{FunctionType}
 use Rattle.meaning.specs.Normal.{Visible, nothing-hidden, Normal, unite-visible, unite-hidden, unite, move-visible, move-hidden, move, formals}
 use Rattle.meaning.specs.Clauses.{new-sort, new-function, without-visible, without}
 use Rattle.names.specs.Word.{name-of}
+use Rattle.tables.specs.Rows.{row-size}
 use Rattle.forms.specs.declared.Form.{Form}
 use Rattle.forms.specs.declared.Block.{Block}
 use Rattle.forms.specs.declared.Made.{Made}
@@ -36,7 +37,7 @@ module _ (text : List ℕ) (t : ℕ) (w : List ℕ) (m : Mode) (g actual : Form)
   behind : t ≤ b .low
   behind = block-laid (length w) t b (room .room .own .room) .tape
 
-  table-apart : Apart (b .low) (b .high) (m .visible) (m .visible + m .count * 16)
+  table-apart : Apart (b .low) (b .high) (m .visible) (m .visible + m .count * row-size)
   table-apart = mode-apart (length w) t m g b (own-step (length w) t m g actual b room)
 
   module _ (seen : Form) (w₁ : List ℕ) (x : FrontBound text t w m g actual b seen w₁) where

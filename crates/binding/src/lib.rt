@@ -8,9 +8,11 @@ use forms::Form;
 use forms::Made;
 use forms::Verdict;
 use making::checked::checked;
+use meaning::numbers;
 use mistakes::bindings::pairs_right;
 use mistakes::formals::unpaired;
 use translation::Mode;
+use translation::modes;
 use uniting::unite_hidden;
 use uniting::unite_parameters;
 use uniting::unite_visible;
@@ -29,7 +31,7 @@ fn as_is() -> Mode
     ensures { λ r. ⌜ r ≡ as-is ⌝ }
 {
     Mode {
-        kind: 0,
+        kind: modes::AS_IS,
         pairs: 0,
         parameter: 0,
         visible: 0,
@@ -42,7 +44,7 @@ fn binding_mode(p: u32, pairs: u32, g: Form) -> Mode
     ensures { λ r. ⌜ r ≡ binding-mode p pairs g ⌝ }
 {
     Mode {
-        kind: 2,
+        kind: modes::BINDING,
         pairs,
         parameter: p,
         visible: g.visible,
@@ -235,5 +237,5 @@ pub fn bind(
             }
         }
     }
-    Made::Refused(15, Culprit { name: p, actual: 0 })
+    Made::Refused(numbers::BAD_PARAMETER, Culprit { name: p, actual: 0 })
 }

@@ -16,11 +16,11 @@ use Rattle.tables.specs.declared.Row.{Row}
 use Rattle.tables.specs.declared.Section.{Section}
 use Rattle.tables.specs.declared.Section.the-variants.{Export, Hidden, Parameter}
 use Rattle.tables.specs.Rows.{sort-of, type-of, section-of, shape-of, origin-of, item-of}
-use Rattle.walks.specs.Lists.{agree-lengths, take-nine}
 use Rattle.walks.specs.Shapes.{shape-function, by-kind, is-sort-kind, is-function-kind}
 use Rattle.checks.specs.declared.Test.{Test}
 use Rattle.checks.specs.declared.Test.the-variants.{Sorts, Functions, Overloading}
 use Rattle.checks.specs.Clashes.{two-sorts, two-functions, two-overloaded, overloaded-types, but-name}
+use Rattle.tables.specs.RowLaws.{take-nine, agree-lengths}
 
 -- ---- what a row's kind says
 

@@ -19,8 +19,8 @@ use Rattle.meaning.specs.Normal.{Slot}
 use Rattle.meaning.specs.Checks.{at-odds, least-at-odds}
 use Rattle.names.specs.Word.{name-of}
 use Rattle.tables.specs.declared.Row.{Row}
-use Rattle.tables.specs.Rows.{words-from, row-at, item-of}
-use Rattle.forms.specs.Forms.{slot-at, slots-at, items-at}
+use Rattle.tables.specs.Rows.{words-from, row-at, item-of, row-size}
+use Rattle.forms.specs.Forms.{slot-at, slots-at, items-at, slot-size}
 use Rattle.order.specs.Order.{name-in, InOrder}
 use Rattle.order.specs.Sorting.{ordered-names}
 use Rattle.order.specs.Ordered.{row-item, row-called, ordered-items, row-slot, slot-called, ordered-slots}
@@ -80,11 +80,11 @@ later-differ text w b s p n i j ord h d l m k = go (same (called i) (called l)) 
 
 -- ---- `row_by`, `name_by`
 
-pub row-told : (w : List ℕ) (b p i k : ℕ) (r : Row) → k ≡ getD w (p + i) 0 → r ≡ row-at w (b + k * 16) → r ≡ row-at w (b + getD w (p + i) 0 * 16)
-row-told w b p i k r ek er = er ∙ ap (λ (j : ℕ). row-at w (b + j * 16)) ek
+pub row-told : (w : List ℕ) (b p i k : ℕ) (r : Row) → k ≡ getD w (p + i) 0 → r ≡ row-at w (b + k * row-size) → r ≡ row-at w (b + getD w (p + i) 0 * row-size)
+row-told w b p i k r ek er = er ∙ ap (λ (j : ℕ). row-at w (b + j * row-size)) ek
 
-pub name-told : (w : List ℕ) (b p i k r : ℕ) → k ≡ getD w (p + i) 0 → r ≡ getD w (b + k * 2) 0 → r ≡ getD w (b + getD w (p + i) 0 * 2) 0
-name-told w b p i k r ek er = er ∙ ap (λ (j : ℕ). getD w (b + j * 2) 0) ek
+pub name-told : (w : List ℕ) (b p i k r : ℕ) → k ≡ getD w (p + i) 0 → r ≡ getD w (b + k * slot-size) 0 → r ≡ getD w (b + getD w (p + i) 0 * slot-size) 0
+name-told w b p i k r ek er = er ∙ ap (λ (j : ℕ). getD w (b + j * slot-size) 0) ek
 
 -- ---- `find_clash`
 
@@ -114,17 +114,17 @@ module _ (text tape w : List ℕ) (b n p : ℕ) (t : Test) where
   inner-start : (i : ℕ) (x : Row) → i < n → Inner text tape w b n p t i x (i + 1)
   inner-start i x h = record { behind = omega arith; inside = omega arith; comes = refl }
 
-  module _ (ord : InOrder text w (b + 1) 16 p n) where
+  module _ (ord : InOrder text w (b + 1) row-size p n) where
     found-all : at-odds called (wrong t) (later 0) ≡ clash-name t (items-at text tape w b n)
     unfolding clash-name least-at-odds
     found-all = ap (at-odds called (wrong t)) (from-all f w p n ∙ ordered-items text tape w b p n ord)
 
-    module _ (i : ℕ) (x : Row) (h : i < n) (ex : x ≡ row-at w (b + getD w (p + i) 0 * 16)) (out : Outer text tape w b n p t i) where
+    module _ (i : ℕ) (x : Row) (h : i < n) (ex : x ≡ row-at w (b + getD w (p + i) 0 * row-size)) (out : Outer text tape w b n p t i) where
       here : later i ≡ item-of text tape x ∷ later (i + 1)
       here = from-here f w p n i h ∙ ap (λ (r : Row). item-of text tape r ∷ later (i + 1)) (sym ex)
 
       module _ (j : ℕ) (inv : Inner text tape w b n p t i x j) where
-        module _ (y : Row) (c : Bool) (l : j < n) (ey : y ≡ row-at w (b + getD w (p + j) 0 * 16))
+        module _ (y : Row) (c : Bool) (l : j < n) (ey : y ≡ row-at w (b + getD w (p + j) 0 * row-size))
             (ec : c ≡ same (name-of text (x .name)) (name-of text (y .name))) where
           next : later j ≡ item-of text tape y ∷ later (j + 1)
           next = from-here f w p n j l ∙ ap (λ (r : Row). item-of text tape r ∷ later (j + 1)) (sym ey)
@@ -141,7 +141,7 @@ module _ (text tape w : List ℕ) (b n p : ℕ) (t : Test) where
                 rw (next, tested, q) in
                 record { behind = omega (arith, inv .behind); inside = omega arith; comes = sym step ∙ inv .comes }
 
-            pub outer-found : (z : Row) → o ≡ true → z ≡ row-at w (b + getD w (p + i) 0 * 16)
+            pub outer-found : (z : Row) → o ≡ true → z ≡ row-at w (b + getD w (p + i) 0 * row-size)
                 → named text (At (z .name)) ≡ clash-name t (items-at text tape w b n)
             unfolding any at-odds pick named item-of
             outer-found z q ez =
@@ -155,14 +155,17 @@ module _ (text tape w : List ℕ) (b n p : ℕ) (t : Test) where
           inner-other g =
               let ki = getD w (p + i) 0 in
               let kj = getD w (p + j) 0 in
-              let mine : name-of text (x .name) ≡ name-in text w (b + 1) 16 ki = ap (λ (r : Row). name-of text (r .name)) ex ∙ row-called text tape w b ki in
-              let other : name-of text (y .name) ≡ name-in text w (b + 1) 16 kj = ap (λ (r : Row). name-of text (r .name)) ey ∙ row-called text tape w b kj in
-              let differ : same (name-in text w (b + 1) 16 ki) (name-in text w (b + 1) 16 kj) ≡ false = ap₂ same (sym mine) (sym other) ∙ sym ec ∙ g in
+              let mine : name-of text (x .name) ≡ name-in text w (b + 1) row-size ki =
+              ap (λ (r : Row). name-of text (r .name)) ex ∙ row-called text tape w b ki in
+              let other : name-of text (y .name) ≡ name-in text w (b + 1) row-size kj =
+              ap (λ (r : Row). name-of text (r .name)) ey ∙ row-called text tape w b kj in
+              let differ : same (name-in text w (b + 1) row-size ki) (name-in text w (b + 1) row-size kj) ≡ false =
+              ap₂ same (sym mine) (sym other) ∙ sym ec ∙ g in
               let apart : (l : ℕ) → j ≤ l → l < n → wrong t (item-of text tape x) (f (getD w (p + l) 0)) ≡ false =
               λ l m k. wrong-parts t (item-of text tape x) (f (getD w (p + l) 0))
               ∙ ap (λ (q : Bool). q && but-name t (item-of text tape x) (f (getD w (p + l) 0)))
               (ap₂ same mine (row-called text tape w b (getD w (p + l) 0))
-              ∙ later-differ text w (b + 1) 16 p n i j ord (omega (arith, inv .behind)) differ l m k) in
+              ∙ later-differ text w (b + 1) row-size p n i j ord (omega (arith, inv .behind)) differ l m k) in
               let none-later = none-from f w p n (wrong t (item-of text tape x)) (n - j) j refl apart in
               record {
                 behind = h;
@@ -206,7 +209,7 @@ module _ (text tape w : List ℕ) (b n p i : ℕ) (x : Row) (h : i < n) where
   none-rival : (x .kind ≡ 0 → ⊥) → (l : ℕ) → i + 1 ≤ l → l < n → wrong Sorts (item-of text tape x) (row-item text tape w b (getD w (p + l) 0)) ≡ false
   unfolding but-name
   none-rival d l m k =
-      let y = row-at w (b + getD w (p + l) 0 * 16) in
+      let y = row-at w (b + getD w (p + l) 0 * row-size) in
       wrong-parts Sorts (item-of text tape x) (item-of text tape y)
       ∙ ap (λ (q : Bool). same (item-of text tape x .name) (item-of text tape y .name) && q) (sym (sorts-first text tape x y d))
       ∙ never (same (item-of text tape x .name) (item-of text tape y .name))
@@ -261,13 +264,13 @@ module _ (text w : List ℕ) (b n p : ℕ) where
   pub neighbours-start : Neighbours text w b n p 1
   neighbours-start = record { begun = omega arith; comes = refl }
 
-  module _ (ord : InOrder text w b 2 p n) where
+  module _ (ord : InOrder text w b slot-size p n) where
     repeated-all : at-odds slot-name one-name (rest 0) ≡ repeated-name (slots-at text w b n)
     unfolding repeated-name least-at-odds
     repeated-all = ap (at-odds slot-name one-name) (from-all (row-slot text w b) w p n ∙ ordered-slots text w b p n ord)
 
-    module _ (i x y : ℕ) (c : Bool) (inv : Neighbours text w b n p i) (h : i < n) (ex : x ≡ getD w (b + getD w (p + (i - 1)) 0 * 2) 0)
-        (ey : y ≡ getD w (b + getD w (p + i) 0 * 2) 0) (ec : c ≡ same (name-of text x) (name-of text y)) where
+    module _ (i x y : ℕ) (c : Bool) (inv : Neighbours text w b n p i) (h : i < n) (ex : x ≡ getD w (b + getD w (p + (i - 1)) 0 * slot-size) 0)
+        (ey : y ≡ getD w (b + getD w (p + i) 0 * slot-size) 0) (ec : c ≡ same (name-of text x) (name-of text y)) where
       mine : name-of text x ≡ slot (i - 1) .name
       unfolding slot-at
       mine = ap (name-of text) ex
@@ -285,12 +288,12 @@ module _ (text w : List ℕ) (b n p : ℕ) where
       unfolding at-odds pick
       neighbours-again g =
           let called = slot-called text w b in
-          let differ : same (name-in text w b 2 (getD w (p + (i - 1)) 0)) (name-in text w b 2 (getD w (p + i) 0)) ≡ false =
+          let differ : same (name-in text w b slot-size (getD w (p + (i - 1)) 0)) (name-in text w b slot-size (getD w (p + i) 0)) ≡ false =
           ap₂ same (sym (called (getD w (p + (i - 1)) 0))) (sym (called (getD w (p + i) 0))) ∙ compared ∙ g in
           let none-later : any (one-name (slot (i - 1))) (rest i) ≡ false =
           none-from (row-slot text w b) w p n (one-name (slot (i - 1))) (n - i) i refl
           (λ l m k. ap₂ same (called (getD w (p + (i - 1)) 0)) (called (getD w (p + l) 0))
-          ∙ later-differ text w b 2 p n (i - 1) i ord (omega arith) differ l m k) in
+          ∙ later-differ text w b slot-size p n (i - 1) i ord (omega arith) differ l m k) in
           let step : at-odds slot-name one-name (rest (i - 1)) ≡ at-odds slot-name one-name (rest i) = rw (here-now, none-later) in
           let e : i ≡ i + 1 - 1 = omega arith in
           record { begun = omega arith; comes = ap (λ (k : ℕ). at-odds slot-name one-name (rest k)) (sym e) ∙ sym step ∙ inv .comes }

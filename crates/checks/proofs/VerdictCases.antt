@@ -10,10 +10,12 @@ use borrow.Author.Tests.{le-leb, lt-leb}
 use Rattle.meaning.specs.Lists.{pick}
 use Rattle.meaning.specs.Origins.{Item}
 use Rattle.meaning.specs.Checks.{_>>_, unless, consistent}
+use Rattle.meaning.specs.Numbers.{clashing, overloading, bad-parameter, no-room}
+use Rattle.tables.specs.Rows.{row-size}
 use Rattle.forms.specs.declared.Verdict.{Verdict}
 use Rattle.forms.specs.declared.Verdict.the-variants.{Fine, Stop}
 use Rattle.forms.specs.Memory.{part, Same, Kept}
-use Rattle.forms.specs.Forms.{slots-at, items-at}
+use Rattle.forms.specs.Forms.{slots-at, items-at, slot-size}
 use Rattle.forms.specs.FormLaws.{Apart, kept-same, kept-wider, kept-then, slots-same, items-same, tape-same}
 use Rattle.forms.specs.Verdicts.{lone-of, told}
 use Rattle.order.specs.Order.{PutInOrder, NamesApart}
@@ -30,15 +32,15 @@ module _ (a a-limit b b-limit c c-limit : ℕ) where
   unfolding within pick
   within-fine h k l = rw (le-leb a a-limit h, le-leb b b-limit k, le-leb c c-limit l)
 
-  pub within-first : a-limit < a → Stop 18 nobody ≡ within a a-limit b b-limit c c-limit
+  pub within-first : a-limit < a → Stop no-room nobody ≡ within a a-limit b b-limit c c-limit
   unfolding within pick
   within-first h = rw (lt-leb a a-limit h)
 
-  pub within-second : a ≤ a-limit → b-limit < b → Stop 18 nobody ≡ within a a-limit b b-limit c c-limit
+  pub within-second : a ≤ a-limit → b-limit < b → Stop no-room nobody ≡ within a a-limit b b-limit c c-limit
   unfolding within pick
   within-second h k = rw (le-leb a a-limit h, lt-leb b b-limit k)
 
-  pub within-third : a ≤ a-limit → b ≤ b-limit → c-limit < c → Stop 18 nobody ≡ within a a-limit b b-limit c c-limit
+  pub within-third : a ≤ a-limit → b ≤ b-limit → c-limit < c → Stop no-room nobody ≡ within a a-limit b b-limit c c-limit
   unfolding within pick
   within-third h k l = rw (le-leb a a-limit h, le-leb b b-limit k, lt-leb c c-limit l)
 
@@ -46,15 +48,16 @@ module _ (a a-limit b b-limit c c-limit : ℕ) where
 
 module _ (text : List ℕ) (items : List Item) (f : Found) where
   module _ (x : ℕ) (h : f ≡ At x) where
-    pub overloading-stop : named text f ≡ clash-name Overloading items → told text (Stop 11 (record { name = x; actual = 0 })) ≡ overloading-check items
+    pub overloading-stop : named text f ≡ clash-name Overloading items
+        → told text (Stop overloading (record { name = x; actual = 0 })) ≡ overloading-check items
     unfolding overloading-check told unless named
     overloading-stop e = rw (lone-of text x, ← e, h)
 
-    pub functions-stop : named text f ≡ clash-name Functions items → told text (Stop 10 (record { name = x; actual = 0 })) ≡ functions-check items
+    pub functions-stop : named text f ≡ clash-name Functions items → told text (Stop clashing (record { name = x; actual = 0 })) ≡ functions-check items
     unfolding functions-check told unless named _>>_
     functions-stop e = rw (lone-of text x, ← e, h)
 
-    pub sorts-stop : named text f ≡ clash-name Sorts items → told text (Stop 10 (record { name = x; actual = 0 })) ≡ items-check items
+    pub sorts-stop : named text f ≡ clash-name Sorts items → told text (Stop clashing (record { name = x; actual = 0 })) ≡ items-check items
     unfolding items-check told unless named _>>_
     sorts-stop e = rw (lone-of text x, ← e, h)
 
@@ -75,21 +78,21 @@ module _ (text : List ℕ) (items : List Item) (f : Found) where
 -- ---- `check_rows`
 
 -- the rows and the tape stay
-items-kept : (text w w′ : List ℕ) (t b n p e : ℕ) → t ≤ p → Apart p e b (b + n * 16) → Kept p e w w′
+items-kept : (text w w′ : List ℕ) (t b n p e : ℕ) → t ≤ p → Apart p e b (b + n * row-size) → Kept p e w w′
     → items-at text (part w′ 0 t) w′ b n ≡ items-at text (part w 0 t) w b n
 items-kept text w w′ t b n p e h apart k =
     let front : Same 0 t w w′ = λ i l m. k .below i (omega arith) in
     ap (λ (tape : List ℕ). items-at text tape w′ b n) (tape-same w w′ t (k .size) front)
-    ∙ items-same w w′ text (part w 0 t) b n (kept-same p e b (b + n * 16) w w′ apart k)
+    ∙ items-same w w′ text (part w 0 t) b n (kept-same p e b (b + n * row-size) w w′ apart k)
 
 module _ (size t b n p : ℕ) (laid : RowsLaid size t b n p) where
   pub rows-room : p + n ≤ size
   rows-room = laid .room
 
-  pub rows-apart : NamesApart (b + 1) 16 p n
+  pub rows-apart : NamesApart (b + 1) row-size p n
   rows-apart i h = ⊎-elim (λ l. inl (omega arith)) (λ l. inr (omega arith)) (laid .rows)
 
-pub rows-checked : (text w w′ : List ℕ) (t b n p : ℕ) (r : Verdict) → RowsLaid (length w) t b n p → PutInOrder text w w′ (b + 1) 16 p n
+pub rows-checked : (text w w′ : List ℕ) (t b n p : ℕ) (r : Verdict) → RowsLaid (length w) t b n p → PutInOrder text w w′ (b + 1) row-size p n
     → told text r ≡ items-check (items-at text (part w′ 0 t) w′ b n) → ItemsChecked text w w′ t b n p r
 rows-checked text w w′ t b n p r laid put e = record {
   verdict = e ∙ ap items-check (items-kept text w w′ t b n p (p + n) (laid .tape) (laid .rows) (put .kept));
@@ -102,10 +105,10 @@ module _ (size t q np b n p : ℕ) (laid : Laid size t q np b n p) where
   pub names-room : p + np ≤ size
   names-room = omega (arith, laid .room)
 
-  pub names-apart : NamesApart q 2 p np
+  pub names-apart : NamesApart q slot-size p np
   names-apart i h = ⊎-elim (λ l. inl (omega arith)) (λ l. inr (omega arith)) (laid .parameters)
 
-pub rows-laid : (text w w′ : List ℕ) (t q np b n p : ℕ) → Laid (length w) t q np b n p → PutInOrder text w w′ q 2 p np
+pub rows-laid : (text w w′ : List ℕ) (t q np b n p : ℕ) → Laid (length w) t q np b n p → PutInOrder text w w′ q slot-size p np
     → RowsLaid (length w′) t b n p
 rows-laid text w w′ t q np b n p laid put = record {
   tape = laid .tape;
@@ -114,13 +117,13 @@ rows-laid text w w′ t q np b n p laid put = record {
   room = omega (arith, laid .room, put .kept .size);
 }
 
-module _ (text w w′ : List ℕ) (t q np b n p : ℕ) (f : Found) (laid : Laid (length w) t q np b n p) (put : PutInOrder text w w′ q 2 p np)
+module _ (text w w′ : List ℕ) (t q np b n p : ℕ) (f : Found) (laid : Laid (length w) t q np b n p) (put : PutInOrder text w w′ q slot-size p np)
     (e : named text f ≡ repeated-name (slots-at text w′ q np)) where
   wide : Kept p (p + (np + n)) w w′
   wide = kept-wider p (p + np) p (p + (np + n)) w w′ (omega arith) (omega arith) (put .kept)
 
   slots-kept : slots-at text w′ q np ≡ slots-at text w q np
-  slots-kept = slots-same w w′ text q np (kept-same p (p + (np + n)) q (q + np * 2) w w′ (laid .parameters) wide)
+  slots-kept = slots-same w w′ text q np (kept-same p (p + (np + n)) q (q + np * slot-size) w w′ (laid .parameters) wide)
 
   whole : names-check (slots-at text w q np) (items-at text (part w 0 t) w b n)
       ≡ consistent (record { parameters = slots-at text w q np; items = items-at text (part w 0 t) w b n }) []
@@ -128,11 +131,11 @@ module _ (text w w′ : List ℕ) (t q np b n p : ℕ) (f : Found) (laid : Laid 
       ap (names-check (slots-at text w q np)) (sym (append-nil (items-at text (part w 0 t) w b n)))
       ∙ checks-consistent (record { parameters = slots-at text w q np; items = items-at text (part w 0 t) w b n }) []
 
-  pub consistent-stop : (x : ℕ) → f ≡ At x → Checked text w w′ t q np b n p (Stop 15 (record { name = x; actual = 0 }))
+  pub consistent-stop : (x : ℕ) → f ≡ At x → Checked text w w′ t q np b n p (Stop bad-parameter (record { name = x; actual = 0 }))
   unfolding names-check told unless named _>>_
   consistent-stop x h =
       let found : named text f ≡ repeated-name (slots-at text w q np) = e ∙ ap repeated-name slots-kept in
-      let verdict : told text (Stop 15 (record { name = x; actual = 0 })) ≡ names-check (slots-at text w q np) (items-at text (part w 0 t) w b n) =
+      let verdict : told text (Stop bad-parameter (record { name = x; actual = 0 })) ≡ names-check (slots-at text w q np) (items-at text (part w 0 t) w b n) =
       rw (lone-of text x, ← found, h) in
       record { verdict = verdict ∙ whole; kept = wide }
 

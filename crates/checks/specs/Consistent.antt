@@ -9,11 +9,12 @@ use Rattle.meaning.specs.Numbers.{clashing, overloading, bad-parameter, no-room
 use Rattle.meaning.specs.Origins.{Item}
 use Rattle.meaning.specs.Normal.{Slot, Visible}
 use Rattle.meaning.specs.Checks.{Check, _>>_, unless, needs, fits, consistent}
+use Rattle.tables.specs.Rows.{row-size}
 use Rattle.forms.specs.declared.Culprit.{Culprit}
 use Rattle.forms.specs.declared.Verdict.{Verdict}
 use Rattle.forms.specs.declared.Verdict.the-variants.{Fine, Stop}
 use Rattle.forms.specs.Memory.{part, Kept}
-use Rattle.forms.specs.Forms.{slots-at, items-at}
+use Rattle.forms.specs.Forms.{slots-at, items-at, slot-size}
 use Rattle.forms.specs.FormLaws.{Apart, items-split}
 use Rattle.forms.specs.Verdicts.{nobody-of, told}
 use Rattle.checks.specs.declared.Test.the-variants.{Sorts, Functions, Overloading}
@@ -63,15 +64,15 @@ checks-consistent v own = refl
 -- the tape ends at t; the order table of the n rows at b has n words from p on
 pub record RowsLaid (size t b n p : ℕ) : Type 0 where
   pub tape : t ≤ p
-  pub rows : Apart p (p + n) b (b + n * 16)
+  pub rows : Apart p (p + n) b (b + n * row-size)
   pub place : b < 2 ^ 31
   pub room : p + n ≤ size
 
 -- and that of the np parameters at q stands in the same place: the part has np + n words
 pub record Laid (size t q np b n p : ℕ) : Type 0 where
   pub tape : t ≤ p
-  pub parameters : Apart p (p + (np + n)) q (q + np * 2)
-  pub rows : Apart p (p + (np + n)) b (b + n * 16)
+  pub parameters : Apart p (p + (np + n)) q (q + np * slot-size)
+  pub rows : Apart p (p + (np + n)) b (b + n * row-size)
   pub place : b < 2 ^ 31
   pub room : p + (np + n) ≤ size
 
@@ -89,10 +90,10 @@ pub record Checked (text w w′ : List ℕ) (t q np b n p : ℕ) (r : Verdict) :
 
 -- v visible rows and m of M's own behind them
 pub checked-own : (text w w′ : List ℕ) (t q np b v m p : ℕ) (r : Verdict) → Checked text w w′ t q np b (v + m) p r
-    → told text r ≡ consistent (record { parameters = slots-at text w q np; items = items-at text (part w 0 t) w b v }) (items-at text (part w 0 t) w (b + v * 16) m)
+    → told text r ≡ consistent (record { parameters = slots-at text w q np; items = items-at text (part w 0 t) w b v }) (items-at text (part w 0 t) w (b + v * row-size) m)
 checked-own text w w′ t q np b v m p r c =
     let names = slots-at text w q np in
     let tape = part w 0 t in
     c .verdict ∙ sym (checks-consistent (record { parameters = names; items = items-at text tape w b (v + m) }) [])
     ∙ ap (names-check names) (append-nil (items-at text tape w b (v + m)) ∙ items-split text tape w b v m)
-    ∙ checks-consistent (record { parameters = names; items = items-at text tape w b v }) (items-at text tape w (b + v * 16) m)
+    ∙ checks-consistent (record { parameters = names; items = items-at text tape w b v }) (items-at text tape w (b + v * row-size) m)

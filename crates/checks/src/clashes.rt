@@ -3,23 +3,25 @@ use super::Found;
 use super::Test;
 use super::pairs::at_odds;
 use super::pairs::same_called;
+use forms::SLOT_SIZE;
 use order::name_in;
 use order::number_in;
 use tables::Row;
 use tables::entries::same_word;
+use tables::kinds;
 use tables::rows::read_row;
 ghost use mathlib.Core.Path.{_≡_};
 ghost use Prim.Native.Nat.{_+_, _*_, _<_};
 ghost use lib.ListN.{getD};
 ghost use Rattle.names.specs.Joint.{joint};
-ghost use Rattle.tables.specs.Rows.{row-at};
-ghost use Rattle.forms.specs.Forms.{slots-at, items-at};
+ghost use Rattle.tables.specs.Rows.{row-at, row-size};
+ghost use Rattle.forms.specs.Forms.{slots-at, items-at, slot-size};
 ghost use Rattle.order.specs.Order.{InOrder};
 ghost use Rattle.checks.specs.Clashes.{named, clash-name, first-rival, repeated-name};
 
 // The row that is i-th in order.
 fn row_by(w: &[u32], b: u32, p: u32, i: u32) -> Row
-    ensures { λ r. ⌜ r ≡ row-at (now (w .entry)) (b + getD (now (w .entry)) (p + i) 0 * 16) ⌝ }
+    ensures { λ r. ⌜ r ≡ row-at (now (w .entry)) (b + getD (now (w .entry)) (p + i) 0 * row-size) ⌝ }
 {
     let k = number_in(w, p, i);
     read_row(w, b, k)
@@ -33,7 +35,7 @@ fn first_rival(test: Test, x: Row, i: u32, n: u32) -> u32
     let kind = x.kind;
     match test {
         Test::Sorts => {
-            if kind == 0 {
+            if kind == kinds::SORT {
                 return i + 1;
             }
             n
@@ -55,7 +57,7 @@ pub fn find_clash(
     p: u32,
     test: Test,
 ) -> Found
-    requires { ⌜ InOrder (joint (now library) (now text)) (now w) (b + 1) 16 p n ⌝ }
+    requires { ⌜ InOrder (joint (now library) (now text)) (now w) (b + 1) row-size p n ⌝ }
     ensures { λ r. ⌜ named (joint (now (library .entry)) (now (text .entry))) r ≡ clash-name test (items-at (joint (now (library .entry)) (now (text .entry))) (now (tape .entry)) (now (w .entry)) b n) ⌝ }
 {
     let mut i = 0;
@@ -84,15 +86,15 @@ pub fn find_clash(
 
 // The word of the name of the parameter that is i-th in order.
 fn name_by(w: &[u32], b: u32, p: u32, i: u32) -> u32
-    ensures { λ r. ⌜ r ≡ getD (now (w .entry)) (b + getD (now (w .entry)) (p + i) 0 * 2) 0 ⌝ }
+    ensures { λ r. ⌜ r ≡ getD (now (w .entry)) (b + getD (now (w .entry)) (p + i) 0 * slot-size) 0 ⌝ }
 {
     let k = number_in(w, p, i);
-    name_in(w, b, 2, k)
+    name_in(w, b, SLOT_SIZE, k)
 }
 
 // The least name of two of the n parameters at b: in the order table the two are neighbours.
 pub fn find_repeated(library: &[u8], text: &[u8], w: &[u32], b: u32, n: u32, p: u32) -> Found
-    requires { ⌜ InOrder (joint (now library) (now text)) (now w) b 2 p n ⌝ }
+    requires { ⌜ InOrder (joint (now library) (now text)) (now w) b slot-size p n ⌝ }
     ensures { λ r. ⌜ named (joint (now (library .entry)) (now (text .entry))) r ≡ repeated-name (slots-at (joint (now (library .entry)) (now (text .entry))) (now (w .entry)) b n) ⌝ }
 {
     let mut i = 1;

@@ -4,12 +4,16 @@ use super::Test;
 use super::clashes::find_clash;
 use super::clashes::find_repeated;
 use forms::Culprit;
+use forms::SLOT_SIZE;
 use forms::Verdict;
+use meaning::numbers;
 use order::order_names;
+use tables::ROW_SIZE;
 ghost use mathlib.Core.Path.{_≡_};
 ghost use Prim.Native.Nat.{_+_, _≤_};
 ghost use lib.ListN.{length};
 ghost use Rattle.names.specs.Joint.{joint};
+ghost use Rattle.tables.specs.Rows.{row-size};
 ghost use Rattle.forms.specs.Memory.{part};
 ghost use Rattle.forms.specs.Forms.{items-at};
 ghost use Rattle.forms.specs.Verdicts.{told};
@@ -25,12 +29,12 @@ fn check_overloading(
     n: u32,
     p: u32,
 ) -> Verdict
-    requires { ⌜ InOrder (joint (now library) (now text)) (now w) (b + 1) 16 p n ⌝ }
+    requires { ⌜ InOrder (joint (now library) (now text)) (now w) (b + 1) row-size p n ⌝ }
     ensures { λ r. ⌜ told (joint (now (library .entry)) (now (text .entry))) r ≡ overloading-check (items-at (joint (now (library .entry)) (now (text .entry))) (now (tape .entry)) (now (w .entry)) b n) ⌝ }
 {
     let found = find_clash(library, text, tape, w, b, n, p, Test::Overloading);
     match found {
-        Found::At(x) => Verdict::Stop(11, Culprit { name: x, actual: 0 }),
+        Found::At(x) => Verdict::Stop(numbers::OVERLOADING, Culprit { name: x, actual: 0 }),
         Found::Nothing => Verdict::Fine,
     }
 }
@@ -44,12 +48,12 @@ fn check_functions(
     n: u32,
     p: u32,
 ) -> Verdict
-    requires { ⌜ InOrder (joint (now library) (now text)) (now w) (b + 1) 16 p n ⌝ }
+    requires { ⌜ InOrder (joint (now library) (now text)) (now w) (b + 1) row-size p n ⌝ }
     ensures { λ r. ⌜ told (joint (now (library .entry)) (now (text .entry))) r ≡ functions-check (items-at (joint (now (library .entry)) (now (text .entry))) (now (tape .entry)) (now (w .entry)) b n) ⌝ }
 {
     let found = find_clash(library, text, tape, w, b, n, p, Test::Functions);
     match found {
-        Found::At(x) => Verdict::Stop(10, Culprit { name: x, actual: 0 }),
+        Found::At(x) => Verdict::Stop(numbers::CLASHING, Culprit { name: x, actual: 0 }),
         Found::Nothing => check_overloading(library, text, tape, w, b, n, p),
     }
 }
@@ -63,12 +67,12 @@ fn check_items(
     n: u32,
     p: u32,
 ) -> Verdict
-    requires { ⌜ InOrder (joint (now library) (now text)) (now w) (b + 1) 16 p n ⌝ }
+    requires { ⌜ InOrder (joint (now library) (now text)) (now w) (b + 1) row-size p n ⌝ }
     ensures { λ r. ⌜ told (joint (now (library .entry)) (now (text .entry))) r ≡ items-check (items-at (joint (now (library .entry)) (now (text .entry))) (now (tape .entry)) (now (w .entry)) b n) ⌝ }
 {
     let found = find_clash(library, text, tape, w, b, n, p, Test::Sorts);
     match found {
-        Found::At(x) => Verdict::Stop(10, Culprit { name: x, actual: 0 }),
+        Found::At(x) => Verdict::Stop(numbers::CLASHING, Culprit { name: x, actual: 0 }),
         Found::Nothing => check_functions(library, text, tape, w, b, n, p),
     }
 }
@@ -84,7 +88,7 @@ fn check_ordered(
     p: u32,
 ) -> Verdict
     requires { ⌜ t ≤ length (now work) ⌝ }
-    requires { ⌜ InOrder (joint (now library) (now text)) (now work) (b + 1) 16 p n ⌝ }
+    requires { ⌜ InOrder (joint (now library) (now text)) (now work) (b + 1) row-size p n ⌝ }
     ensures { λ r. ⌜ told (joint (now (library .entry)) (now (text .entry))) r ≡ items-check (items-at (joint (now (library .entry)) (now (text .entry))) (part (now (work .entry)) 0 t) (now (work .entry)) b n) ⌝ }
 {
     check_items(library, text, &work[0..t], work, b, n, p)
@@ -103,7 +107,7 @@ fn check_rows(
     requires { ⌜ RowsLaid (length (now work)) t b n p ⌝ }
     ensures { λ r. ⌜ ItemsChecked (joint (now (library .entry)) (now (text .entry))) (now (work .entry)) (now (work .exit)) t b n p r ⌝ }
 {
-    order_names(library, text, work, b + 1, 16, n, p);
+    order_names(library, text, work, b + 1, ROW_SIZE, n, p);
     check_ordered(library, text, work, t, b, n, p)
 }
 
@@ -122,10 +126,10 @@ pub fn consistent(
     requires { ⌜ Laid (length (now work)) t q np b n p ⌝ }
     ensures { λ r. ⌜ Checked (joint (now (library .entry)) (now (text .entry))) (now (work .entry)) (now (work .exit)) t q np b n p r ⌝ }
 {
-    order_names(library, text, work, q, 2, np, p);
+    order_names(library, text, work, q, SLOT_SIZE, np, p);
     let twice = find_repeated(library, text, work, q, np, p);
     match twice {
-        Found::At(x) => Verdict::Stop(15, Culprit { name: x, actual: 0 }),
+        Found::At(x) => Verdict::Stop(numbers::BAD_PARAMETER, Culprit { name: x, actual: 0 }),
         Found::Nothing => check_rows(library, text, work, t, b, n, p),
     }
 }

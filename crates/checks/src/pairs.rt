@@ -4,11 +4,12 @@ use tables::Row;
 use tables::Section;
 use tables::declarations::same_origin;
 use tables::entries::same_word;
+use tables::kinds;
+use tables::sorts::inputs_of;
 use tables::sorts::same_shape;
 use tables::sorts::same_sort;
 use tables::sorts::same_sorts;
 ghost use mathlib.Core.Path.{_≡_};
-ghost use Prim.Native.Nat.{_-_, min};
 ghost use Rattle.meaning.specs.Checks.{other-origin, other-output, in-one-parameter, both-in-one};
 ghost use Rattle.meaning.specs.Names.{same};
 ghost use Rattle.names.specs.Word.{name-of};
@@ -56,26 +57,13 @@ fn two_functions(library: &[u8], text: &[u8], tape: &[u32], a: Row, b: Row) -> b
     ensures { λ r. ⌜ r ≡ two-functions (item-of (joint (now (library .entry)) (now (text .entry))) (now (tape .entry)) a) (item-of (joint (now (library .entry)) (now (text .entry))) (now (tape .entry)) b) ⌝ }
 {
     let k = a.kind;
-    if k < 2 {
+    if k < kinds::FUNCTION {
         return false;
     }
     if same_shape(library, text, tape, a, b) {
         return other_origin(library, text, tape, a, b);
     }
     false
-}
-
-// How many of the nine sorts of a row are a function's inputs.
-fn inputs_of(kind: u32) -> usize
-    ensures { λ r. ⌜ r ≡ min (kind - 2) 9 ⌝ }
-{
-    if kind < 2 {
-        return 0;
-    }
-    if 11 < kind {
-        return 9;
-    }
-    (kind - 2) as usize
 }
 
 // Have the functions of the kinds k and l and of the sorts a and b equal inputs, and different outputs?
@@ -112,10 +100,10 @@ fn other_output(
 ) -> bool
     ensures { λ r. ⌜ r ≡ other-output (shape-of (joint (now (library .entry)) (now (text .entry))) (now (tape .entry)) k a) (shape-of (joint (now (library .entry)) (now (text .entry))) (now (tape .entry)) l b) ⌝ }
 {
-    if k < 2 {
+    if k < kinds::FUNCTION {
         return false;
     }
-    if l < 2 {
+    if l < kinds::FUNCTION {
         return false;
     }
     other_type(library, text, tape, k, a, l, b)
@@ -141,10 +129,10 @@ fn both_in_one(library: &[u8], text: &[u8], tape: &[u32], a: Row, b: Row) -> boo
 {
     let k = a.kind;
     let l = b.kind;
-    if k < 2 {
+    if k < kinds::FUNCTION {
         return false;
     }
-    if l < 2 {
+    if l < kinds::FUNCTION {
         return false;
     }
     let s = a.standing;

@@ -1,6 +1,7 @@
 // Room: of one normal form, and of all together.
 use forms::Culprit;
 use forms::Verdict;
+use meaning::numbers;
 ghost use mathlib.Core.Path.{_≡_};
 ghost use Rattle.meaning.specs.Numbers.{parameter-room, item-room, equation-room, item-total, equation-total, node-total};
 ghost use Rattle.checks.specs.Consistent.{within};
@@ -9,14 +10,14 @@ ghost use Rattle.checks.specs.Consistent.{within};
 pub fn room(parameters: u32, items: u32, equations: u32) -> Verdict
     ensures { λ r. ⌜ r ≡ within parameters parameter-room items item-room equations equation-room ⌝ }
 {
-    if 8 < parameters {
-        return Verdict::Stop(18, Culprit { name: 0, actual: 0 });
+    if numbers::PARAMETER_ROOM < parameters {
+        return Verdict::Stop(numbers::NO_ROOM, Culprit { name: 0, actual: 0 });
     }
-    if 512 < items {
-        return Verdict::Stop(18, Culprit { name: 0, actual: 0 });
+    if numbers::ITEM_ROOM < items {
+        return Verdict::Stop(numbers::NO_ROOM, Culprit { name: 0, actual: 0 });
     }
-    if 256 < equations {
-        return Verdict::Stop(18, Culprit { name: 0, actual: 0 });
+    if numbers::EQUATION_ROOM < equations {
+        return Verdict::Stop(numbers::NO_ROOM, Culprit { name: 0, actual: 0 });
     }
     Verdict::Fine
 }
@@ -25,14 +26,14 @@ pub fn room(parameters: u32, items: u32, equations: u32) -> Verdict
 pub fn total_room(items: u32, equations: u32, nodes: u32) -> Verdict
     ensures { λ r. ⌜ r ≡ within items item-total equations equation-total nodes node-total ⌝ }
 {
-    if 1024 < items {
-        return Verdict::Stop(18, Culprit { name: 0, actual: 0 });
+    if numbers::ITEM_TOTAL < items {
+        return Verdict::Stop(numbers::NO_ROOM, Culprit { name: 0, actual: 0 });
     }
-    if 512 < equations {
-        return Verdict::Stop(18, Culprit { name: 0, actual: 0 });
+    if numbers::EQUATION_TOTAL < equations {
+        return Verdict::Stop(numbers::NO_ROOM, Culprit { name: 0, actual: 0 });
     }
-    if 4096 < nodes {
-        return Verdict::Stop(18, Culprit { name: 0, actual: 0 });
+    if numbers::NODE_TOTAL < nodes {
+        return Verdict::Stop(numbers::NO_ROOM, Culprit { name: 0, actual: 0 });
     }
     Verdict::Fine
 }

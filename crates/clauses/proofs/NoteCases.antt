@@ -14,11 +14,12 @@ use Rattle.meaning.specs.Lists.{pick, before}
 use Rattle.meaning.specs.Origins.{Item, in-parameter}
 use Rattle.names.specs.Word.{name-of}
 use Rattle.tables.specs.declared.Row.{Row}
-use Rattle.tables.specs.Rows.{section-of, shape-of, item-of, row-at}
+use Rattle.tables.specs.Rows.{section-of, shape-of, item-of, row-at, row-size}
+use Rattle.tables.specs.RowLaws.{row-same}
 use Rattle.forms.specs.declared.Form.{Form}
 use Rattle.forms.specs.Memory.{part, Kept}
 use Rattle.forms.specs.Forms.{items-at}
-use Rattle.forms.specs.FormLaws.{kept-all, kept-wider, kept-then, kept-set, kept-same, row-same, items-same, tape-same}
+use Rattle.forms.specs.FormLaws.{kept-all, kept-wider, kept-then, kept-set, kept-same, items-same, tape-same}
 use Rattle.translation.specs.declared.Mode.{Mode}
 use Rattle.translation.specs.Translation.{moved, moved-in}
 use Rattle.translation.specs.Moved.{MovedRow}
@@ -35,7 +36,7 @@ unfolding moved-place moved-in item-of pick
 place-told text tape w m y x z i h e =
     e ∙ ap (λ (j : Item). before (like (j .name) (j .shape)) (items-at text tape w (y .visible) (y .«visible_count»))) (h .item)
 
-module _ (text tape w : List ℕ) (m : Mode) (y : Form) (notes k : ℕ) (x : Row) (e : x ≡ row-at w (m .visible + k * 16)) (b : Bool)
+module _ (text tape w : List ℕ) (m : Mode) (y : Form) (notes k : ℕ) (x : Row) (e : x ≡ row-at w (m .visible + k * row-size)) (b : Bool)
     (f : b ≡ in-parameter (name-of text (m .parameter)) (section-of text (x .standing))) where
   pub note-other : b ≡ false → w ≡ note-stored text tape w m y notes k
   unfolding note-stored formal-row mode-item item-of pick
@@ -85,7 +86,7 @@ module _ (text w₀ : List ℕ) (t : ℕ) (m : Mode) (y : Form) (notes : ℕ) wh
     unfolding mode-item
     item-stays h =
         ap₂ (item-of text) tape-stays
-        (row-same w₀ w (m .visible + k * 16) (kept-same notes (notes + m .count) (m .visible + k * 16) (m .visible + k * 16 + 15) w₀ w
+        (row-same w₀ w (m .visible + k * row-size) (kept-same notes (notes + m .count) (m .visible + k * row-size) (m .visible + k * row-size + row-size) w₀ w
         (⊎-elim (λ u. inl (omega arith)) (λ u. inr (omega arith)) (room .table)) (inv .kept)))
 
     formal-stays : k < m .count → formal-row text (part w 0 t) w m k ≡ formal-row text tape w₀ m k
@@ -97,12 +98,12 @@ module _ (text w₀ : List ℕ) (t : ℕ) (m : Mode) (y : Form) (notes : ℕ) wh
     moved-stays i =
         moved-apart text tape w₀ w m
         (items-same w₀ w text tape (m .visible) (m .count)
-        (kept-same notes (notes + m .count) (m .visible) (m .visible + m .count * 16) w₀ w (room .table) (inv .kept))) true i
+        (kept-same notes (notes + m .count) (m .visible) (m .visible + m .count * row-size) w₀ w (room .table) (inv .kept))) true i
 
     rows-stay : items-at text tape w (y .visible) (y .«visible_count») ≡ items-at text tape w₀ (y .visible) (y .«visible_count»)
     rows-stay =
         items-same w₀ w text tape (y .visible) (y .«visible_count»)
-        (kept-same notes (notes + m .count) (y .visible) (y .visible + y .«visible_count» * 16) w₀ w (room .rows) (inv .kept))
+        (kept-same notes (notes + m .count) (y .visible) (y .visible + y .«visible_count» * row-size) w₀ w (room .rows) (inv .kept))
 
     place-stays : k < m .count
         → moved-place text (part w 0 t) w m y (mode-item text (part w 0 t) w m k) ≡ moved-place text tape w₀ m y (mode-item text tape w₀ m k)

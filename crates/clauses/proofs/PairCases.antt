@@ -12,6 +12,7 @@ use Rattle.meaning.specs.Names.{Name, same, member}
 use Rattle.meaning.specs.Syntax.{Pair}
 use Rattle.meaning.specs.Clauses.{paired}
 use Rattle.names.specs.Word.{name-of}
+use Rattle.tape.specs.Tape.{old-role}
 use Rattle.tables.specs.Entries.{role-at, word-at}
 use Rattle.translation.specs.Translation.{pairs-at}
 use Rattle.clauses.specs.declared.Found.the-variants.{At, Nothing}
@@ -45,16 +46,16 @@ module _ (tape : List ℕ) (pairs : ℕ) where
       omega (arith, inv .total, inv .inside)
 
   module _ (k p r : ℕ) (h : k < 32) (inv : Counting tape pairs k) (e : p ≡ pairs + k * 2) (f : r ≡ role-at tape p) where
-    pub count-again : r ≡ 14 → Counting tape pairs (k + 1)
+    pub count-again : r ≡ old-role → Counting tape pairs (k + 1)
     count-again q =
-        let here : role-at tape (pairs + k * 2) ≡ 14 = rw (← e, ← f) q in
+        let here : role-at tape (pairs + k * 2) ≡ old-role = rw (← e, ← f) q in
         record { inside = omega arith; total = omega (arith, inv .total, counted-next tape pairs k h here) }
 
-    pub count-stop : (r ≡ 14 → ⊥) → k ≡ pair-count tape pairs 32
+    pub count-stop : (r ≡ old-role → ⊥) → k ≡ pair-count tape pairs 32
     unfolding pair-count pick
     count-stop q =
-        let other : role-at tape (pairs + k * 2) ≡ 14 → ⊥ = λ u. q (f ∙ ap (role-at tape) e ∙ u) in
-        let none : pair-count tape (pairs + k * 2) (32 - k) ≡ 0 = rw (one-more tape pairs k h, ne-eqb (role-at tape (pairs + k * 2)) 14 other) in
+        let other : role-at tape (pairs + k * 2) ≡ old-role → ⊥ = λ u. q (f ∙ ap (role-at tape) e ∙ u) in
+        let none : pair-count tape (pairs + k * 2) (32 - k) ≡ 0 = rw (one-more tape pairs k h, ne-eqb (role-at tape (pairs + k * 2)) old-role other) in
         omega (arith, inv .total, none)
 
 -- ---- names given by the first pairs

@@ -13,7 +13,7 @@ use Rattle.meaning.specs.Names.{same}
 use Rattle.meaning.specs.Normal.{Slot}
 use Rattle.names.specs.Word.{name-of}
 use Rattle.forms.specs.Memory.{Kept}
-use Rattle.forms.specs.Forms.{slot-at, slots-at}
+use Rattle.forms.specs.Forms.{slot-at, slots-at, slot-size}
 use Rattle.forms.specs.FormLaws.{kept-all, kept-wider, kept-then, kept-set, kept-same, slot-same, slots-grow}
 use Rattle.walks.specs.Lists.{keep-append}
 use Rattle.clauses.specs.KeptParameters.{but, SlotRoom, SlotCopied, copied-behind, SlotKept, KeepRoom, SlotsKept}
@@ -27,9 +27,9 @@ slot-stored w w₁ w′ a b x y room e f g h = record {
   home = rw (h, g) (getD-set-same (set w b x) (b + 1) y 0 (omega (arith, room .room, length-set w b x)) ∙ f);
   kept =
       rw (h, g)
-      (kept-then b (b + 2) w (set w b x) (set (set w b x) (b + 1) y)
-      (kept-wider b (b + 1) b (b + 2) w (set w b x) (omega arith) (omega arith) (kept-set w b x))
-      (kept-wider (b + 1) (b + 1 + 1) b (b + 2) (set w b x) (set (set w b x) (b + 1) y) (omega arith) (omega arith) (kept-set (set w b x) (b + 1) y)));
+      (kept-then b (b + slot-size) w (set w b x) (set (set w b x) (b + 1) y)
+      (kept-wider b (b + 1) b (b + slot-size) w (set w b x) (omega arith) (omega arith) (kept-set w b x))
+      (kept-wider (b + 1) (b + 1 + 1) b (b + slot-size) (set w b x) (set (set w b x) (b + 1) y) (omega arith) (omega arith) (kept-set (set w b x) (b + 1) y)));
 }
 
 -- ---- one parameter
@@ -45,10 +45,10 @@ module _ (text w : List ℕ) (i p d n x : ℕ) (e : x ≡ getD w i 0) (b : Bool)
   slot-dropped h = record {
     slots = sym (rw (← called, h) (append-nil (slots-at text w d n)));
     few = omega arith;
-    kept = kept-all (d + n * 2) (d + n * 2 + 2) w;
+    kept = kept-all (d + n * slot-size) (d + n * slot-size + slot-size) w;
   }
 
-  pub slot-behind : (w′ : List ℕ) → b ≡ false → SlotCopied i (d + n * 2) w w′ → SlotKept text w w′ i p d n (n + 1)
+  pub slot-behind : (w′ : List ℕ) → b ≡ false → SlotCopied i (d + n * slot-size) w w′ → SlotKept text w w′ i p d n (n + 1)
   unfolding but keep pick
   slot-behind w′ h c = record { slots = rw (← called, h) (copied-behind text w w′ i d n c); few = omega arith; kept = c .kept }
 
@@ -59,11 +59,11 @@ module _ (text w₀ : List ℕ) (g c p d : ℕ) where
     pub inside : k ≤ c
     pub slots : slots-at text w d n ≡ but (name-of text p) (slots-at text w₀ g k)
     pub few : n ≤ k
-    pub kept : Kept d (d + c * 2) w₀ w
+    pub kept : Kept d (d + c * slot-size) w₀ w
 
   pub keeping-start : Keeping w₀ 0 0
   unfolding slots-at but keep
-  keeping-start = record { inside = omega arith; slots = refl; few = omega arith; kept = kept-all d (d + c * 2) w₀ }
+  keeping-start = record { inside = omega arith; slots = refl; few = omega arith; kept = kept-all d (d + c * slot-size) w₀ }
 
   pub keeping-end : (w : List ℕ) (n k : ℕ) → c ≤ k → Keeping w n k → SlotsKept text w₀ w g c p d n
   keeping-end w n k h inv =
@@ -74,33 +74,33 @@ module _ (text w₀ : List ℕ) (g c p d : ℕ) where
     pub keeping-few : n < 65536
     keeping-few = omega (arith, room .few, inv .few)
 
-    pub keeping-room : g < 4294967296 → d < 4294967296 → SlotRoom (length w) (g + k * 2) (d + n * 2)
+    pub keeping-room : g < 4294967296 → d < 4294967296 → SlotRoom (length w) (g + k * slot-size) (d + n * slot-size)
     keeping-room l m =
         let few = inv .few in
         let most = room .few in
         record { room = omega (arith, room .room, inv .kept .size); source = omega arith; target = omega arith }
 
-    pub keeping-again : (w′ : List ℕ) (r : ℕ) → SlotKept text w w′ (g + k * 2) p d n r → Keeping w′ r (k + 1)
+    pub keeping-again : (w′ : List ℕ) (r : ℕ) → SlotKept text w w′ (g + k * slot-size) p d n r → Keeping w′ r (k + 1)
     unfolding but
     keeping-again w′ r turn = record { inside = omega arith; slots = more; few = omega (arith, inv .few, turn .few); kept = kept-now }
       where
-        kept-now : Kept d (d + c * 2) w₀ w′
+        kept-now : Kept d (d + c * slot-size) w₀ w′
         kept-now =
             let few = inv .few in
-            kept-then d (d + c * 2) w₀ w w′ (inv .kept)
-            (kept-wider (d + n * 2) (d + n * 2 + 2) d (d + c * 2) w w′ (omega arith) (omega arith) (turn .kept))
+            kept-then d (d + c * slot-size) w₀ w w′ (inv .kept)
+            (kept-wider (d + n * slot-size) (d + n * slot-size + slot-size) d (d + c * slot-size) w w′ (omega arith) (omega arith) (turn .kept))
 
-        there : slot-at text w (g + k * 2) ≡ slot-at text w₀ (g + k * 2)
+        there : slot-at text w (g + k * slot-size) ≡ slot-at text w₀ (g + k * slot-size)
         there =
-            slot-same w₀ w text (g + k * 2)
-            (λ i l m. kept-same d (d + c * 2) g (g + c * 2) w₀ w (room .apart) (inv .kept) i (omega arith) (omega arith))
+            slot-same w₀ w text (g + k * slot-size)
+            (λ i l m. kept-same d (d + c * slot-size) g (g + c * slot-size) w₀ w (room .apart) (inv .kept) i (omega arith) (omega arith))
 
         more : slots-at text w′ d r ≡ but (name-of text p) (slots-at text w₀ g (k + 1))
         more =
             turn .slots
             ∙ ap₂ (λ (ps : List Slot) (q : Slot). ps ++ but (name-of text p) (q ∷ [])) (inv .slots) there
             ∙ sym (ap (λ (j : ℕ). but (name-of text p) (slots-at text w₀ g j)) (add-one k) ∙ ap (but (name-of text p)) (slots-grow text w₀ g k)
-            ∙ keep-append (λ (q : Slot). not (same (name-of text p) (q .name))) (slots-at text w₀ g k) (slot-at text w₀ (g + k * 2) ∷ []))
+            ∙ keep-append (λ (q : Slot). not (same (name-of text p) (q .name))) (slots-at text w₀ g k) (slot-at text w₀ (g + k * slot-size) ∷ []))
 
 pub ruleset slots = (slot-stored, slot-dropped, slot-behind, needs)
 

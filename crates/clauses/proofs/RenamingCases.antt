@@ -17,6 +17,7 @@ use Rattle.meaning.specs.Origins.{Shape, sort-shape, function-shape, variable-s
 use Rattle.meaning.specs.Normal.{names-in, is-called}
 use Rattle.meaning.specs.Checks.{unless}
 use Rattle.meaning.specs.Clauses.{arguments-fit, may-name, renames, wrong-renaming}
+use Rattle.meaning.specs.Numbers.{bad-renaming}
 use Rattle.names.specs.Word.{name-of}
 use Rattle.tables.specs.declared.Row.{Row}
 use Rattle.tables.specs.Entries.{word-at, name-at}
@@ -141,7 +142,7 @@ module _ (visible : List Item) (text tape : List ℕ) (pairs n : ℕ) where
   check-start h = walk-start checked text tape pairs n h
 
   module _ (k : ℕ) (inv : Checking visible text tape pairs n k) where
-    pub renamings-fine : n ≤ k → told text Fine ≡ unless 14 wrong
+    pub renamings-fine : n ≤ k → told text Fine ≡ unless bad-renaming wrong
     unfolding told unless wrong-renaming given first-bad
     renamings-fine h = rw (walk-end checked text tape pairs n k h inv)
 
@@ -159,7 +160,8 @@ module _ (visible : List Item) (text tape : List ℕ) (pairs n : ℕ) where
       unfolding wrong-renaming given rightly pair-at pick first-bad
       one-wrong q = walk-here checked text tape pairs n k h inv ∙ rw (wrong-or-given, ← f, q)
 
-      pub renaming-stops : (x : ℕ) → r ≡ false → x ≡ word-at tape (pairs + k * 2) → told text (Stop 14 (record { name = x; actual = 0 })) ≡ unless 14 wrong
+      pub renaming-stops : (x : ℕ) → r ≡ false → x ≡ word-at tape (pairs + k * 2)
+          → told text (Stop bad-renaming (record { name = x; actual = 0 })) ≡ unless bad-renaming wrong
       unfolding told unless
       renaming-stops x q e = rw (one-wrong q, ← e, lone-of text x)
 

@@ -14,7 +14,7 @@ use Rattle.meaning.specs.Normal.{Slot, names-in, sorts-among, is-called, slot-n
 use Rattle.names.specs.Word.{name-of}
 use Rattle.tables.specs.declared.Row.{Row}
 use Rattle.tables.specs.Rows.{origin-of, shape-of, item-of, row-at}
-use Rattle.forms.specs.Forms.{slot-at, slots-at, items-at}
+use Rattle.forms.specs.Forms.{slot-at, slots-at, items-at, slot-size}
 use Rattle.walks.specs.Lists.{any-keep}
 use Rattle.walks.specs.Shapes.{is-sort-kind, is-function-kind}
 use Rattle.walks.specs.Rows.{find-start, find-end, nowhere, find-again, find-here, somewhere, found-below, Seeking, seek-start, seek-end, seek-again, seek-found}
@@ -39,9 +39,9 @@ module _ (text w : List ℕ) (b n a : ℕ) where
   pub parameter-end : (i : ℕ) → n ≤ i → Seeking wanted text w b n i → false ≡ there
   parameter-end i h inv = seek-end wanted text w b n i h inv ∙ sym all-slots
 
-  module _ (i x : ℕ) (r : Bool) (h : i < n) (inv : Seeking wanted text w b n i) (e : x ≡ getD w (b + i * 2) 0)
+  module _ (i x : ℕ) (r : Bool) (h : i < n) (inv : Seeking wanted text w b n i) (e : x ≡ getD w (b + i * slot-size) 0)
       (f : r ≡ same (name-of text a) (name-of text x)) where
-    this : r ≡ wanted (slot-at text w (b + i * 2))
+    this : r ≡ wanted (slot-at text w (b + i * slot-size))
     unfolding slot-at slot-called
     this = rw (← e) f
 

@@ -7,7 +7,7 @@ use lib.ListN.{getD, set}
 use Rattle.meaning.specs.Lists.{pick, before}
 use Rattle.meaning.specs.Origins.{Item, in-parameter}
 use Rattle.names.specs.Word.{name-of}
-use Rattle.tables.specs.Rows.{item-of, row-at}
+use Rattle.tables.specs.Rows.{item-of, row-at, row-size}
 use Rattle.forms.specs.declared.Form.{Form}
 use Rattle.forms.specs.Memory.{Kept}
 use Rattle.forms.specs.Forms.{items-at}
@@ -19,7 +19,7 @@ use Rattle.clauses.specs.Searches.{like}
 module _ (text tape w : List ℕ) (m : Mode) where
   -- the item of row k of the mode's table, and whether it is formal
   unfoldable pub mode-item : ℕ → Item
-  mode-item k = item-of text tape (row-at w (m .visible + k * 16))
+  mode-item k = item-of text tape (row-at w (m .visible + k * row-size))
 
   unfoldable pub formal-row : ℕ → Bool
   formal-row k = in-parameter (name-of text (m .parameter)) (mode-item k .standing)
@@ -35,8 +35,8 @@ module _ (text tape w : List ℕ) (m : Mode) where
 pub record NoteRoom (size t : ℕ) (m : Mode) (y : Form) (notes : ℕ) : Type 0 where
   pub tape : t ≤ notes
   pub within : notes + m .count ≤ size
-  pub table : Apart notes (notes + m .count) (m .visible) (m .visible + m .count * 16)
-  pub rows : Apart notes (notes + m .count) (y .visible) (y .visible + y .«visible_count» * 16)
+  pub table : Apart notes (notes + m .count) (m .visible) (m .visible + m .count * row-size)
+  pub rows : Apart notes (notes + m .count) (y .visible) (y .visible + y .«visible_count» * row-size)
 
 pub record FormalsNoted (text tape w w′ : List ℕ) (m : Mode) (y : Form) (notes : ℕ) : Type 0 where
   pub kept : Kept notes (notes + m .count) w w′

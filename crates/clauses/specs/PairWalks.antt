@@ -8,6 +8,7 @@ use lib.Dec.{eqb}
 use borrow.Author.Tests.{eq-eqb, eqb-true}
 use Rattle.meaning.specs.Lists.{pick}
 use Rattle.meaning.specs.Syntax.{Pair}
+use Rattle.tape.specs.Tape.{old-role}
 use Rattle.tables.specs.Entries.{role-at}
 use Rattle.translation.specs.Translation.{pairs-from, pairs-at}
 use Rattle.clauses.specs.Pairs.{pair-count, pair-at}
@@ -15,9 +16,9 @@ use Rattle.clauses.specs.Pairs.{pair-count, pair-at}
 -- ---- how many there are
 
 -- at a place with the role of an old name one more is counted
-counted : (tape : List ℕ) (i c : ℕ) → role-at tape i ≡ 14 → pair-count tape i (suc c) ≡ suc (pair-count tape (i + 2) c)
+counted : (tape : List ℕ) (i c : ℕ) → role-at tape i ≡ old-role → pair-count tape i (suc c) ≡ suc (pair-count tape (i + 2) c)
 unfolding pair-count pick
-counted tape i c h = rw (eq-eqb (role-at tape i) 14 h)
+counted tape i c h = rw (eq-eqb (role-at tape i) old-role h)
 
 pub from-start : (tape : List ℕ) (pairs : ℕ) → pair-count tape pairs 32 ≡ pair-count tape (pairs + 0 * 2) (32 - 0)
 from-start tape pairs = let e : pairs ≡ pairs + 0 * 2 = omega arith in ap (λ (i : ℕ). pair-count tape i 32) e
@@ -29,7 +30,7 @@ module _ (tape : List ℕ) (pairs : ℕ) where
   pub one-more : (k : ℕ) → k < 32 → 32 - k ≡ suc (32 - (k + 1))
   one-more k h = omega arith
 
-  pub counted-next : (k : ℕ) → k < 32 → role-at tape (pairs + k * 2) ≡ 14
+  pub counted-next : (k : ℕ) → k < 32 → role-at tape (pairs + k * 2) ≡ old-role
       → pair-count tape (pairs + k * 2) (32 - k) ≡ suc (pair-count tape (pairs + (k + 1) * 2) (32 - (k + 1)))
   counted-next k h e =
       ap (pair-count tape (pairs + k * 2)) (one-more k h) ∙ counted tape (pairs + k * 2) (32 - (k + 1)) e
@@ -46,25 +47,25 @@ pub record Walking {A : Type 0} (ask : ℕ → List Pair → A) (text tape : Lis
 no-pairs : (text tape : List ℕ) (i c : ℕ) → pair-count tape i c ≡ 0 → pairs-from text tape i c ≡ []
 unfolding pair-count pairs-from pick
 no-pairs text tape i zero e = refl
-no-pairs text tape i (suc c) e = go (eqb (role-at tape i) 14) refl
+no-pairs text tape i (suc c) e = go (eqb (role-at tape i) old-role) refl
   where
-    go : (b : Bool) → eqb (role-at tape i) 14 ≡ b → pairs-from text tape i (suc c) ≡ []
+    go : (b : Bool) → eqb (role-at tape i) old-role ≡ b → pairs-from text tape i (suc c) ≡ []
     go true q = absurd (omega (arith, e, counted tape i c (eqb-true (role-at tape i) 14 q)))
     go false q = rw q
 
-some-pair : (tape : List ℕ) (i c : ℕ) → 0 < pair-count tape i c → (0 < c) × (role-at tape i ≡ 14)
+some-pair : (tape : List ℕ) (i c : ℕ) → 0 < pair-count tape i c → (0 < c) × (role-at tape i ≡ old-role)
 unfolding pair-count pick
 some-pair tape i zero e = absurd (omega arith)
-some-pair tape i (suc c) e = go (eqb (role-at tape i) 14) refl
+some-pair tape i (suc c) e = go (eqb (role-at tape i) old-role) refl
   where
-    go : (b : Bool) → eqb (role-at tape i) 14 ≡ b → (0 < suc c) × (role-at tape i ≡ 14)
+    go : (b : Bool) → eqb (role-at tape i) old-role ≡ b → (0 < suc c) × (role-at tape i ≡ old-role)
     go true q = (omega arith, eqb-true (role-at tape i) 14 q)
     go false q = let none : pair-count tape i (suc c) ≡ 0 = rw q in absurd (omega (arith, e, none))
 
-first-pair : (text tape : List ℕ) (pairs k c : ℕ) → role-at tape (pairs + k * 2) ≡ 14
+first-pair : (text tape : List ℕ) (pairs k c : ℕ) → role-at tape (pairs + k * 2) ≡ old-role
     → pairs-from text tape (pairs + k * 2) (suc c) ≡ pair-at text tape pairs k ∷ pairs-from text tape (pairs + k * 2 + 2) c
 unfolding pairs-from pair-at pick
-first-pair text tape pairs k c h = rw (eq-eqb (role-at tape (pairs + k * 2)) 14 h)
+first-pair text tape pairs k c h = rw (eq-eqb (role-at tape (pairs + k * 2)) old-role h)
 
 module _ {A : Type 0} (ask : ℕ → List Pair → A) (text tape : List ℕ) (pairs n : ℕ) where
   pub walk-start : n ≡ pair-count tape pairs 32 → Walking ask text tape pairs n 0
@@ -79,7 +80,7 @@ module _ {A : Type 0} (ask : ℕ → List Pair → A) (text tape : List ℕ) (pa
       inv .rest ∙ ap (ask k) (no-pairs text tape (pairs + k * 2) (32 - k) none)
 
   module _ (k : ℕ) (h : k < n) (inv : Walking ask text tape pairs n k) where
-    there : (0 < 32 - k) × (role-at tape (pairs + k * 2) ≡ 14)
+    there : (0 < 32 - k) × (role-at tape (pairs + k * 2) ≡ old-role)
     there = some-pair tape (pairs + k * 2) (32 - k) (omega (arith, inv .counted-on))
 
     below : k < 32

@@ -9,7 +9,7 @@ use Rattle.meaning.specs.Names.{Name}
 use Rattle.meaning.specs.Origins.{Origin, is-sort, Item}
 use Rattle.meaning.specs.Normal.{sorts-among, is-called, origin-of-item}
 use Rattle.names.specs.Word.{name-of}
-use Rattle.tables.specs.Rows.{origin-of as row-origin, item-of, row-at}
+use Rattle.tables.specs.Rows.{origin-of as row-origin, item-of, row-at, row-size}
 use Rattle.forms.specs.Forms.{items-at}
 use Rattle.walks.specs.Rows.{first-row, no-row}
 use Rattle.clauses.specs.Joined.{first-keep}
@@ -27,12 +27,12 @@ module _ (text tape w : List ℕ) (b n a i : ℕ) (e : i ≡ before (sort-called
   unfolding sorts-among sort-called
   first-sort = first-keep (λ (x : Item). is-sort (x .shape)) (is-called (name-of text a)) items
 
-  pub origin-there : i < n → origin-among items (name-of text a) ≡ some (row-origin text tape (row-at w (b + i * 16) .origin))
+  pub origin-there : i < n → origin-among items (name-of text a) ≡ some (row-origin text tape (row-at w (b + i * row-size) .origin))
   unfolding origin-among origin-of-item item-of
   origin-there h =
       let there : before (sort-called (name-of text a)) items < n = rw (← e) h in
       ap origin-of-item (first-sort ∙ first-row (sort-called (name-of text a)) text tape w b n there)
-      ∙ ap (λ (j : ℕ). some (row-origin text tape (row-at w (b + j * 16) .origin))) (sym e)
+      ∙ ap (λ (j : ℕ). some (row-origin text tape (row-at w (b + j * row-size) .origin))) (sym e)
 
   pub origin-nowhere : n ≤ i → origin-among items (name-of text a) ≡ none
   unfolding origin-among origin-of-item

@@ -3,6 +3,7 @@ use super::Found;
 use tables::entries::name_at;
 use tables::entries::role_at;
 use tables::entries::same_word;
+use tape::roles;
 ghost use mathlib.Core.Path.{_≡_};
 ghost use Prim.Native.Nat.{_+_, _*_};
 ghost use Rattle.meaning.specs.Names.{member};
@@ -40,7 +41,7 @@ pub fn pair_count(tape: &[u32], pairs: u32) -> u32
 {
     let mut k: u32 = 0;
     while k < 32 {
-        if role_at(tape, pair_place(pairs, k)) == 14 {
+        if role_at(tape, pair_place(pairs, k)) == roles::OLD {
             k += 1;
         } else {
             return k;

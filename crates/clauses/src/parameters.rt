@@ -1,5 +1,6 @@
 // The parameters of a normal form, each two words, its name and its module's: whether there is one of a name, and all but one.
 use forms::Form;
+use forms::SLOT_STEP;
 use tables::entries::put_word;
 use tables::entries::same_word;
 use tables::entries::word_at;
@@ -10,7 +11,7 @@ ghost use Rattle.meaning.specs.Names.{member};
 ghost use Rattle.meaning.specs.Normal.{slot-names};
 ghost use Rattle.names.specs.Word.{name-of};
 ghost use Rattle.names.specs.Joint.{joint};
-ghost use Rattle.forms.specs.Forms.{slots-at};
+ghost use Rattle.forms.specs.Forms.{slots-at, slot-size};
 ghost use Rattle.clauses.specs.KeptParameters.{SlotRoom, SlotCopied, SlotKept, KeepRoom, SlotsKept};
 
 // Has the form a parameter called p?
@@ -25,7 +26,7 @@ pub fn has_parameter(library: &[u8], text: &[u8], work: &[u32], f: Form, p: u32)
             library,
             text,
             p,
-            word_at(work, parameters as usize + i as usize * 2),
+            word_at(work, parameters as usize + i as usize * SLOT_STEP),
         ) {
             return true;
         }
@@ -56,16 +57,16 @@ fn keep_parameter(
     d: u32,
     n: u32,
 ) -> u32
-    requires { ⌜ SlotRoom (length (now work)) (g + k * 2) (d + n * 2) ⌝ }
+    requires { ⌜ SlotRoom (length (now work)) (g + k * slot-size) (d + n * slot-size) ⌝ }
     requires { ⌜ n < 65536 ⌝ }
-    ensures { λ r. ⌜ SlotKept (joint (now (library .entry)) (now (text .entry))) (now (work .entry)) (now (work .exit)) (g + k * 2) p d n r ⌝ }
+    ensures { λ r. ⌜ SlotKept (joint (now (library .entry)) (now (text .entry))) (now (work .entry)) (now (work .exit)) (g + k * slot-size) p d n r ⌝ }
 {
-    let a = g as usize + k as usize * 2;
+    let a = g as usize + k as usize * SLOT_STEP;
     let name = word_at(work, a);
     if same_word(library, text, p, name) {
         return n;
     }
-    copy_parameter(work, a, d as usize + n as usize * 2);
+    copy_parameter(work, a, d as usize + n as usize * SLOT_STEP);
     n + 1
 }
 

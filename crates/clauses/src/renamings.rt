@@ -6,10 +6,12 @@ use super::pairs::pair_count;
 use super::searches::is_visible;
 use forms::Culprit;
 use forms::Verdict;
+use meaning::numbers;
 use names::joint::is_infix;
 use names::joint::is_operator;
 use tables::Row;
 use tables::entries::same_word;
+use tables::kinds;
 use tables::rows::read_row;
 ghost use mathlib.Core.Path.{_≡_};
 ghost use mathlib.Core.List.{[]};
@@ -33,14 +35,14 @@ ghost use Rattle.clauses.specs.Renamed.{kind-named, unfit};
 fn may_name(library: &[u8], text: &[u8], new: u32, kind: u32) -> bool
     ensures { λ r. ⌜ r ≡ kind-named (name-of (joint (now (library .entry)) (now (text .entry))) new) kind ⌝ }
 {
-    if kind == 1 {
+    if kind == kinds::VARIABLE {
         return true;
     }
     if is_operator(library, text, new) {
         if is_infix(library, text, new) {
-            return kind == 4;
+            return kind == kinds::INFIX;
         }
-        return kind == 3;
+        return kind == kinds::PREFIX;
     }
     true
 }
@@ -154,7 +156,7 @@ pub fn wrong_renaming(
             k += 1;
         } else {
             return Verdict::Stop(
-                14,
+                numbers::BAD_RENAMING,
                 Culprit {
                     name: old_word(&work[0..t], pairs, k),
                     actual: 0,

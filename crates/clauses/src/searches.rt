@@ -1,6 +1,7 @@
 // Rows of a table sought by name, by name and kind, and by name and shape.
 use tables::Row;
 use tables::entries::same_word;
+use tables::kinds;
 use tables::rows::read_row;
 use tables::sorts::same_shape;
 ghost use mathlib.Core.Path.{_≡_};
@@ -61,7 +62,7 @@ fn is_sort_called(library: &[u8], text: &[u8], tape: &[u32], a: u32, row: Row) -
     ensures { λ r. ⌜ r ≡ sort-called (name-of (joint (now (library .entry)) (now (text .entry))) a) (item-of (joint (now (library .entry)) (now (text .entry))) (now (tape .entry)) row) ⌝ }
 {
     let kind = row.kind;
-    if kind == 0 {
+    if kind == kinds::SORT {
         let name = row.name;
         return same_word(library, text, a, name);
     }
@@ -99,7 +100,7 @@ fn is_function_called(library: &[u8], text: &[u8], tape: &[u32], a: u32, row: Ro
     let name = row.name;
     let kind = row.kind;
     if same_word(library, text, a, name) {
-        return 2 <= kind;
+        return kinds::FUNCTION <= kind;
     }
     false
 }

@@ -6,7 +6,7 @@ ghost use Prim.Native.Nat.{_+_, _*_, _≤_};
 ghost use lib.ListN.{length};
 ghost use Rattle.meaning.specs.Origins.{same-origin};
 ghost use Rattle.names.specs.Joint.{joint};
-ghost use Rattle.tables.specs.Rows.{origin-of, row-at};
+ghost use Rattle.tables.specs.Rows.{origin-of, row-at, row-size};
 ghost use Rattle.forms.specs.Memory.{part};
 
 // Is row i of the table at b from where row j of the table at c is from?
@@ -21,7 +21,7 @@ pub fn same_origin_at(
     j: u32,
 ) -> bool
     requires { ⌜ t ≤ length (now work) ⌝ }
-    ensures { λ r. ⌜ r ≡ same-origin (origin-of (joint (now (library .entry)) (now (text .entry))) (part (now (work .entry)) 0 t) (row-at (now (work .entry)) (b + i * 16) .origin)) (origin-of (joint (now (library .entry)) (now (text .entry))) (part (now (work .entry)) 0 t) (row-at (now (work .entry)) (c + j * 16) .origin)) ⌝ }
+    ensures { λ r. ⌜ r ≡ same-origin (origin-of (joint (now (library .entry)) (now (text .entry))) (part (now (work .entry)) 0 t) (row-at (now (work .entry)) (b + i * row-size) .origin)) (origin-of (joint (now (library .entry)) (now (text .entry))) (part (now (work .entry)) 0 t) (row-at (now (work .entry)) (c + j * row-size) .origin)) ⌝ }
 {
     let x = read_row(work, b, i);
     let y = read_row(work, c, j);

@@ -8,7 +8,7 @@ use native.Mathlib.Omega.{arith}
 use lib.ListN.{length, getD, take}
 use Rattle.meaning.specs.Origins.{Item}
 use Rattle.meaning.specs.Normal.{Hidden, Normal, unite-hidden, unite}
-use Rattle.tables.specs.Rows.{item-of, row-at}
+use Rattle.tables.specs.Rows.{item-of, row-at, row-size}
 use Rattle.forms.specs.declared.Form.{Form}
 use Rattle.forms.specs.declared.Block.{Block}
 use Rattle.forms.specs.Memory.{part, Kept}
@@ -50,7 +50,7 @@ pub record JoinRoom (size t : ℕ) (g f : Form) (b : Block) : Type 0 where
   pub same-name-count : g .«parameter_count» ≡ f .«parameter_count»
   pub same-rows : g .visible ≡ f .visible
   pub same-row-count : g .«visible_count» ≡ f .«visible_count»
-  pub own-rows : g .hidden ≡ f .visible + f .«visible_count» * 16
+  pub own-rows : g .hidden ≡ f .visible + f .«visible_count» * row-size
   pub own-row-count : f .«visible_count» + g .«hidden_count» ≤ rows
   pub own-equations : b .high ≤ g .equations
   pub own-nodes : b .high ≤ g .nodes
@@ -82,17 +82,17 @@ module _ (text tape w : List ℕ) where
   noted-same base n o few word =
       let σ = sort-name text tape w as-is in
       let φ = function-name text tape w as-is in
-      let there : (i : ℕ) → i < n → item-of text tape (row-at w (base + getD w (o + i) 0 * 16)) ≡ item-of text tape (row-at w (base + i * 16)) =
-      λ i h. ap (λ (j : ℕ). item-of text tape (row-at w (base + j * 16))) (word i h) in
+      let there : (i : ℕ) → i < n → item-of text tape (row-at w (base + getD w (o + i) 0 * row-size)) ≡ item-of text tape (row-at w (base + i * row-size)) =
+      λ i h. ap (λ (j : ℕ). item-of text tape (row-at w (base + j * row-size))) (word i h) in
       record {
         small = few;
         inside = λ i h z. subst (λ (j : ℕ). j < n) (sym (word i h)) h;
         node = λ i h z k.
-            ap (node-of true k) (there i h ∙ sym (item-stays (item-of text tape (row-at w (base + i * 16)))))
-            ∙ node-moved σ φ true k (item-of text tape (row-at w (base + i * 16)));
+            ap (node-of true k) (there i h ∙ sym (item-stays (item-of text tape (row-at w (base + i * row-size)))))
+            ∙ node-moved σ φ true k (item-of text tape (row-at w (base + i * row-size)));
         shape = λ i h z.
-            ap (λ (x : Item). x .shape) (there i h ∙ sym (item-stays (item-of text tape (row-at w (base + i * 16)))))
-            ∙ shape-moved σ φ true (item-of text tape (row-at w (base + i * 16)));
+            ap (λ (x : Item). x .shape) (there i h ∙ sym (item-stays (item-of text tape (row-at w (base + i * row-size)))))
+            ∙ shape-moved σ φ true (item-of text tape (row-at w (base + i * row-size)));
       }
 
 -- ---- hidden parts

@@ -9,6 +9,8 @@ use lib.Dec.{leb}
 use lib.ListN.{length}
 use Rattle.meaning.specs.Normal.{Normal, unite-hidden}
 use Rattle.meaning.specs.Checks.{Size}
+use Rattle.meaning.specs.Numbers.{no-room}
+use Rattle.tables.specs.Rows.{row-size}
 use Rattle.forms.specs.declared.Form.{Form}
 use Rattle.forms.specs.declared.Block.{Block}
 use Rattle.forms.specs.declared.Culprit.{Culprit}
@@ -33,7 +35,7 @@ said-form f counts scratch = record {
   «parameter_count» = counts .«parameter_count»;
   visible = f .visible;
   «visible_count» = counts .«visible_count»;
-  hidden = f .visible + counts .«visible_count» * 16;
+  hidden = f .visible + counts .«visible_count» * row-size;
   «hidden_count» = counts .«hidden_count»;
   equations = scratch;
   «equation_count» = 0;
@@ -43,7 +45,7 @@ said-form f counts scratch = record {
 
 -- its places are words
 pub record SaidRoom (f : Form) (counts : OwnRows) (scratch : ℕ) : Type 0 where
-  pub rows : f .visible + counts .«visible_count» * 16 ≤ 1073741824
+  pub rows : f .visible + counts .«visible_count» * row-size ≤ 1073741824
   pub nodes : scratch ≤ 1073741824
 
 -- ---- joined
@@ -70,7 +72,7 @@ pub nodes-few : (g : Form) (few : Bool) → few ≡ leb (g .«node_count») 6553
 nodes-few g few e h = leb-true (g .«node_count») 65536 (sym e ∙ h)
 
 module _ (text : List ℕ) (t : ℕ) (w : List ℕ) (g f : Form) (b : Block) (totals : Totals) where
-  pub said-many : (few : Bool) → few ≡ leb (g .«node_count») 65536 → few ≡ false → SaidJoined text t w g f b totals (Refused 18 nobody) w
+  pub said-many : (few : Bool) → few ≡ leb (g .«node_count») 65536 → few ≡ false → SaidJoined text t w g f b totals (Refused no-room nobody) w
   said-many few e h = record {
     made-in = tt;
     right = tt;

@@ -3,6 +3,7 @@ use forms::Block;
 use forms::Form;
 use tables::entries::put_word;
 use translation::Mode;
+use translation::modes;
 use uniting::unite_hidden_within;
 ghost use Prim.Native.Nat.{_+_, _≤_};
 ghost use lib.ListN.{length};
@@ -36,7 +37,7 @@ pub fn join_hidden(
     ensures { λ r. ⌜ HiddenJoined (joint (now (library .entry)) (now (text .entry))) t (now (work .entry)) g f b r (now (work .exit)) ⌝ }
 {
     let m = Mode {
-        kind: 0,
+        kind: modes::AS_IS,
         pairs: 0,
         parameter: 0,
         visible: 0,

@@ -7,7 +7,9 @@ use forms::Block;
 use forms::Culprit;
 use forms::Form;
 use forms::Made;
+use meaning::numbers;
 use own::OwnRows;
+use tables::ROW_SIZE;
 ghost use mathlib.Core.Path.{_≡_};
 ghost use lib.Dec.{leb};
 ghost use lib.ListN.{length};
@@ -29,7 +31,7 @@ pub fn said_form(f: Form, counts: OwnRows, scratch: u32) -> Form
         parameter_count: counts.parameter_count,
         visible,
         visible_count,
-        hidden: visible + visible_count * 16,
+        hidden: visible + visible_count * ROW_SIZE,
         hidden_count: counts.hidden_count,
         equations: scratch,
         equation_count: 0,
@@ -82,7 +84,7 @@ fn join_said(
         let h = join_hidden(library, text, work, t, g, f, b);
         return fitting_all(h, totals);
     }
-    Made::Refused(18, Culprit { name: 0, actual: 0 })
+    Made::Refused(numbers::NO_ROOM, Culprit { name: 0, actual: 0 })
 }
 
 // The same, where the equations could be typed.

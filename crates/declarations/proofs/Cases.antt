@@ -17,10 +17,12 @@ use Rattle.meaning.specs.Origins as meant
 use Rattle.meaning.specs.OrderLaws.{same-self}
 use Rattle.meaning.specs.Origins.{Declared, declared-sort, declared-function, declared-variable, same-declared, visible-sort}
 use Rattle.meaning.specs.Checks.{Check, _>>_}
+use Rattle.meaning.specs.Numbers.{declared-twice}
+use Rattle.laws.specs.Decides.{declared-decided}
 use Rattle.names.specs.Word.{name-of}
+use Rattle.tape.specs.Tape.{parameter-role, variable-role}
 use Rattle.tables.specs.Entries.{role-at, word-at, name-at, last-with, is-function-role, is-parameter-role, declared-at}
-use Rattle.tables.specs.Rows.{hidden-origin, sort-of}
-use Rattle.tables.specs.Decides.{declared-decided}
+use Rattle.tables.specs.Rows.{hidden-origin, sort-of, row-size}
 use Rattle.forms.specs.declared.Culprit.{Culprit}
 use Rattle.forms.specs.declared.Verdict.{Verdict}
 use Rattle.forms.specs.declared.Verdict.the-variants.{Fine, Stop}
@@ -81,7 +83,7 @@ called (declared-variable v s) = v
 
 called-at : (text tape : List ℕ) (d : ℕ) → called (declared-at text tape d) ≡ name-at text tape d
 unfolding called declared-at pick
-called-at text tape d = go _ _ _ refl refl refl (is-function-role (role-at tape d)) (eqb (role-at tape d) 17)
+called-at text tape d = go _ _ _ refl refl refl (is-function-role (role-at tape d)) (eqb (role-at tape d) variable-role)
   where
     go : (f v s : Declared) → called f ≡ name-at text tape d → called v ≡ name-at text tape d → called s ≡ name-at text tape d
         → (b c : Bool) → called (pick b f (pick c v s)) ≡ name-at text tape d
@@ -126,7 +128,7 @@ pub last-fits : (role : ℕ) (tape : List ℕ) (i x : ℕ) → Fits w32 i → x 
 last-fits role tape i x f e = omega (arith, last-early role tape i)
 
 module _ (tape : List ℕ) (a i r : ℕ) (e : r ≡ role-at tape i) (b : Bool) (f : b ≡ is-parameter-role r) where
-  pub start-parameter : (x : ℕ) → b ≡ true → x ≡ last-with 2 tape i → x ≡ section-start tape a i
+  pub start-parameter : (x : ℕ) → b ≡ true → x ≡ last-with parameter-role tape i → x ≡ section-start tape a i
   unfolding section-start pick
   start-parameter x q g = rw (← e, ← f, q) g
 
@@ -144,7 +146,7 @@ module _ (text tape : List ℕ) (a i r : ℕ) (e : r ≡ role-at tape i) (d : Bo
     unfolding once-at is-repeat told pick
     once-first p = rw (← e, ← f, q, ← g, ← h, p)
 
-    pub once-again : (x : ℕ) → b ≡ true → x ≡ word-at tape i → told text (Stop 9 (record { name = x; actual = 0 })) ≡ once-at text tape a i
+    pub once-again : (x : ℕ) → b ≡ true → x ≡ word-at tape i → told text (Stop declared-twice (record { name = x; actual = 0 })) ≡ once-at text tape a i
     unfolding once-at is-repeat told pick
     once-again x p k = rw (lone-of text x, k, ← e, ← f, q, ← g, ← h, p)
 
@@ -176,8 +178,8 @@ module _ (text tape : List ℕ) (role : ℕ) (w i r : ℕ) (e : r ≡ role-at ta
   unfolding is-named pick
   named-not q = rw (← e, ne-eqb r role q)
 
-module _ (text m : List ℕ) (b kind : ℕ) (w i r : ℕ) (e : r ≡ getD m (b + i * 16 + 2) 0) where
-  pub row-there : (x : ℕ) (y : Bool) → r ≡ kind → x ≡ getD m (b + i * 16 + 1) 0 → y ≡ same (name-of text w) (name-of text x) → y ≡ is-row text m b kind (name-of text w) i
+module _ (text m : List ℕ) (b kind : ℕ) (w i r : ℕ) (e : r ≡ getD m (b + i * row-size + 2) 0) where
+  pub row-there : (x : ℕ) (y : Bool) → r ≡ kind → x ≡ getD m (b + i * row-size + 1) 0 → y ≡ same (name-of text w) (name-of text x) → y ≡ is-row text m b kind (name-of text w) i
   unfolding is-row pick
   row-there x y q f g = rw (← e, eq-eqb r kind q, ← f) g
 

@@ -3,7 +3,7 @@ use mathlib.Core.Path.{_≡_, refl, sym, ap, _∙_}
 use mathlib.Core.Bool.{Bool, true, false}
 use mathlib.Core.List.{List, [], _∷_, _++_, map, map-append, append-nil, append-assoc}
 use mathlib.Core.Logic.{inl}
-use Prim.Native.Nat.{ℕ, zero, suc, _+_, _-_, _*_, _<_, _≤_}
+use Prim.Native.Nat.{ℕ, suc, _+_, _-_, _*_, _<_, _≤_}
 use native.Mathlib.Numerals.{add-one, add-two}
 use native.Mathlib.Omega.{arith}
 use borrow.Author.Needs.{needs}
@@ -14,11 +14,11 @@ use lib.Dec.{eqb, ltb}
 use lib.ListN.{length, getD, set, take, drop, length-set, length-take, List·getD-eq-default}
 use lib.Seq.{sets, take-suc-set, take-set-le, getD-set-same, getD-take, getD-drop}
 use Rattle.meaning.specs.Lists.{pick}
-use Rattle.meaning.specs.Origins as meant
+use Rattle.tape.specs.Tape.{parameter-role, variable-role}
 use Rattle.tables.specs.Entries.{role-at, word-at, name-at, last-with, inputs-from, is-function-role, is-parameter-role, is-export-role, arity-at, section-at, origin-at, sort-place}
 use Rattle.tables.specs.Kinds.{kind-at}
-use Rattle.tables.specs.Rows.{sort-of, type-of, shape-of, item-of, row-at, row-words}
-use Rattle.tables.specs.RowLaws.{IsWord, row-back}
+use Rattle.tables.specs.Rows.{sort-of, type-of, shape-of, item-of, row-at, row-words, row-size}
+use Rattle.tables.specs.RowLaws.{IsWord, row-back, inputs-short}
 use Rattle.tables.specs.declared.Section.the-variants.{Export, Hidden, Parameter}
 use Rattle.tables.specs.declared.Origin.{Origin}
 use Rattle.tables.specs.declared.Row.{Row}
@@ -29,6 +29,7 @@ use Rattle.declarations.specs.Sorts.{Ready, resolved-in}
 use Rattle.declarations.specs.Items.{resolved-at, resolved-from, own-shape, own-item, InputSorts, OwnSorts, OwnRow, is-own, own-count, own-items, Roomy, Put, Appended}
 use Rattle.declarations.specs.Frames.{item-same, count-short}
 use Rattle.declarations.specs.declared.Own.{Own}
+use Rattle.meaning.specs.Origins as meant
 
 -- ---- sorts
 
@@ -95,18 +96,9 @@ module _ (text tape w : List ℕ) (own : Own) (d n : ℕ) (s : List ℕ) where
 
 -- ---- rows
 
-inputs-short : (t : List ℕ) (i c : ℕ) → inputs-from t i c ≤ c
-unfolding inputs-from pick
-inputs-short t i zero = omega arith
-inputs-short t i (suc c) = go (eqb (role-at t i) 9) (inputs-short t (suc i) c)
-  where
-    go : (b : Bool) → inputs-from t (suc i) c ≤ c → pick b (suc (inputs-from t (suc i) c)) 0 ≤ suc c
-    go true h = omega arith
-    go false h = omega arith
-
 pub kind-short : (t : List ℕ) (d k : ℕ) → k ≡ kind-at t d → k ≤ 10
 unfolding kind-at arity-at pick
-kind-short t d k e = rw e (go (is-function-role (role-at t d)) (eqb (role-at t d) 17) (inputs-short t (d + 1) 8))
+kind-short t d k e = rw e (go (is-function-role (role-at t d)) (eqb (role-at t d) variable-role) (inputs-short t (d + 1) 8))
   where
     go : (b v : Bool) → inputs-from t (d + 1) 8 ≤ 8 → pick b (inputs-from t (d + 1) 8 + 2) (pick v 1 0) ≤ 10
     go true v h = omega arith
@@ -130,8 +122,8 @@ section-fits : (tape : List ℕ) → ((i : ℕ) → getD tape i 0 < 4294967296) 
 unfolding section-at pick
 section-fits tape f d = go (is-parameter-role (role-at tape d)) (is-export-role (role-at tape d))
   where
-    go : (p x : Bool) → IsWord (pick p (Parameter (word-at tape (last-with 2 tape d))) (pick x Export Hidden))
-    go true x = omega (arith, f (last-with 2 tape d))
+    go : (p x : Bool) → IsWord (pick p (Parameter (word-at tape (last-with parameter-role tape d))) (pick x Export Hidden))
+    go true x = omega (arith, f (last-with parameter-role tape d))
     go false true = tt
     go false false = tt
 
@@ -147,13 +139,14 @@ row-made text w t own d kind name o s f e g h q =
     }
 
 pub row-put : (text w w′ : List ℕ) (t : ℕ) (own : Own) (base k d : ℕ) (r : Row) → OwnRow text (part w 0 t) w own d r
-    → w′ ≡ sets w (base + k * 16) (row-words r) → Put text t own base k d w w′
+    → w′ ≡ sets w (base + k * row-size) (row-words r) → Put text t own base k d w w′
 unfolding row-words
 row-put text w w′ t own base k d r g q =
-    let b = base + k * 16 in
-    let l : length (row-words r) ≤ 16 = omega (arith, g .fits .nine) in
+    let b = base + k * row-size in
+    let l : length (row-words r) ≤ row-size = omega (arith, g .fits .nine) in
     record {
-      kept = rw q (kept-wider b (b + length (row-words r)) b (b + 16) w (sets w b (row-words r)) (omega arith) (omega arith) (kept-sets (row-words r) w b));
+      kept = rw q (kept-wider b (b + length (row-words r)) b (b + row-size) w (sets w b (row-words r)) (omega arith) (omega arith)
+          (kept-sets (row-words r) w b));
       item = λ h. rw (q, row-back w b r (g .fits) h) (g .item);
     }
 
@@ -164,7 +157,7 @@ pub record Appending (text : List ℕ) (t : ℕ) (own : Own) (hidden : Bool) (ba
   pub roomy : Roomy t own hidden base n w₀
   pub begun : n ≤ k
   pub left : k + own-count (part w₀ 0 t) hidden i (own .end - i) ≡ n + own-count (part w₀ 0 t) hidden (own .from) (own .end - own .from)
-  pub kept : Kept (base + n * 16) (base + k * 16) w₀ w
+  pub kept : Kept (base + n * row-size) (base + k * row-size) w₀ w
   pub so-far :
       items-at text (part w₀ 0 t) w base k ++ own-items text (part w₀ 0 t) w₀ own hidden i (own .end - i)
       ≡ items-at text (part w₀ 0 t) w₀ base n ++ own-items text (part w₀ 0 t) w₀ own hidden (own .from) (own .end - own .from)
@@ -223,14 +216,15 @@ module _ (text : List ℕ) (t : ℕ) (own : Own) (hidden : Bool) (base n : ℕ) 
       unfolding own-items pick
       append-put w′ p =
           let c = counted in
-          let room : base + k * 16 + 16 ≤ length w = omega (arith, c, g .roomy .room, g .kept .size) in
-          let stays : Same (own .rows) (own .rows + own .count * 16) w₀ w =
-          kept-same (base + n * 16) (base + (n + own-count (part w₀ 0 t) hidden (own .from) (own .end - own .from)) * 16) (own .rows) (own .rows + own .count * 16) w₀ w (g .roomy .apart)
-          (kept-wider (base + n * 16) (base + k * 16) (base + n * 16) (base + (n + own-count (part w₀ 0 t) hidden (own .from) (own .end - own .from)) * 16) w₀ w (omega arith) (omega (arith, c)) (g .kept)) in
-          let here : item-of text (part w₀ 0 t) (row-at w′ (base + k * 16)) ≡ own-item text (part w₀ 0 t) w₀ own i =
+          let room : base + k * row-size + row-size ≤ length w = omega (arith, c, g .roomy .room, g .kept .size) in
+          let stays : Same (own .rows) (own .rows + own .count * row-size) w₀ w =
+          kept-same (base + n * row-size) (base + (n + own-count (part w₀ 0 t) hidden (own .from) (own .end - own .from)) * row-size) (own .rows) (own .rows + own .count * row-size) w₀ w (g .roomy .apart)
+          (kept-wider (base + n * row-size) (base + k * row-size) (base + n * row-size) (base + (n + own-count (part w₀ 0 t) hidden (own .from) (own .end - own .from)) * row-size) w₀ w (omega arith) (omega (arith, c)) (g .kept)) in
+          let here : item-of text (part w₀ 0 t) (row-at w′ (base + k * row-size)) ≡ own-item text (part w₀ 0 t) w₀ own i =
           rw same-tape at (p .item room) ∙ item-same text (part w₀ 0 t) w₀ w own stays i in
           let front : items-at text (part w₀ 0 t) w′ base k ≡ items-at text (part w₀ 0 t) w base k =
-          items-same w w′ text (part w₀ 0 t) base k (kept-same (base + k * 16) (base + k * 16 + 16) base (base + k * 16) w w′ (inl (omega arith)) (p .kept)) in
+          items-same w w′ text (part w₀ 0 t) base k
+          (kept-same (base + k * row-size) (base + k * row-size + row-size) base (base + k * row-size) w w′ (inl (omega arith)) (p .kept)) in
           let all : items-at text (part w₀ 0 t) w′ base (k + 1) ≡ items-at text (part w₀ 0 t) w base k ++ (own-item text (part w₀ 0 t) w₀ own i ∷ []) =
           rw (add-one k, items-grow text (part w₀ 0 t) w′ base k, front, here) in
           let old : items-at text (part w₀ 0 t) w base k ++ (own-item text (part w₀ 0 t) w₀ own i ∷ own-items text (part w₀ 0 t) w₀ own hidden (i + 1) (own .end - (i + 1)))
@@ -241,9 +235,11 @@ module _ (text : List ℕ) (t : ℕ) (own : Own) (hidden : Bool) (base n : ℕ) 
             roomy = g .roomy;
             begun = omega (arith, g .begun);
             left = omega (arith, c);
-            kept = kept-then (base + n * 16) (base + (k + 1) * 16) w₀ w w′
-                (kept-wider (base + n * 16) (base + k * 16) (base + n * 16) (base + (k + 1) * 16) w₀ w (omega arith) (omega arith) (g .kept))
-                (kept-wider (base + k * 16) (base + k * 16 + 16) (base + n * 16) (base + (k + 1) * 16) w w′ (omega (arith, g .begun)) (omega arith) (p .kept));
+            kept = kept-then (base + n * row-size) (base + (k + 1) * row-size) w₀ w w′
+                (kept-wider (base + n * row-size) (base + k * row-size) (base + n * row-size) (base + (k + 1) * row-size) w₀ w (omega arith) (omega arith)
+                (g .kept))
+                (kept-wider (base + k * row-size) (base + k * row-size + row-size) (base + n * row-size) (base + (k + 1) * row-size) w w′
+                (omega (arith, g .begun)) (omega arith) (p .kept));
             so-far = rw (all, append-assoc) old;
           }
 

@@ -8,7 +8,9 @@ use borrow.Author.Needs.{needs}
 use borrow.Author.Tests.{lt-ltb, le-ltb, eq-eqb, ne-eqb}
 use lib.Dec.{eqb}
 use Rattle.meaning.specs.Lists.{pick}
+use Rattle.meaning.specs.Numbers.{bad-variable, bad-sort}
 use Rattle.names.specs.Word.{name-of}
+use Rattle.tape.specs.Tape.{hidden-function, variable-role}
 use Rattle.tables.specs.Entries.{role-at, word-at, is-function-role, arity-at, sort-place}
 use Rattle.forms.specs.declared.Verdict.the-variants.{Fine, Stop}
 use Rattle.forms.specs.Verdicts.{lone-of, told}
@@ -46,20 +48,20 @@ module _ (text tape w : List ℕ) (own : Own) where
   variable-told d i b e f = rw (← e) f
 
   module _ (d r : ℕ) (e : r ≡ role-at tape d) (p : Bool) (f : p ≡ is-function-role r) where
-    pub lack-function : (b : Bool) → p ≡ true → b ≡ lacks-function text tape w own (eqb r 8) d → b ≡ lacks-sort text tape w own d
+    pub lack-function : (b : Bool) → p ≡ true → b ≡ lacks-function text tape w own (eqb r hidden-function) d → b ≡ lacks-sort text tape w own d
     unfolding lacks-sort pick
     lack-function b q g = rw (← e, ← f, q) g
 
-    pub lack-variable : (b : Bool) → p ≡ false → r ≡ 17 → b ≡ lacks-variable text tape w own d → b ≡ lacks-sort text tape w own d
+    pub lack-variable : (b : Bool) → p ≡ false → r ≡ variable-role → b ≡ lacks-variable text tape w own d → b ≡ lacks-sort text tape w own d
     unfolding lacks-sort pick
-    lack-variable b q h g = rw (← e, ← f, q, eq-eqb r 17 h) g
+    lack-variable b q h g = rw (← e, ← f, q, eq-eqb r variable-role h) g
 
-    pub lack-nothing : p ≡ false → (r ≡ 17 → ⊥) → false ≡ lacks-sort text tape w own d
+    pub lack-nothing : p ≡ false → (r ≡ variable-role → ⊥) → false ≡ lacks-sort text tape w own d
     unfolding lacks-sort pick
-    lack-nothing q h = rw (← e, ← f, q, ne-eqb r 17 h)
+    lack-nothing q h = rw (← e, ← f, q, ne-eqb r variable-role h)
 
   module _ (d : ℕ) (b : Bool) (e : b ≡ lacks-sort text tape w own d) where
-    pub available-not : (x : ℕ) → b ≡ true → x ≡ word-at tape d → told text (Stop 13 (record { name = x; actual = 0 })) ≡ available-at text tape w own d
+    pub available-not : (x : ℕ) → b ≡ true → x ≡ word-at tape d → told text (Stop bad-sort (record { name = x; actual = 0 })) ≡ available-at text tape w own d
     unfolding available-at told pick
     available-not x q f = rw (lone-of text x, f, ← e, q)
 
@@ -82,17 +84,18 @@ module _ (text tape w : List ℕ) (own : Own) where
       wrong-hidden d q k = rw (← e, ← f, le-ltb y i h, ← g, q) k
 
   module _ (b n i r : ℕ) (e : r ≡ role-at tape i) where
-    pub variable-other : (r ≡ 17 → ⊥) → told text Fine ≡ variable-at text tape w own b n i
+    pub variable-other : (r ≡ variable-role → ⊥) → told text Fine ≡ variable-at text tape w own b n i
     unfolding variable-at told pick
-    variable-other h = rw (← e, ne-eqb r 17 h)
+    variable-other h = rw (← e, ne-eqb r variable-role h)
 
-    module _ (c : Bool) (h : r ≡ 17) (f : c ≡ wrong-at text tape w own b n i) where
-      pub variable-wrong : (x : ℕ) → c ≡ true → x ≡ word-at tape i → told text (Stop 12 (record { name = x; actual = 0 })) ≡ variable-at text tape w own b n i
+    module _ (c : Bool) (h : r ≡ variable-role) (f : c ≡ wrong-at text tape w own b n i) where
+      pub variable-wrong : (x : ℕ) → c ≡ true → x ≡ word-at tape i
+          → told text (Stop bad-variable (record { name = x; actual = 0 })) ≡ variable-at text tape w own b n i
       unfolding variable-at told pick
-      variable-wrong x q g = rw (lone-of text x, g, ← e, eq-eqb r 17 h, ← f, q)
+      variable-wrong x q g = rw (lone-of text x, g, ← e, eq-eqb r variable-role h, ← f, q)
 
       pub variable-right : c ≡ false → told text Fine ≡ variable-at text tape w own b n i
       unfolding variable-at told pick
-      variable-right q = rw (← e, eq-eqb r 17 h, ← f, q)
+      variable-right q = rw (← e, eq-eqb r variable-role h, ← f, q)
 
 pub ruleset checking = (on, done, found-none, found-here, found-on, walked-all, walked-on, walked-stop, lacks-inside, lacks-outside, lacks-seen, lacks-unseen, function-told, variable-told, lack-function, lack-variable, lack-nothing, available-not, available-there, wrong-early, wrong-visible, wrong-hidden, variable-other, variable-wrong, variable-right, needs)

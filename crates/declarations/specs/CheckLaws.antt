@@ -17,12 +17,12 @@ use Rattle.meaning.specs.Normal.{Visible}
 use Rattle.meaning.specs.Checks.{lone, Check, fine, stop, _>>_, unless}
 use Rattle.meaning.specs.Own.{lacking, lacking-variable, parameter-functions, available-sorts}
 use Rattle.meaning.specs.Evaluate.{seen-sorts}
-use Rattle.tape.specs.Tape.{Entry, entry, flat-function, flat-signature, flat-parameter, flat-group, flat-module}
+use Rattle.tape.specs.Roles.{All, all-map, all-type, all-imports, all-equations}
+use Rattle.tape.specs.Tape.{Entry, entry, flat-function, flat-signature, flat-parameter, flat-group, flat-module, parameter-function, export-function, hidden-function, variable-role, variable-sort}
 use Rattle.tables.specs.Entries.{name-at, names-from, is-function-role, sort-place}
 use Rattle.declarations.specs.Scans.{found, walked}
 use Rattle.declarations.specs.Checked.{lacks, lacks-function, lacks-variable, lacks-sort, available-at}
 use Rattle.walks.specs.Lists.{any-append}
-use Rattle.walks.specs.Flat.{All, all-map, all-type, all-imports, all-equations}
 use Rattle.declarations.specs.Spelled.{Spells, spells-front, spells-behind}
 use Rattle.declarations.specs.Runs.{imports-of, equations-of, at-exports, at-imports, at-hidden, at-groups, at-equations, parts}
 use Rattle.declarations.specs.Runs.{quiet-run, walk-module, then-fine, check-walks, walked-append}
@@ -74,13 +74,13 @@ names-last text tape i (suc n) =
 -- neither a function nor a variable
 pub record Quiet (r : ℕ) : Type 0 where
   pub function : is-function-role r ≡ false
-  pub variable : eqb r 17 ≡ false
+  pub variable : eqb r variable-role ≡ false
 
-quiet-role : (r : ℕ) → 9 ≤ r → (r ≡ 17 → ⊥) → Quiet r
+quiet-role : (r : ℕ) → 9 ≤ r → (r ≡ variable-role → ⊥) → Quiet r
 unfolding is-function-role pick
 quiet-role r h q = record {
-  function = rw (ne-eqb r 4 (λ e. omega arith), ne-eqb r 6 (λ e. omega arith), ne-eqb r 8 (λ e. omega arith));
-  variable = ne-eqb r 17 q;
+  function = rw (ne-eqb r parameter-function (λ e. omega arith), ne-eqb r export-function (λ e. omega arith), ne-eqb r hidden-function (λ e. omega arith));
+  variable = ne-eqb r variable-role q;
 }
 
 module _ (text tape w : List ℕ) (own : Own) (m : Module) (v : Visible) (s : Stands text tape w own m v) where
@@ -118,7 +118,7 @@ module _ (text tape w : List ℕ) (own : Own) (m : Module) (v : Visible) (s : St
   walk-quiet es d h l = quiet-run (check-walks (available-at text tape w own)) Quiet text tape (λ j q. rw (q .function, q .variable)) es d h l
 
   -- functions with the role r
-  module _ (hidden : Bool) (r : ℕ) (is-function : is-function-role r ≡ true) (is-hidden : eqb r 8 ≡ hidden) where
+  module _ (hidden : Bool) (r : ℕ) (is-function : is-function-role r ≡ true) (is-hidden : eqb r hidden-function ≡ hidden) where
     function-available : (f : Function) (d : ℕ) → length (f .inputs) ≤ 8 → Spells text tape d (flat-function r f)
         → available-at text tape w own d ≡ unless bad-sort (lacking (available hidden) f)
     unfolding available-at lacks-sort lacking flat-function pick
@@ -188,7 +188,7 @@ module _ (text tape w : List ℕ) (own : Own) (m : Module) (v : Visible) (s : St
   group-walked : (ns : List Name) (a : Name) (d : ℕ) → Spells text tape d (group-entries ns a)
       → walk d (group-entries ns a) ≡ unless bad-sort (first-some (lacking-variable inside) (map (λ (x : Name). record { name = x; sort = a }) ns))
   unfolding walked first-some unless
-  group-walked [] a d k = walk-quiet (entry 18 a ∷ []) d (quiet-role 18 (omega arith) (λ q. omega arith), tt) k
+  group-walked [] a d k = walk-quiet (entry variable-sort a ∷ []) d (quiet-role 18 (omega arith) (λ q. omega arith), tt) k
   group-walked (n ∷ ns) a d k =
       ap₂ (λ (x y : Check). x >> y) (variable-available n ns a d k) (group-walked ns a (suc d) (k .2))
       ∙ sym (unless-or bad-sort (lacking-variable inside (record { name = n; sort = a })) (first-some (lacking-variable inside) (map (λ (x : Name). record { name = x; sort = a }) ns)))
@@ -213,7 +213,7 @@ module _ (text tape w : List ℕ) (own : Own) (m : Module) (v : Visible) (s : St
   module-walked n =
       let a = own .from in
       let p = parts text tape a m (s .entries) in
-      let quiet : (r : ℕ) → 11 ≤ r → (r ≡ 17 → ⊥) → Quiet r = λ r h q. quiet-role r (omega arith) q in
+      let quiet : (r : ℕ) → 11 ≤ r → (r ≡ variable-role → ⊥) → Quiet r = λ r h q. quiet-role r (omega arith) q in
       walk-module (check-walks (available-at text tape w own)) a m
       ∙ rw (
         p .head,

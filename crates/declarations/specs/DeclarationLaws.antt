@@ -18,7 +18,7 @@ use Rattle.meaning.specs.Normal.{Visible, sort-names}
 use Rattle.meaning.specs.Own.{resolved}
 use Rattle.meaning.specs.Evaluate.{seen-sorts}
 use Rattle.names.specs.Word.{name-of}
-use Rattle.tape.specs.Tape.{flat-module}
+use Rattle.tape.specs.Tape.{flat-module, hidden-sort}
 use Rattle.tables.specs.Entries.{role-at, name-at, home-at}
 use Rattle.walks.specs.Flat.{names-with}
 use Rattle.tables.specs.Rows.{hidden-origin}
@@ -122,7 +122,7 @@ module _ (text tape w : List ℕ) (own : Own) (m : Module) (v : Visible) (s : St
       let from : own .from ≤ d = first-from (is-named text tape 7 n) (own .end - own .from) (own .from) in
       let passed : is-named text tape 7 n d ≡ true = first-passes (is-named text tape 7 n) (own .end - own .from) (own .from) (omega (arith, s .end)) in
       let home : name-of text (home-at tape d) ≡ m .name = home-there text tape m (own .from) d (s .entries) from (omega (arith, s .end)) in
-      let name : n ≡ name-at text tape d = called (eqb (role-at tape d) 7) n (name-at text tape d) passed in
+      let name : n ≡ name-at text tape d = called (eqb (role-at tape d) hidden-sort) n (name-at text tape d) passed in
       rw (home, ← name)
 
   -- what the module's text means by the name

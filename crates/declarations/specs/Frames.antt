@@ -12,6 +12,7 @@ use Rattle.meaning.specs.Syntax.{Module}
 use Rattle.meaning.specs.Normal.{Visible}
 use Rattle.tables.specs.Entries.{role-at, name-at, sort-place}
 use Rattle.tables.specs.Kinds.{kind-at}
+use Rattle.tables.specs.Rows.{row-size}
 use Rattle.forms.specs.Memory.{Same}
 use Rattle.forms.specs.FormLaws.{items-same}
 use Rattle.declarations.specs.Scans.{found}
@@ -23,10 +24,10 @@ use Rattle.declarations.specs.declared.Own.{Own}
 
 -- ---- the items stay the same while the rows that are looked at stay
 
-module _ (text tape w w′ : List ℕ) (own : Own) (s : Same (own .rows) (own .rows + own .count * 16) w w′) where
+module _ (text tape w w′ : List ℕ) (own : Own) (s : Same (own .rows) (own .rows + own .count * row-size) w w′) where
   row-same : (n : Name) (i : ℕ) → i < own .count → is-row text w′ (own .rows) 0 n i ≡ is-row text w (own .rows) 0 n i
   unfolding is-row
-  row-same n i h = rw (s (own .rows + i * 16 + 2) (omega arith) (omega arith), s (own .rows + i * 16 + 1) (omega arith) (omega arith))
+  row-same n i h = rw (s (own .rows + i * row-size + 2) (omega arith) (omega arith), s (own .rows + i * row-size + 1) (omega arith) (omega arith))
 
   rows-same : (n : Name) (c i : ℕ) → i + c ≤ own .count → found (is-row text w′ (own .rows) 0 n) i c ≡ found (is-row text w (own .rows) 0 n) i c
   unfolding found

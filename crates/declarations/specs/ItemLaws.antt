@@ -18,14 +18,14 @@ use Rattle.meaning.specs.Normal.{Visible}
 use Rattle.meaning.specs.Own.{resolved, function-type, own-sort, own-function, own-section, own-visible, own-variable, own-hidden-items}
 use Rattle.meaning.specs.Evaluate.{seen-sorts}
 use Rattle.meaning.specs.OrderLaws.{Every}
+use Rattle.tape.specs.Roles.{All, all-type, all-signature, all-parameters, all-imports, all-groups, all-equations}
 use Rattle.limits.specs.Limits.{InputsWithin, Limited}
 use Rattle.names.specs.Word.{name-of}
-use Rattle.tape.specs.Tape.{Entry, entry, flat-function, flat-signature, flat-parameter, flat-group, flat-module}
+use Rattle.tape.specs.Tape.{Entry, entry, flat-function, flat-signature, flat-parameter, flat-group, flat-module, parameter-role, parameter-sort, parameter-function, input-role, output-role, variable-role, variable-sort}
 use Rattle.tables.specs.Entries.{role-at, name-at, inputs-from, names-from, is-function-role, is-parameter-role, is-export-role, arity-at, last-with, next-with, sort-place, home-at, section-at, origin-at, declared-at}
 use Rattle.tables.specs.Kinds.{kind-at}
 use Rattle.tables.specs.Rows.{section-of, origin-of}
 use Rattle.declarations.specs.Items.{resolved-at, resolved-from, own-shape, own-item, own-role, is-own, own-items}
-use Rattle.walks.specs.Flat.{All, all-type, all-signature, all-parameters, all-imports, all-groups, all-equations}
 use Rattle.declarations.specs.Spelled.{Spells, spells-front, spells-behind, last-over, home-there}
 use Rattle.declarations.specs.Runs.{parameters-of, exports-of, imports-of, hidden-of, groups-of, equations-of}
 use Rattle.declarations.specs.Runs.{at-exports, at-imports, at-hidden, at-groups, at-equations, parts, Walks, walk-append, quiet-run, walk-module}
@@ -55,13 +55,13 @@ quiet-seen r h = rw (le-ltb r 3 (omega arith), le-ltb r 7 h)
 
 pub quiet-hidden : (r : ℕ) → r < 7 → own-role true r ≡ false
 unfolding own-role pick
-quiet-hidden r h = rw (ne-eqb r 17 (λ q. omega arith), lt-ltb r 7 h)
+quiet-hidden r h = rw (ne-eqb r variable-role (λ q. omega arith), lt-ltb r 7 h)
 
-quiet-other : (r : ℕ) → 9 ≤ r → (r ≡ 17 → ⊥) → own-role true r ≡ false
+quiet-other : (r : ℕ) → 9 ≤ r → (r ≡ variable-role → ⊥) → own-role true r ≡ false
 unfolding own-role pick
-quiet-other r h q = rw (ne-eqb r 17 q, le-ltb r 7 (omega arith), le-ltb r 9 h)
+quiet-other r h q = rw (ne-eqb r variable-role q, le-ltb r 7 (omega arith), le-ltb r 9 h)
 
-stands-parameter : (text tape : List ℕ) (d p r : ℕ) (n : Name) → is-parameter-role r ≡ true → role-at tape d ≡ r → last-with 2 tape d ≡ p → name-at text tape p ≡ n
+stands-parameter : (text tape : List ℕ) (d p r : ℕ) (n : Name) → is-parameter-role r ≡ true → role-at tape d ≡ r → last-with parameter-role tape d ≡ p → name-at text tape p ≡ n
     → section-of text (section-at tape d) ≡ meant.parameter-section n
 unfolding section-at section-of pick
 stands-parameter text tape d p r n f e l k = rw (e, f, l, k)
@@ -80,7 +80,7 @@ stands-hidden text tape d r f g e = rw (e, f, g)
 
 -- the sorts of a function, behind its name
 abbrev pub type-entries : Function → List Entry
-type-entries f = map (entry 9) (f .inputs) ++ (entry 10 (f .output) ∷ [])
+type-entries f = map (entry input-role) (f .inputs) ++ (entry output-role (f .output) ∷ [])
 
 -- what stands at the function's place d
 pub record FunctionAt (text tape : List ℕ) (d : ℕ) (f : Function) : Type 0 where
@@ -90,19 +90,20 @@ pub record FunctionAt (text tape : List ℕ) (d : ℕ) (f : Function) : Type 0 w
   pub output : name-at text tape (d + 1 + length (f .inputs)) ≡ f .output
 
 module _ (text tape : List ℕ) where
-  inputs-counted : (ns : List Name) (o : Name) (i c : ℕ) → Spells text tape i (map (entry 9) ns ++ (entry 10 o ∷ [])) → length ns ≤ c → inputs-from tape i c ≡ length ns
+  inputs-counted : (ns : List Name) (o : Name) (i c : ℕ) → Spells text tape i (map (entry input-role) ns ++ (entry output-role o ∷ [])) → length ns ≤ c → inputs-from tape i c ≡ length ns
   unfolding inputs-from pick
   inputs-counted [] o i zero h l = refl
   inputs-counted [] o i (suc c) h l = rw (h .0)
   inputs-counted (n ∷ ns) o i zero h l = absurd (omega arith)
   inputs-counted (n ∷ ns) o i (suc c) h l = rw (h .0) (ap suc (inputs-counted ns o (suc i) c (h .2) (omega arith)))
 
-  inputs-named : (ns : List Name) (es : List Entry) (i : ℕ) → Spells text tape i (map (entry 9) ns ++ es) → names-from text tape i (length ns) ≡ ns
+  inputs-named : (ns : List Name) (es : List Entry) (i : ℕ) → Spells text tape i (map (entry input-role) ns ++ es) → names-from text tape i (length ns) ≡ ns
   unfolding names-from
   inputs-named [] es i h = refl
   inputs-named (n ∷ ns) es i h = ap₂ (λ (x : Name) (xs : List Name). x ∷ xs) (h .1) (inputs-named ns es (suc i) (h .2))
 
-  output-named : (ns : List Name) (o : Name) (i : ℕ) → Spells text tape i (map (entry 9) ns ++ (entry 10 o ∷ [])) → name-at text tape (i + length ns) ≡ o
+  output-named : (ns : List Name) (o : Name) (i : ℕ) → Spells text tape i (map (entry input-role) ns ++ (entry output-role o ∷ []))
+      → name-at text tape (i + length ns) ≡ o
   output-named [] o i h = rw (add-zero i) (h .1)
   output-named (n ∷ ns) o i h = let z : i + suc (length ns) ≡ suc i + length ns = omega arith in rw z (output-named ns o (suc i) (h .2))
 
@@ -113,13 +114,13 @@ module _ (text tape : List ℕ) where
       record {
         name = s .1;
         arity = inputs-counted (f .inputs) (f .output) (d + 1) 8 more h;
-        inputs = inputs-named (f .inputs) (entry 10 (f .output) ∷ []) (d + 1) more;
+        inputs = inputs-named (f .inputs) (entry output-role (f .output) ∷ []) (d + 1) more;
         output = output-named (f .inputs) (f .output) (d + 1) more;
       }
 
 -- the entries of variables that share the sort a
 abbrev pub group-entries : List Name → Name → List Entry
-group-entries ns a = map (entry 17) ns ++ (entry 18 a ∷ [])
+group-entries ns a = map (entry variable-role) ns ++ (entry variable-sort a ∷ [])
 
 module _ (text tape : List ℕ) where
   -- a role other than 0 stands within the tape
@@ -133,7 +134,8 @@ module _ (text tape : List ℕ) where
           let z : getD tape i 0 ≡ 0 = List·getD-eq-default tape 0 l in
           absurd (omega arith)
 
-  sort-next : (ns : List Name) (a : Name) (d c : ℕ) → Spells text tape d (group-entries ns a) → length ns < c → name-at text tape (next-with 18 tape d c) ≡ a
+  sort-next : (ns : List Name) (a : Name) (d c : ℕ) → Spells text tape d (group-entries ns a) → length ns < c
+      → name-at text tape (next-with variable-sort tape d c) ≡ a
   unfolding next-with pick
   sort-next ns a d zero h l = absurd (omega arith)
   sort-next [] a d (suc c) h l = rw (h .0) (h .1)
@@ -161,7 +163,7 @@ module _ (text tape w : List ℕ) (own : Own) (m : Module) (v : Visible) (s : St
   resolved-names (suc c) i = ap₂ (λ (x : Sort) (xs : List Sort). x ∷ xs) (resolved-told text tape w own m v s (name-at text tape i)) (resolved-names c (suc i))
 
   module _ (sec : meant.Section) (d : ℕ) (home : name-of text (home-at tape d) ≡ m .name) (stands : section-of text (section-at tape d) ≡ sec) where
-    sort-item : (n : Name) → is-function-role (role-at tape d) ≡ false → eqb (role-at tape d) 17 ≡ false → name-at text tape d ≡ n
+    sort-item : (n : Name) → is-function-role (role-at tape d) ≡ false → eqb (role-at tape d) variable-role ≡ false → name-at text tape d ≡ n
         → own-item text tape w own d ≡ own-sort m (seen-sorts m v) sec n
     unfolding own-item own-sort origin-of origin-at own-shape kind-at declared-at pick
     sort-item n f g e = rw (f, g, home, stands, e)
@@ -210,7 +212,7 @@ module _ (text tape w : List ℕ) (own : Own) (m : Module) (v : Visible) (s : St
     over-quiet es d h l = quiet-run item-walks (λ (r : ℕ). own-role hidden r ≡ false) text tape (λ j q. rw q) es d h l
 
     -- the sorts and functions of one section, with the roles q and r, among the places from lo up to hi
-    module _ (sec : meant.Section) (q r : ℕ) (own-q : own-role hidden q ≡ true) (own-r : own-role hidden r ≡ true) (sort-q : is-function-role q ≡ false) (other-q : eqb q 17 ≡ false)
+    module _ (sec : meant.Section) (q r : ℕ) (own-q : own-role hidden q ≡ true) (own-r : own-role hidden r ≡ true) (sort-q : is-function-role q ≡ false) (other-q : eqb q variable-role ≡ false)
         (function-r : is-function-role r ≡ true) (quiet-in : own-role hidden 9 ≡ false) (quiet-out : own-role hidden 10 ≡ false) (lo hi : ℕ)
         (home : (d : ℕ) → lo ≤ d → d < hi → name-of text (home-at tape d) ≡ m .name)
         (sort-stands : (d : ℕ) → lo ≤ d → d < hi → role-at tape d ≡ q → section-of text (section-at tape d) ≡ sec)
@@ -221,7 +223,7 @@ module _ (text tape w : List ℕ) (own : Own) (m : Module) (v : Visible) (s : St
       sorts-own [] d h l k = refl
       sorts-own (n ∷ ns) d h l k =
           let f : is-function-role (role-at tape d) ≡ false = rw (k .0) sort-q in
-          let g : eqb (role-at tape d) 17 ≡ false = rw (k .0) other-q in
+          let g : eqb (role-at tape d) variable-role ≡ false = rw (k .0) other-q in
           rw (k .0, own-q)
           (ap₂ (λ (x : Item) (xs : List Item). x ∷ xs)
           (sort-item sec d (home d h (omega arith)) (sort-stands d h (omega arith) (k .0)) n f g (k .1))
@@ -270,8 +272,8 @@ module _ (text tape w : List ℕ) (own : Own) (m : Module) (v : Visible) (s : St
       → over false d (flat-parameter p) ≡ own-section m (seen-sorts m v) (meant.parameter-section (p .name)) (p .signature)
   unfolding flat-parameter own-items is-own own-role is-function-role is-parameter-role pick
   parameter-own p d h l n k =
-      let es = flat-signature 3 4 (p .signature) in
-      let last : (x : ℕ) → suc d ≤ x → x < suc d + length es → last-with 2 tape x ≡ d = λ x i j.
+      let es = flat-signature parameter-sort parameter-function (p .signature) in
+      let last : (x : ℕ) → suc d ≤ x → x < suc d + length es → last-with parameter-role tape x ≡ d = λ x i j.
       let z : d + (x - d) ≡ x = omega arith in
       rw z at (last-over text tape 2 d es (k .0) (all-signature (λ (y : ℕ). 3 ≤ y) 3 4 (omega arith) (omega arith) (omega arith) (omega arith) (p .signature)) (k .2) (x - d) (omega arith)) in
       rw (k .0)
@@ -327,7 +329,7 @@ module _ (text tape w : List ℕ) (own : Own) (m : Module) (v : Visible) (s : St
 
   -- ---- the hidden items
 
-  variable-item : (d : ℕ) (x : Variable) → name-of text (home-at tape d) ≡ m .name → role-at tape d ≡ 17 → name-at text tape d ≡ x .name
+  variable-item : (d : ℕ) (x : Variable) → name-of text (home-at tape d) ≡ m .name → role-at tape d ≡ variable-role → name-at text tape d ≡ x .name
       → name-at text tape (sort-place tape d) ≡ x .sort → own-item text tape w own d ≡ own-variable m (seen-sorts m v) x
   unfolding own-item own-variable origin-of origin-at own-shape kind-at declared-at resolved-at is-function-role is-parameter-role is-export-role pick
   variable-item d x home e f g =

@@ -10,7 +10,7 @@ use Rattle.meaning.specs.Origins.{Sort, Shape, sort-shape, function-shape, vari
 use Rattle.tape.specs.Tape.{variable-role}
 use Rattle.tables.specs.Entries.{role-at, name-at, section-at, origin-at, sort-place}
 use Rattle.tables.specs.Kinds.{kind-at}
-use Rattle.tables.specs.Rows.{section-of, origin-of, sort-of, shape-of, item-of, row-at}
+use Rattle.tables.specs.Rows.{section-of, origin-of, sort-of, shape-of, item-of, row-at, row-size}
 use Rattle.tables.specs.RowLaws.{IsRow}
 use Rattle.tables.specs.declared.Row.{Row}
 use Rattle.forms.specs.Memory.{part, Kept}
@@ -86,18 +86,18 @@ own-items text tape w own hidden i (suc c) =
 -- the module's items behind n rows at base: they lie behind the tape, apart from the rows that are looked at, and there is room
 pub record Roomy (t : ℕ) (own : Own) (hidden : Bool) (base n : ℕ) (w : List ℕ) : Type 0 where
   pub few : n ≤ 1073741824
-  pub behind : t ≤ base + n * 16
-  pub room : base + (n + own-count (part w 0 t) hidden (own .from) (own .end - own .from)) * 16 ≤ length w
-  pub apart : Apart (base + n * 16) (base + (n + own-count (part w 0 t) hidden (own .from) (own .end - own .from)) * 16) (own .rows) (own .rows + own .count * 16)
+  pub behind : t ≤ base + n * row-size
+  pub room : base + (n + own-count (part w 0 t) hidden (own .from) (own .end - own .from)) * row-size ≤ length w
+  pub apart : Apart (base + n * row-size) (base + (n + own-count (part w 0 t) hidden (own .from) (own .end - own .from)) * row-size) (own .rows) (own .rows + own .count * row-size)
 
 -- the declaration at d is row k of the table at base
 pub record Put (text : List ℕ) (t : ℕ) (own : Own) (base k d : ℕ) (w w′ : List ℕ) : Type 0 where
-  pub kept : Kept (base + k * 16) (base + k * 16 + 16) w w′
-  pub item : base + k * 16 + 16 ≤ length w → item-of text (part w 0 t) (row-at w′ (base + k * 16)) ≡ own-item text (part w 0 t) w own d
+  pub kept : Kept (base + k * row-size) (base + k * row-size + row-size) w w′
+  pub item : base + k * row-size + row-size ≤ length w → item-of text (part w 0 t) (row-at w′ (base + k * row-size)) ≡ own-item text (part w 0 t) w own d
 
 -- the module's items are the rows from n up to r of the table at base, and all else stays
 pub record Appended (text : List ℕ) (t : ℕ) (own : Own) (hidden : Bool) (base n : ℕ) (w w′ : List ℕ) (r : ℕ) : Type 0 where
-  pub kept : Kept (base + n * 16) (base + r * 16) w w′
+  pub kept : Kept (base + n * row-size) (base + r * row-size) w w′
   pub count : r ≡ n + own-count (part w 0 t) hidden (own .from) (own .end - own .from)
   pub items :
       items-at text (part w 0 t) w′ base r

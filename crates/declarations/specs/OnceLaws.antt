@@ -1,7 +1,6 @@
 -- 9 by places is the meaning's (meaning/specs/Evaluate.antt, step 2): each declaration is held against those before it in its section.
 use mathlib.Core.Path.{_≡_, refl, sym, ap, ap₂, subst, _∙_}
 use mathlib.Core.Bool.{Bool, true, false, not}
-use mathlib.Core.Option.{Option, some}
 use mathlib.Core.List.{List, [], _∷_, map}
 use Prim.Native.Nat.{ℕ, suc, _+_, _-_, _<_, _≤_}
 use native.Mathlib.Nat.{add-zero}
@@ -14,15 +13,15 @@ use Rattle.meaning.specs.Names.{Name, same, member}
 use Rattle.meaning.specs.Numbers.{declared-twice}
 use Rattle.meaning.specs.Syntax.{Function, Signature, Parameter, Module}
 use Rattle.meaning.specs.Origins.{Declared, declared-sort, declared-function, same-declared}
-use Rattle.meaning.specs.Checks.{lone, Check, fine, stop, _>>_, unless, needs, each-beside}
+use Rattle.meaning.specs.Checks.{lone, Check, fine, _>>_, unless, needs, each-beside}
 use Rattle.meaning.specs.Evaluate.{same-function, once-in, once-in-parameters, declared-once, once-in-parameter}
-use Rattle.tape.specs.Tape.{Entry, entry, flat-function, flat-signature, flat-parameter, flat-module}
+use Rattle.tape.specs.Roles.{All, all-map, all-type, all-signature, all-parameters, all-imports, all-groups, all-equations}
+use Rattle.tape.specs.Tape.{Entry, entry, flat-function, flat-signature, flat-parameter, flat-module, parameter-role, parameter-sort, parameter-function, variable-role}
 use Rattle.tables.specs.Entries.{role-at, name-at, is-function-role, is-parameter-role, last-with, declared-at}
 use Rattle.declarations.specs.Scans.{found, walked}
 use Rattle.declarations.specs.Once.{is-declaring, repeats, section-start, is-repeat, once-at}
-use Rattle.walks.specs.Flat.{All, all-map, all-type, all-signature, all-parameters, all-imports, all-groups, all-equations}
 use Rattle.declarations.specs.Spelled.{Spells, spells-front, spells-behind, last-over}
-use Rattle.declarations.specs.Runs.{parameters-of, exports-of, imports-of, groups-of, equations-of, at-exports, at-imports, at-hidden, at-groups, at-equations, Parts, parts, quiet-run, walk-module, then-fine, then-then, check-walks, walked-append}
+use Rattle.declarations.specs.Runs.{parameters-of, exports-of, imports-of, groups-of, equations-of, at-exports, at-imports, at-hidden, at-groups, at-equations, Parts, parts, quiet-run, walk-module, then-fine, check-walks, walked-append}
 use Rattle.declarations.specs.ItemLaws.{Few, FewEach, FewInputs, FunctionAt, function-at, function-long, type-entries}
 use Rattle.declarations.specs.VariableLaws.{either-way, either-false, found-more, told-at, refused-then}
 
@@ -90,7 +89,7 @@ function-agreed : (x y : Function) → same-declared (as-declared x) (as-declare
 unfolding same-declared same-function
 function-agreed x y = refl
 
-sort-declared : (text tape : List ℕ) (i r : ℕ) (n : Name) → role-at tape i ≡ r → is-function-role r ≡ false → eqb r 17 ≡ false → name-at text tape i ≡ n → declared-at text tape i ≡ declared-sort n
+sort-declared : (text tape : List ℕ) (i r : ℕ) (n : Name) → role-at tape i ≡ r → is-function-role r ≡ false → eqb r variable-role ≡ false → name-at text tape i ≡ n → declared-at text tape i ≡ declared-sort n
 unfolding declared-at pick
 sort-declared text tape i r n e f g h = rw (e, f, g, h)
 
@@ -99,7 +98,7 @@ unfolding declared-at pick
 function-declared text tape i r f e g k = rw (e, g, k .arity, k .name, k .inputs, k .output)
 
 module _ (tape : List ℕ) (a i r : ℕ) (e : role-at tape i ≡ r) where
-  start-parameter : (p : ℕ) → is-parameter-role r ≡ true → last-with 2 tape i ≡ p → section-start tape a i ≡ p
+  start-parameter : (p : ℕ) → is-parameter-role r ≡ true → last-with parameter-role tape i ≡ p → section-start tape a i ≡ p
   unfolding section-start pick
   start-parameter p f g = rw (e, f, g)
 
@@ -110,7 +109,7 @@ module _ (tape : List ℕ) (a i r : ℕ) (e : role-at tape i ≡ r) where
 -- ---- a section with the roles q and r, which begins at start: its entries from lo up to hi
 
 module _ (text tape : List ℕ) (a start q r : ℕ) (low : r < 9) (apart : q ≡ r → ⊥) (declaring-q : is-declaring q ≡ true) (declaring-r : is-declaring r ≡ true)
-    (sort-q : is-function-role q ≡ false) (other-q : eqb q 17 ≡ false) (function-r : is-function-role r ≡ true) (lo hi : ℕ)
+    (sort-q : is-function-role q ≡ false) (other-q : eqb q variable-role ≡ false) (function-r : is-function-role r ≡ true) (lo hi : ℕ)
     (start-q : (i : ℕ) → lo ≤ i → i < hi → role-at tape i ≡ q → section-start tape a i ≡ start)
     (start-r : (i : ℕ) → lo ≤ i → i < hi → role-at tape i ≡ r → section-start tape a i ≡ start) (from : start ≤ lo) where
   abbrev Sorts : ℕ → List Name → Type 0
@@ -193,8 +192,8 @@ module _ (text tape : List ℕ) (a : ℕ) where
       → walk text tape a i (flat-parameter p) ≡ once-in-parameter seen p
   unfolding walked flat-parameter is-declaring is-function-role is-parameter-role once-in-parameter pick
   parameter-once p i seen h n b k =
-      let es = flat-signature 3 4 (p .signature) in
-      let last : (x : ℕ) → suc i ≤ x → x < suc i + length es → last-with 2 tape x ≡ i = λ x j l.
+      let es = flat-signature parameter-sort parameter-function (p .signature) in
+      let last : (x : ℕ) → suc i ≤ x → x < suc i + length es → last-with parameter-role tape x ≡ i = λ x j l.
       let z : i + (x - i) ≡ x = omega arith in
       rw z at (last-over text tape 2 i es (k .0) (all-signature (λ (y : ℕ). 3 ≤ y) 3 4 (omega arith) (omega arith) (omega arith) (omega arith) (p .signature)) (k .2) (x - i) (omega arith)) in
       let other : (r : ℕ) → (2 ≡ r → ⊥) → role-at tape i ≡ r → ⊥ = λ r u e. u (sym (k .0) ∙ e) in
@@ -213,7 +212,7 @@ module _ (text tape : List ℕ) (a : ℕ) where
   parameter-behind : (p : Parameter) (i : ℕ) (seen : List Name) → a ≤ i → Parameters i seen → Spells text tape i (flat-parameter p) → Parameters (i + length (flat-parameter p)) (p .name ∷ seen)
   unfolding flat-parameter is-function-role pick
   parameter-behind p i seen h b k =
-      let es = flat-signature 3 4 (p .signature) in
+      let es = flat-signature parameter-sort parameter-function (p .signature) in
       let z : suc i + length es ≡ i + suc (length es) = omega arith in
       subst (λ (j : ℕ). Parameters j (p .name ∷ seen)) z
       (before-run text tape a Name 2 declared-sort same sort-agreed a es (suc i) (p .name ∷ seen) (omega arith)
@@ -232,7 +231,7 @@ module _ (text tape : List ℕ) (a : ℕ) where
       (parameters-once ps (i + length (flat-parameter p)) (p .name ∷ seen) (omega arith) (n .1) (parameter-behind p i seen h b one) (spells-behind text tape (flat-parameter p) rest i k))
 
   -- exports, or the hidden section: none of its roles stands before it
-  section-once : (q r : ℕ) → r < 9 → (q ≡ r → ⊥) → is-declaring q ≡ true → is-declaring r ≡ true → is-function-role q ≡ false → eqb q 17 ≡ false → is-function-role r ≡ true
+  section-once : (q r : ℕ) → r < 9 → (q ≡ r → ⊥) → is-declaring q ≡ true → is-declaring r ≡ true → is-function-role q ≡ false → eqb q variable-role ≡ false → is-function-role r ≡ true
       → is-parameter-role q ≡ false → is-parameter-role r ≡ false → (i : ℕ) → a ≤ i → Before text tape a Name q declared-sort same sort-agreed a i []
       → Before text tape a Function r as-declared same-function function-agreed a i [] → (g : Signature) → Few (g .functions)
       → Spells text tape i (flat-signature q r g) → walk text tape a i (flat-signature q r g) ≡ once-in g

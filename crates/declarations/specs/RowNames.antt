@@ -13,28 +13,29 @@ use Rattle.meaning.specs.Origins.{Sort, FunctionType, Shape, sort-shape, functi
 use Rattle.meaning.specs.Normal.{names-in, sorts-among}
 use Rattle.meaning.specs.Own.{is-constant, constants}
 use Rattle.names.specs.Word.{name-of}
-use Rattle.tables.specs.Rows.{sort-of, type-of, shape-of, item-of, words-from, row-at}
+use Rattle.tables.specs.Rows.{sort-of, type-of, shape-of, item-of, words-from, row-at, row-size}
 use Rattle.forms.specs.Forms.{items-at}
 use Rattle.declarations.specs.Scans.{found}
 use Rattle.declarations.specs.Sorts.{is-row}
 
 module _ (text tape w : List ℕ) (b kind : ℕ) (n : Name) (q : Shape → Bool)
     (told : (i : ℕ) → q (shape-of text tape (getD w (i + 2) 0) (words-from w (i + 6) 9)) ≡ eqb (getD w (i + 2) 0) kind) where
-  rows-named : (c i : ℕ) → found (is-row text w b kind n) i c ≡ member n (names-in (keep (λ (x : Item). q (x .shape)) (items-at text tape w (b + i * 16) c)))
+  rows-named : (c i : ℕ)
+      → found (is-row text w b kind n) i c ≡ member n (names-in (keep (λ (x : Item). q (x .shape)) (items-at text tape w (b + i * row-size) c)))
   unfolding found is-row items-at item-of row-at keep names-in member pick
   rows-named zero i = refl
   rows-named (suc c) i =
-      let e : b + i * 16 + 16 ≡ b + suc i * 16 = omega arith in
-      rw (told (b + i * 16), e) (go (eqb (getD w (b + i * 16 + 2) 0) kind) (rows-named c (suc i)))
+      let e : b + i * row-size + row-size ≡ b + suc i * row-size = omega arith in
+      rw (told (b + i * row-size), e) (go (eqb (getD w (b + i * row-size + 2) 0) kind) (rows-named c (suc i)))
     where
       x : Item
-      x = item-of text tape (row-at w (b + i * 16))
+      x = item-of text tape (row-at w (b + i * row-size))
 
       rest : List Item
-      rest = keep (λ (y : Item). q (y .shape)) (items-at text tape w (b + suc i * 16) c)
+      rest = keep (λ (y : Item). q (y .shape)) (items-at text tape w (b + suc i * row-size) c)
 
       go : (p : Bool) → found (is-row text w b kind n) (suc i) c ≡ member n (names-in rest)
-          → pick (pick p (same n (name-of text (getD w (b + i * 16 + 1) 0))) false) true (found (is-row text w b kind n) (suc i) c) ≡ member n (names-in (pick p (x ∷ rest) rest))
+          → pick (pick p (same n (name-of text (getD w (b + i * row-size + 1) 0))) false) true (found (is-row text w b kind n) (suc i) c) ≡ member n (names-in (pick p (x ∷ rest) rest))
       go true h = rw h
       go false h = h
 
@@ -59,7 +60,7 @@ is-constant-kind text tape (suc (suc (suc k))) x xs =
     rw (ne-eqb (suc (suc (suc k))) 0 (λ q. omega arith), ne-eqb (suc (suc (suc k))) 1 (λ q. omega arith), ne-eqb (suc (suc (suc k))) 2 (λ q. omega arith), z)
 
 module _ (text tape w : List ℕ) (b c : ℕ) (n : Name) where
-  start : b + 0 * 16 ≡ b
+  start : b + 0 * row-size ≡ b
   start = omega arith
 
   -- a sort of the name

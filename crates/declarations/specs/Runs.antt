@@ -8,9 +8,9 @@ use lib.ListN.{length, length-append}
 use Rattle.meaning.specs.Lists.{each}
 use Rattle.meaning.specs.Syntax.{Module}
 use Rattle.meaning.specs.Checks.{Check, fine, stop, _>>_}
-use Rattle.tape.specs.Tape.{Entry, flat-signature, flat-parameter, flat-import, flat-group, flat-equation, flat-module}
+use Rattle.tape.specs.Roles.{All}
+use Rattle.tape.specs.Tape.{Entry, flat-signature, flat-parameter, flat-import, flat-group, flat-equation, flat-module, module-role, export-sort, export-function, hidden-sort, hidden-function}
 use Rattle.tables.specs.Entries.{role-at}
-use Rattle.walks.specs.Flat.{All}
 use Rattle.declarations.specs.Scans.{walked}
 use Rattle.declarations.specs.Spelled.{Spells, spells-front, spells-behind}
 
@@ -20,13 +20,13 @@ abbrev pub parameters-of : Module → List Entry
 parameters-of m = each flat-parameter (m .parameters)
 
 abbrev pub exports-of : Module → List Entry
-exports-of m = flat-signature 5 6 (m .exports)
+exports-of m = flat-signature export-sort export-function (m .exports)
 
 abbrev pub imports-of : Module → List Entry
 imports-of m = each flat-import (m .imports)
 
 abbrev pub hidden-of : Module → List Entry
-hidden-of m = flat-signature 7 8 (m .hidden)
+hidden-of m = flat-signature hidden-sort hidden-function (m .hidden)
 
 abbrev pub groups-of : Module → List Entry
 groups-of m = each flat-group (m .groups)
@@ -51,7 +51,7 @@ module _ (a : ℕ) (m : Module) where
   at-equations = at-groups + length (groups-of m)
 
 pub record Parts (text tape : List ℕ) (a : ℕ) (m : Module) : Type 0 where
-  pub head : role-at tape a ≡ 1
+  pub head : role-at tape a ≡ module-role
   pub parameters : Spells text tape (suc a) (parameters-of m)
   pub exports : Spells text tape (at-exports a m) (exports-of m)
   pub imports : Spells text tape (at-imports a m) (imports-of m)

@@ -11,7 +11,7 @@ use Rattle.meaning.specs.Origins.{Sort, visible-sort}
 use Rattle.names.specs.Word.{name-of}
 use Rattle.tape.specs.Tape.{parameter-sort, export-sort, hidden-sort}
 use Rattle.tables.specs.Entries.{role-at, name-at}
-use Rattle.tables.specs.Rows.{hidden-origin}
+use Rattle.tables.specs.Rows.{hidden-origin, row-size}
 use Rattle.declarations.specs.Scans.{found, first-of}
 use Rattle.declarations.specs.declared.Own.{Own}
 
@@ -26,7 +26,7 @@ is-named text tape role n i = pick (eqb (role-at tape i) role) (same n (name-at 
 
 -- row i of the table at b is of the kind and has the name
 unfoldable pub is-row : List ℕ → List ℕ → ℕ → ℕ → Name → ℕ → Bool
-is-row text w b kind n i = pick (eqb (getD w (b + i * 16 + 2) 0) kind) (same n (name-of text (getD w (b + i * 16 + 1) 0))) false
+is-row text w b kind n i = pick (eqb (getD w (b + i * row-size + 2) 0) kind) (same n (name-of text (getD w (b + i * row-size + 1) 0))) false
 
 -- the first of the module's entries with the role and the name
 unfoldable pub place-of : List ℕ → List ℕ → Own → ℕ → Name → ℕ

@@ -11,10 +11,11 @@ use lib.ListN.{length}
 use Rattle.meaning.specs.Lists.{pick, each}
 use Rattle.meaning.specs.Names.{Name, same, member}
 use Rattle.meaning.specs.Syntax.{Function, Signature, Parameter, Module}
-use Rattle.tape.specs.Tape.{Entry, entry, flat-function, flat-signature, flat-parameter, flat-import, flat-group, flat-equation, flat-module, spelled, entries}
+use Rattle.tape.specs.Roles.{All, behind-name, all-type, all-imports, all-groups, all-equations, all-behind, all-each}
+use Rattle.tape.specs.Tape.{Entry, entry, flat-function, flat-signature, flat-parameter, flat-import, flat-group, flat-equation, flat-module, spelled, entries, module-role, parameter-role, parameter-sort, parameter-function, export-sort, export-function, hidden-sort, hidden-function}
 use Rattle.names.specs.Word.{name-of}
 use Rattle.tables.specs.Entries.{role-at, name-at, last-with, home-at}
-use Rattle.walks.specs.Flat.{All, behind-name, all-type, all-imports, all-groups, all-equations, all-behind, all-each, names-with, names-append, names-none}
+use Rattle.walks.specs.Flat.{names-with, names-append, names-none}
 use Rattle.declarations.specs.Scans.{found, first-of}
 use Rattle.declarations.specs.Sorts.{is-named, place-of}
 use Rattle.declarations.specs.declared.Own.{Own}
@@ -82,7 +83,8 @@ module _ (role : ℕ) (s : SortRole role) where
 
   names-parameter : (p : Parameter) → names-with (is-role role) (flat-parameter p) ≡ pick (eqb 3 role) (p .signature .sorts) []
   unfolding flat-parameter
-  names-parameter p = names-other role (entry 2 (p .name)) _ (λ q. omega (arith, s .odd)) ∙ names-signature 3 4 refl (p .signature)
+  names-parameter p = names-other role (entry parameter-role (p .name)) _ (λ q. omega (arith, s .odd))
+      ∙ names-signature parameter-sort parameter-function refl (p .signature)
 
   names-parameters : (ps : List Parameter) → names-with (is-role role) (each flat-parameter ps) ≡ pick (eqb 3 role) (each (λ (p : Parameter). p .signature .sorts) ps) []
   unfolding each names-with pick
@@ -101,17 +103,17 @@ module _ (role : ℕ) (s : SortRole role) where
       ≡ pick (eqb 3 role) (each (λ (p : Parameter). p .signature .sorts) (m .parameters)) [] ++ (pick (eqb 5 role) (m .exports .sorts) [] ++ pick (eqb 7 role) (m .hidden .sorts) [])
   unfolding flat-module
   names-module m =
-      names-other role (entry 1 (m .name)) _ (λ q. omega (arith, s .more))
+      names-other role (entry module-role (m .name)) _ (λ q. omega (arith, s .more))
       ∙ rw (
         names-append (is-role role) (each flat-parameter (m .parameters)),
-        names-append (is-role role) (flat-signature 5 6 (m .exports)),
+        names-append (is-role role) (flat-signature export-sort export-function (m .exports)),
         names-append (is-role role) (each flat-import (m .imports)),
-        names-append (is-role role) (flat-signature 7 8 (m .hidden)),
+        names-append (is-role role) (flat-signature hidden-sort hidden-function (m .hidden)),
         names-append (is-role role) (each flat-group (m .groups)),
         names-parameters (m .parameters),
-        names-signature 5 6 refl (m .exports),
+        names-signature export-sort export-function refl (m .exports),
         names-none (is-role role) (each flat-import (m .imports)) (all-imports Other (λ r h l. types-other r (omega arith)) (m .imports)),
-        names-signature 7 8 refl (m .hidden),
+        names-signature hidden-sort hidden-function refl (m .hidden),
         names-none (is-role role) (each flat-group (m .groups)) (all-groups Other (types-other 17 (omega arith)) (types-other 18 (omega arith)) (m .groups)),
         names-none (is-role role) (each flat-equation (m .equations)) (all-equations Other (λ r h. types-other r (omega arith)) (m .equations)),
         append-nil,
@@ -183,7 +185,7 @@ module _ (text tape : List ℕ) where
   unfolding home-at flat-module behind-name
   home-there m a d h l n =
       let z : a + (d - a) ≡ d = omega arith in
-      let e : last-with 1 tape d ≡ a = rw z at (last-over 1 a (behind-name m) (h .0) (all-behind (λ (r : ℕ). 2 ≤ r) (λ r k. k) m) (h .2) (d - a) (omega arith)) in
+      let e : last-with module-role tape d ≡ a = rw z at (last-over module-role a (behind-name m) (h .0) (all-behind (λ (r : ℕ). 2 ≤ r) (λ r k. k) m) (h .2) (d - a) (omega arith)) in
       rw e (h .1)
 
 -- ---- a tape spells its entries

@@ -16,7 +16,8 @@ use Rattle.meaning.specs.Origins.{Item}
 use Rattle.meaning.specs.Normal.{Visible, names-in}
 use Rattle.meaning.specs.Checks.{lone, Check, fine, stop, _>>_, unless}
 use Rattle.meaning.specs.Own.{wrong-variable, is-constant, constants}
-use Rattle.tape.specs.Tape.{Entry, entry, flat-group, flat-module}
+use Rattle.tape.specs.Roles.{All, all-parameters, all-signature, all-imports, all-equations}
+use Rattle.tape.specs.Tape.{Entry, entry, flat-group, flat-module, export-sort, export-function, hidden-sort, hidden-function, variable-role, variable-sort}
 use Rattle.tables.specs.Entries.{role-at, name-at}
 use Rattle.forms.specs.Forms.{items-at}
 use Rattle.declarations.specs.Scans.{found, walked}
@@ -24,7 +25,6 @@ use Rattle.declarations.specs.Sorts.{is-named}
 use Rattle.declarations.specs.Checked.{wrong-at, variable-at}
 use Rattle.declarations.specs.RowNames.{constants-found}
 use Rattle.walks.specs.Lists.{keep-append}
-use Rattle.walks.specs.Flat.{All, all-parameters, all-signature, all-imports, all-equations}
 use Rattle.declarations.specs.Spelled.{Spells, first-found}
 use Rattle.declarations.specs.Runs.{parameters-of, exports-of, imports-of, hidden-of, equations-of, at-exports, at-imports, at-hidden, at-groups, at-equations, parts, quiet-run, walk-module, then-fine, check-walks}
 use Rattle.declarations.specs.DeclarationLaws.{Stands, member-append}
@@ -88,20 +88,20 @@ module _ (text tape : List ℕ) (own : Own) where
   abbrev Before : ℕ → List Name → Type 0
   Before i seen = (n : Name) → found (is-named text tape 17 n) (own .from) (i - own .from) ≡ member n seen
 
-  before-variable : (i : ℕ) (x : Name) (seen : List Name) → own .from ≤ i → role-at tape i ≡ 17 → name-at text tape i ≡ x → Before i seen → Before (suc i) (x ∷ seen)
+  before-variable : (i : ℕ) (x : Name) (seen : List Name) → own .from ≤ i → role-at tape i ≡ variable-role → name-at text tape i ≡ x → Before i seen → Before (suc i) (x ∷ seen)
   unfolding is-named member pick
   before-variable i x seen h e f k n = found-more (is-named text tape 17 n) (own .from) i h ∙ rw (k n, e, f) (either-way (member n seen) (same n x))
 
-  before-other : (i : ℕ) (seen : List Name) → own .from ≤ i → (role-at tape i ≡ 17 → ⊥) → Before i seen → Before (suc i) seen
+  before-other : (i : ℕ) (seen : List Name) → own .from ≤ i → (role-at tape i ≡ variable-role → ⊥) → Before i seen → Before (suc i) seen
   unfolding is-named pick
   before-other i seen h q k n =
-      found-more (is-named text tape 17 n) (own .from) i h ∙ rw (k n, ne-eqb (role-at tape i) 17 q) (either-false (member n seen))
+      found-more (is-named text tape 17 n) (own .from) i h ∙ rw (k n, ne-eqb (role-at tape i) variable-role q) (either-false (member n seen))
 
   before-none : Before (own .from) []
   unfolding found member
   before-none n = let z : own .from - own .from ≡ 0 = omega arith in rw z
 
-  before-run : (es : List Entry) (i : ℕ) (seen : List Name) → own .from ≤ i → All (λ (r : ℕ). r ≡ 17 → ⊥) es → Spells text tape i es → Before i seen → Before (i + length es) seen
+  before-run : (es : List Entry) (i : ℕ) (seen : List Name) → own .from ≤ i → All (λ (r : ℕ). r ≡ variable-role → ⊥) es → Spells text tape i es → Before i seen → Before (i + length es) seen
   before-run [] i seen h l k b = rw (add-zero i) b
   before-run (e ∷ es) i seen h l k b =
       let z : i + suc (length es) ≡ suc i + length es = omega arith in
@@ -133,17 +133,19 @@ module _ (text tape w : List ℕ) (own : Own) (m : Module) (v : Visible) (s : St
       )
       (either (member n seen) _)
 
-  walk-other : (e : Entry) (es : List Entry) (i : ℕ) → (e .role ≡ 17 → ⊥) → Spells text tape i (e ∷ es) → walk i (e ∷ es) ≡ walk (suc i) es
+  walk-other : (e : Entry) (es : List Entry) (i : ℕ) → (e .role ≡ variable-role → ⊥) → Spells text tape i (e ∷ es) → walk i (e ∷ es) ≡ walk (suc i) es
   unfolding walked variable-at _>>_ pick
   walk-other e es i q k = rw (k .0, ne-eqb (e .role) 17 q)
 
-  walk-quiet : (es : List Entry) (i : ℕ) → All (λ (r : ℕ). r ≡ 17 → ⊥) es → Spells text tape i es → walk i es ≡ fine tt
+  walk-quiet : (es : List Entry) (i : ℕ) → All (λ (r : ℕ). r ≡ variable-role → ⊥) es → Spells text tape i es → walk i es ≡ fine tt
   unfolding variable-at pick
   walk-quiet es i h k =
-      quiet-run (check-walks (variable-at text tape w own b c)) (λ (r : ℕ). r ≡ 17 → ⊥) text tape (λ j q. rw (ne-eqb (role-at tape j) 17 q)) es i h k
+      quiet-run (check-walks (variable-at text tape w own b c)) (λ (r : ℕ). r ≡ variable-role → ⊥) text tape
+      (λ j q. rw (ne-eqb (role-at tape j) variable-role q)) es i h k
 
-  walk-variable : (n : Name) (es : List Entry) (i : ℕ) (seen : List Name) → own .from ≤ i → Before text tape own i seen → Spells text tape i (entry 17 n ∷ es)
-      → walk i (entry 17 n ∷ es) ≡ (told-at (member n seen || member n in-reach) bad-variable n >> walk (suc i) es)
+  walk-variable : (n : Name) (es : List Entry) (i : ℕ) (seen : List Name) → own .from ≤ i → Before text tape own i seen
+      → Spells text tape i (entry variable-role n ∷ es)
+      → walk i (entry variable-role n ∷ es) ≡ (told-at (member n seen || member n in-reach) bad-variable n >> walk (suc i) es)
   unfolding walked variable-at told-at pick
   walk-variable n es i seen h l k = rw (k .0, wrong-told i n seen h (k .1) l, k .1)
 
@@ -154,7 +156,7 @@ module _ (text tape w : List ℕ) (own : Own) (m : Module) (v : Visible) (s : St
       → walk i (group-entries ns a ++ es) ≡ unless bad-variable (wrong-variable in-reach seen (map (λ (x : Name). record { name = x; sort = a }) ns ++ vs))
   unfolding wrong-variable first-bad
   group-right [] a es vs i seen h l k rest =
-      walk-other (entry 18 a) es i (λ q. omega arith) k
+      walk-other (entry variable-sort a) es i (λ q. omega arith) k
       ∙ rest (suc i) seen (omega arith) (before-other text tape own i seen h (λ q. let z = sym (k .0) ∙ q in omega arith) l) (k .2)
   group-right (n ∷ ns) a es vs i seen h l k rest =
       walk-variable n (group-entries ns a ++ es) i seen h l k
@@ -177,9 +179,9 @@ module _ (text tape w : List ℕ) (own : Own) (m : Module) (v : Visible) (s : St
       let a = own .from in
       let p = parts text tape a m (s .entries) in
       let parameters = all-parameters P (λ q. omega arith) (λ q. omega arith) (λ q. omega arith) (λ q. omega arith) (λ q. omega arith) (m .parameters) in
-      let exports = all-signature P 5 6 (λ q. omega arith) (λ q. omega arith) (λ q. omega arith) (λ q. omega arith) (m .exports) in
+      let exports = all-signature P export-sort export-function (λ q. omega arith) (λ q. omega arith) (λ q. omega arith) (λ q. omega arith) (m .exports) in
       let imports = all-imports P (λ r h l q. omega arith) (m .imports) in
-      let hidden = all-signature P 7 8 (λ q. omega arith) (λ q. omega arith) (λ q. omega arith) (λ q. omega arith) (m .hidden) in
+      let hidden = all-signature P hidden-sort hidden-function (λ q. omega arith) (λ q. omega arith) (λ q. omega arith) (λ q. omega arith) (m .hidden) in
       let past = before-run text tape own in
       let head = before-other text tape own a [] (omega arith) (λ q. let z = sym (p .head) ∙ q in omega arith) (before-none text tape own) in
       let before-imports = past (exports-of m) (at-exports a m) [] (omega arith) exports (p .exports) (past (parameters-of m) (suc a) [] (omega arith) parameters (p .parameters) head) in
@@ -197,7 +199,7 @@ module _ (text tape w : List ℕ) (own : Own) (m : Module) (v : Visible) (s : St
       )
     where
       P : ℕ → Type 0
-      P r = r ≡ 17 → ⊥
+      P r = r ≡ variable-role → ⊥
 
   -- 12 by places and rows is the meaning's
   pub variables-told : walked (variable-at text tape w own b c) (own .from) (own .end - own .from) ≡ unless bad-variable (wrong-variable (constants (v .items ++ hs)) [] (variables-of m))

@@ -6,11 +6,14 @@ use super::sorts::is_inside;
 use super::sorts::is_seen;
 use forms::Culprit;
 use forms::Verdict;
+use meaning::numbers;
 use tables::entries::arity_at;
 use tables::entries::is_function_role;
 use tables::entries::name_at;
 use tables::entries::role_at;
 use tables::entries::sort_place;
+use tables::kinds;
+use tape::roles;
 ghost use mathlib.Core.Path.{_≡_};
 ghost use Prim.Native.Nat.{_+_, _-_};
 ghost use Rattle.names.specs.Word.{name-of};
@@ -105,10 +108,10 @@ fn lacks_sort(library: &[u8], text: &[u8], work: &[u32], t: usize, own: Own, d: 
 {
     let role = role_at(&work[0..t], d as usize);
     if is_function_role(role) {
-        let hidden = role == 8;
+        let hidden = role == roles::HIDDEN_FUNCTION;
         return lacks_function(library, text, work, t, own, hidden, d);
     }
-    if role == 17 {
+    if role == roles::VARIABLE {
         return lacks_variable(library, text, work, t, own, d);
     }
     false
@@ -120,7 +123,7 @@ fn available_at(library: &[u8], text: &[u8], work: &[u32], t: usize, own: Own, d
 {
     if lacks_sort(library, text, work, t, own, d) {
         let name = name_at(&work[0..t], d as usize);
-        return Verdict::Stop(13, Culprit { name, actual: 0 });
+        return Verdict::Stop(numbers::BAD_SORT, Culprit { name, actual: 0 });
     }
     Verdict::Fine
 }
@@ -161,13 +164,13 @@ fn wrong_at(
     let rows = own.rows;
     let count = own.count;
     let w = name_at(&work[0..t], i as usize);
-    if first_named(library, text, &work[0..t], 17, w, from, i) < i {
+    if first_named(library, text, &work[0..t], roles::VARIABLE, w, from, i) < i {
         return true;
     }
-    if has_row(library, text, work, rows, count, 2, w) {
+    if has_row(library, text, work, rows, count, kinds::FUNCTION, w) {
         return true;
     }
-    has_row(library, text, work, b, n, 2, w)
+    has_row(library, text, work, b, n, kinds::FUNCTION, w)
 }
 
 fn variable_at(
@@ -183,10 +186,10 @@ fn variable_at(
     requires { ⌜ Ready (now work) t own ⌝ }
     ensures { λ r. ⌜ told (joint (now (library .entry)) (now (text .entry))) r ≡ variable-at (joint (now (library .entry)) (now (text .entry))) (part (now (work .entry)) 0 t) (now (work .entry)) own b n i ⌝ }
 {
-    if role_at(&work[0..t], i as usize) == 17 {
+    if role_at(&work[0..t], i as usize) == roles::VARIABLE {
         if wrong_at(library, text, work, t, own, b, n, i) {
             let name = name_at(&work[0..t], i as usize);
-            return Verdict::Stop(12, Culprit { name, actual: 0 });
+            return Verdict::Stop(numbers::BAD_VARIABLE, Culprit { name, actual: 0 });
         }
         return Verdict::Fine;
     }

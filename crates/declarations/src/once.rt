@@ -1,12 +1,14 @@
 // 9: a parameter's name, or a sort or a function (with its type) of one section, that is declared a second time.
 use forms::Culprit;
 use forms::Verdict;
+use meaning::numbers;
 use tables::declarations::same_declared;
 use tables::entries::is_parameter_role;
 use tables::entries::last_with;
 use tables::entries::name_at;
 use tables::entries::role_at;
 use tables::entries::same_name_at;
+use tape::roles;
 ghost use mathlib.Core.Path.{_≡_};
 ghost use Prim.Native.Nat.{_-_};
 ghost use Rattle.names.specs.Joint.{joint};
@@ -18,10 +20,10 @@ ghost use Rattle.declarations.specs.Once.{is-declaring, repeats, section
 fn is_declaring(role: u32) -> bool
     ensures { λ r. ⌜ r ≡ is-declaring role ⌝ }
 {
-    if role < 2 {
+    if role < roles::PARAMETER {
         return false;
     }
-    role < 9
+    role < roles::INPUT
 }
 
 // Says the declaration at i what the one at j says, with the same role? Names are compared first: they decide most.
@@ -43,7 +45,7 @@ fn section_start(tape: &[u32], a: u32, i: u32) -> u32
 {
     let role = role_at(tape, i as usize);
     if is_parameter_role(role) {
-        return last_with(tape, 2, i as usize) as u32;
+        return last_with(tape, roles::PARAMETER, i as usize) as u32;
     }
     a
 }
@@ -70,7 +72,7 @@ fn once_at(library: &[u8], text: &[u8], tape: &[u32], a: u32, i: u32) -> Verdict
         let start = section_start(tape, a, i);
         if is_repeat(library, text, tape, start, i) {
             let name = name_at(tape, i as usize);
-            return Verdict::Stop(9, Culprit { name, actual: 0 });
+            return Verdict::Stop(numbers::DECLARED_TWICE, Culprit { name, actual: 0 });
         }
         return Verdict::Fine;
     }

@@ -7,7 +7,9 @@ use tables::entries::name_at;
 use tables::entries::origin_at;
 use tables::entries::role_at;
 use tables::entries::sort_place;
+use tables::kinds;
 use tables::rows::write_row;
+use tape::roles;
 ghost use mathlib.Core.Path.{_≡_};
 ghost use Prim.Native.Nat.{_+_, _≤_};
 ghost use Rattle.names.specs.Joint.{joint};
@@ -71,11 +73,11 @@ fn own_sorts(
     requires { ⌜ kind ≤ 10 ⌝ }
     ensures { λ r. ⌜ OwnSorts (joint (now (library .entry)) (now (text .entry))) (part (now (work .entry)) 0 t) (now (work .entry)) own d kind r ⌝ }
 {
-    if 1 < kind {
-        return function_sorts(library, text, work, t, own, d, kind - 2);
+    if kinds::VARIABLE < kind {
+        return function_sorts(library, text, work, t, own, d, kind - kinds::FUNCTION);
     }
     let mut sorts = [0; 9];
-    if kind == 1 {
+    if kind == kinds::VARIABLE {
         let i = sort_place(&work[0..t], d);
         sorts[8] = sort_at(library, text, work, t, own, i);
         return sorts;
@@ -126,18 +128,18 @@ pub fn is_own(tape: &[u32], hidden: bool, i: u32) -> bool
 {
     let role = role_at(tape, i as usize);
     if hidden {
-        if role == 17 {
+        if role == roles::VARIABLE {
             return true;
         }
-        if role < 7 {
+        if role < roles::HIDDEN_SORT {
             return false;
         }
-        return role < 9;
+        return role < roles::INPUT;
     }
-    if role < 3 {
+    if role < roles::PARAMETER_SORT {
         return false;
     }
-    role < 7
+    role < roles::HIDDEN_SORT
 }
 
 // The module's hidden or visible items, in text order, as rows behind the n rows from `base` on. Gives back how many rows there are then.

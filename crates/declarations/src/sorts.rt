@@ -1,15 +1,17 @@
 // What sort a module's text means by a name.
 use super::Own;
+use tables::ROW_STEP;
 use tables::entries::name_at;
 use tables::entries::role_at;
 use tables::entries::same_word;
 use tables::entries::word_at;
+use tape::roles;
 ghost use mathlib.Core.Path.{_≡_};
 ghost use Prim.Native.Nat.{_+_, _-_, _*_, _≤_, _<_};
 ghost use lib.ListN.{length, getD};
 ghost use Rattle.names.specs.Word.{name-of};
 ghost use Rattle.names.specs.Joint.{joint};
-ghost use Rattle.tables.specs.Rows.{sort-of};
+ghost use Rattle.tables.specs.Rows.{sort-of, row-size};
 ghost use Rattle.tables.specs.Entries.{name-at};
 ghost use Rattle.forms.specs.Memory.{part};
 ghost use Rattle.declarations.specs.Scans.{found, first-of};
@@ -49,9 +51,9 @@ pub fn first_named(
 
 // Word k of row i of the table that starts at b.
 fn row_word(work: &[u32], b: u32, i: u32, k: u32) -> u32
-    ensures { λ r. ⌜ r ≡ getD (now (work .entry)) (b + i * 16 + k) 0 ⌝ }
+    ensures { λ r. ⌜ r ≡ getD (now (work .entry)) (b + i * row-size + k) 0 ⌝ }
 {
-    word_at(work, b as usize + i as usize * 16 + k as usize)
+    word_at(work, b as usize + i as usize * ROW_STEP + k as usize)
 }
 
 // Is row i of the kind, and called w?
@@ -82,10 +84,10 @@ pub fn has_row(library: &[u8], text: &[u8], work: &[u32], b: u32, n: u32, kind: 
 fn declares_at(library: &[u8], text: &[u8], tape: &[u32], w: u32, i: u32) -> bool
     ensures { λ r. ⌜ r ≡ declares-at (joint (now (library .entry)) (now (text .entry))) (now (tape .entry)) (name-of (joint (now (library .entry)) (now (text .entry))) w) i ⌝ }
 {
-    if is_named(library, text, tape, 3, w, i) {
+    if is_named(library, text, tape, roles::PARAMETER_SORT, w, i) {
         return true;
     }
-    is_named(library, text, tape, 5, w, i)
+    is_named(library, text, tape, roles::EXPORT_SORT, w, i)
 }
 
 // Does one of the entries from a up to e?
@@ -117,7 +119,7 @@ fn hidden_place(library: &[u8], text: &[u8], tape: &[u32], own: Own, w: u32) -> 
 {
     let from = own.from;
     let end = own.end;
-    first_named(library, text, tape, 7, w, from, end)
+    first_named(library, text, tape, roles::HIDDEN_SORT, w, from, end)
 }
 
 // Is a visible sort called w?

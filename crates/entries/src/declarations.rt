@@ -1,7 +1,6 @@
 // Names in a list, signatures and parameters.
 use super::Reading;
 use super::functions::read_function;
-use super::numbers;
 use super::roles;
 use super::steps::begins_function;
 use super::steps::expect;
@@ -12,6 +11,7 @@ use super::steps::refuse;
 use super::steps::step;
 use super::steps::this_name;
 use super::steps::unexpected;
+use meaning::numbers;
 ghost use mathlib.Core.Path.{_≡_};
 ghost use Rattle.meaning.specs.Numbers.{text-size};
 ghost use Rattle.meaning.specs.Names.{byte};

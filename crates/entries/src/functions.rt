@@ -2,12 +2,12 @@
 use super::Reading;
 use super::declarations::read_names;
 use super::forms;
-use super::numbers;
 use super::roles;
 use super::steps::expect;
 use super::steps::next_is;
 use super::steps::read_name;
 use super::steps::read_operator;
+use meaning::numbers;
 ghost use mathlib.Core.Path.{_≡_};
 ghost use Rattle.entries.specs.Model.{out, onward, input-type, prefix-operator, infix-operator, one-input, two-inputs, function-by, function, function-name};
 

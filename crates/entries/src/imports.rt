@@ -1,7 +1,6 @@
 // Import expressions: renamings and bindings with their pairs.
 use super::Reading;
 use super::functions::read_function_name;
-use super::numbers;
 use super::roles;
 use super::steps::begins_function;
 use super::steps::expect;
@@ -11,6 +10,7 @@ use super::steps::read_name;
 use super::steps::refuse;
 use super::steps::step;
 use super::steps::unexpected;
+use meaning::numbers;
 ghost use mathlib.Core.Path.{_≡_};
 ghost use Rattle.meaning.specs.Names.{byte};
 ghost use Rattle.meaning.specs.Numbers.{binding-limit, pair-limit};

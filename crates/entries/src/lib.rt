@@ -6,7 +6,6 @@ pub mod declarations;
 pub mod forms;
 pub mod functions;
 pub mod imports;
-pub mod numbers;
 pub mod roles;
 pub mod steps;
 

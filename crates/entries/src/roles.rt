@@ -1,52 +1,54 @@
-// What stands at an entry of the tape: the role of an entry's word, as specs/Tape.antt numbers it.
-pub const MODULE_NAME: u8 = 1;
+// The roles as they are handed on from step to step: one byte each.
+use tape::roles;
 
-pub const PARAMETER: u8 = 2;
+pub const MODULE: u8 = roles::MODULE as u8;
 
-pub const PARAMETER_SORT: u8 = 3;
+pub const PARAMETER: u8 = roles::PARAMETER as u8;
 
-pub const PARAMETER_FUNCTION: u8 = 4;
+pub const PARAMETER_SORT: u8 = roles::PARAMETER_SORT as u8;
 
-pub const EXPORT_SORT: u8 = 5;
+pub const PARAMETER_FUNCTION: u8 = roles::PARAMETER_FUNCTION as u8;
 
-pub const EXPORT_FUNCTION: u8 = 6;
+pub const EXPORT_SORT: u8 = roles::EXPORT_SORT as u8;
 
-pub const HIDDEN_SORT: u8 = 7;
+pub const EXPORT_FUNCTION: u8 = roles::EXPORT_FUNCTION as u8;
 
-pub const HIDDEN_FUNCTION: u8 = 8;
+pub const HIDDEN_SORT: u8 = roles::HIDDEN_SORT as u8;
 
-pub const INPUT: u8 = 9;
+pub const HIDDEN_FUNCTION: u8 = roles::HIDDEN_FUNCTION as u8;
 
-pub const OUTPUT: u8 = 10;
+pub const INPUT: u8 = roles::INPUT as u8;
 
-pub const IMPORT: u8 = 11;
+pub const OUTPUT: u8 = roles::OUTPUT as u8;
 
-pub const RENAMING: u8 = 12;
+pub const IMPORT: u8 = roles::IMPORT as u8;
 
-pub const BINDING: u8 = 13;
+pub const RENAMING: u8 = roles::RENAMING as u8;
 
-pub const OLD: u8 = 14;
+pub const BINDING: u8 = roles::BINDING as u8;
 
-pub const NEW: u8 = 15;
+pub const OLD: u8 = roles::OLD as u8;
 
-pub const ACTUAL: u8 = 16;
+pub const NEW: u8 = roles::NEW as u8;
 
-pub const VARIABLE: u8 = 17;
+pub const ACTUAL: u8 = roles::ACTUAL as u8;
 
-pub const VARIABLE_SORT: u8 = 18;
+pub const VARIABLE: u8 = roles::VARIABLE as u8;
 
-pub const TAG: u8 = 19;
+pub const VARIABLE_SORT: u8 = roles::VARIABLE_SORT as u8;
 
-pub const ALONE: u8 = 20;
+pub const TAG: u8 = roles::TAG as u8;
 
-pub const HEAD: u8 = 21;
+pub const ALONE: u8 = roles::ALONE as u8;
 
-pub const CLOSE: u8 = 22;
+pub const HEAD: u8 = roles::HEAD as u8;
 
-pub const CONDITION: u8 = 23;
+pub const CLOSE: u8 = roles::CLOSE as u8;
 
-pub const CONCLUSION: u8 = 24;
+pub const CONDITION: u8 = roles::CONDITION as u8;
 
-pub const PREFIX: u8 = 25;
+pub const CONCLUSION: u8 = roles::CONCLUSION as u8;
 
-pub const INFIX: u8 = 26;
+pub const PREFIX: u8 = roles::PREFIX as u8;
+
+pub const INFIX: u8 = roles::INFIX as u8;

@@ -2,7 +2,7 @@
 use super::Place;
 use super::Reading;
 use super::forms;
-use super::numbers;
+use meaning::numbers;
 use types::Token;
 ghost use mathlib.Core.Path.{_≡_};
 ghost use Prim.Native.Nat.{_-_, _<_};

@@ -7,10 +7,11 @@ use Rattle.meaning.specs.Lists.{before}
 use Rattle.meaning.specs.Names.{Name, same}
 use Rattle.meaning.specs.Numbers.{module-limit}
 use Rattle.meaning.specs.Evaluate.{Evaluated, normal-of}
+use Rattle.tables.specs.Rows.{row-size}
 use Rattle.forms.specs.declared.Form.{Form}
 use Rattle.forms.specs.declared.Block.{Block}
 use Rattle.forms.specs.Memory.{part, Kept}
-use Rattle.forms.specs.Forms.{Stands}
+use Rattle.forms.specs.Forms.{Stands, equation-size, slot-size, form-size}
 use Rattle.forms.specs.Blocks.{BlockLaid, Outside, Fits, MadeThere}
 use Rattle.frames.specs.Changes.{outside, still-stands}
 use Rattle.layout.specs.Layout.{kept-start, table-start}
@@ -23,10 +24,10 @@ pub record Between (low high : ℕ) (f : Form) : Type 0 where
   pub hidden : low ≤ f .hidden
   pub equations : low ≤ f .equations
   pub nodes : low ≤ f .nodes
-  pub parameters-end : f .parameters + f .«parameter_count» * 2 ≤ high
-  pub visible-end : f .visible + f .«visible_count» * 16 ≤ high
-  pub hidden-end : f .hidden + f .«hidden_count» * 16 ≤ high
-  pub equations-end : f .equations + f .«equation_count» * 8 ≤ high
+  pub parameters-end : f .parameters + f .«parameter_count» * slot-size ≤ high
+  pub visible-end : f .visible + f .«visible_count» * row-size ≤ high
+  pub hidden-end : f .hidden + f .«hidden_count» * row-size ≤ high
+  pub equations-end : f .equations + f .«equation_count» * equation-size ≤ high
   pub nodes-end : f .nodes + f .«node_count» ≤ high
 
 pub above-outside : (low high a e : ℕ) (f : Form) → high ≤ a → Between a e f → Outside low high f
@@ -44,7 +45,7 @@ made-between size t b names rows hidden-rows sources f l n r h e m = omega arith
 
 -- where the normal form of module k is
 abbrev pub kept-form : List ℕ → ℕ → Form
-kept-form w k = form-at w (table-start + k * 16)
+kept-form w k = form-at w (table-start + k * form-size)
 
 -- each kept form fits, and ends below the cursor
 pub record TableBelow (w : List ℕ) (cursor : ℕ) : Type 0 where
@@ -66,7 +67,7 @@ pub record EnvStands (text tape w : List ℕ) (ds : List Name) (env : List Evalu
 -- ---- what changes below the kept forms leaves them
 
 form-stays : (low high : ℕ) (w w′ : List ℕ) (k : ℕ) → high ≤ table-start → Kept low high w w′ → kept-form w′ k ≡ kept-form w k
-form-stays low high w w′ k h c = form-same w w′ (table-start + k * 16) (λ i p q. c .above i (omega arith))
+form-stays low high w w′ k h c = form-same w w′ (table-start + k * form-size) (λ i p q. c .above i (omega arith))
 
 pub table-stays : (low high cursor : ℕ) (w w′ : List ℕ) → high ≤ table-start → Kept low high w w′ → TableBelow w cursor → TableBelow w′ cursor
 table-stays low high cursor w w′ h c r = record {

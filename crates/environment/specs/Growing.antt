@@ -14,7 +14,7 @@ use Rattle.meaning.specs.Normal.{Normal}
 use Rattle.meaning.specs.Evaluate.{Evaluated, normal-of}
 use Rattle.forms.specs.declared.Form.{Form}
 use Rattle.forms.specs.Memory.{part}
-use Rattle.forms.specs.Forms.{Stands}
+use Rattle.forms.specs.Forms.{Stands, form-size}
 use Rattle.forms.specs.FormLaws.{tape-same}
 use Rattle.forms.specs.Blocks.{Fits}
 use Rattle.forms.specs.Frames.{Stays, stands-stays}
@@ -25,7 +25,7 @@ use Rattle.environment.specs.Environment.{Between, kept-form, TableBelow
 
 -- where the table ends: a row for each module, and one for a name that no module has
 abbrev pub table-end : ℕ
-table-end = table-start + (module-limit + 1) * 16
+table-end = table-start + (module-limit + 1) * form-size
 
 -- what lies between two places lies between places around them
 between-around : (low high low′ high′ : ℕ) (f : Form) → low′ ≤ low → high ≤ high′ → Between low high f → Between low′ high′ f
@@ -41,8 +41,8 @@ below-right w cursor h b = record {
 pub record Grown (from to k : ℕ) (w w′ : List ℕ) : Type 0 where
   pub size : length w′ ≡ length w
   pub below : (i : ℕ) → i < from → getD w′ i 0 ≡ getD w i 0
-  pub between : (i : ℕ) → to ≤ i → i < table-start + k * 16 → getD w′ i 0 ≡ getD w i 0
-  pub rows : (i : ℕ) → table-start + k * 16 + 16 ≤ i → i < table-end → getD w′ i 0 ≡ getD w i 0
+  pub between : (i : ℕ) → to ≤ i → i < table-start + k * form-size → getD w′ i 0 ≡ getD w i 0
+  pub rows : (i : ℕ) → table-start + k * form-size + form-size ≤ i → i < table-end → getD w′ i 0 ≡ getD w i 0
 
 -- the new form is in row k, fits, and lies from `from` up to `to`
 pub record RowThere (from to k : ℕ) (w : List ℕ) : Type 0 where
@@ -64,7 +64,7 @@ same-number (suc j) (suc k) = ⊎-elim (λ e. inl (ap suc e)) (λ h. inr (λ e. 
 module _ (from to k : ℕ) (w w′ : List ℕ) (start : kept-start ≤ from) (order : from ≤ to) (end : to ≤ table-start) (grown : Grown from to k w w′) where
   other-row : (j : ℕ) → j ≤ module-limit → (j ≡ k → ⊥) → kept-form w′ j ≡ kept-form w j
   other-row j l h =
-      form-same w w′ (table-start + j * 16)
+      form-same w w′ (table-start + j * form-size)
       (λ i p q. ⊎-elim (λ b. grown .between i (omega arith) (omega arith)) (λ b. grown .rows i (omega arith) (omega arith)) (other-number j k h))
 
   pub table-more : RowThere from to k w′ → TableBelow w from → TableBelow w′ to

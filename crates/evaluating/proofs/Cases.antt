@@ -14,6 +14,7 @@ use Rattle.meaning.specs.Normal.{empty}
 use Rattle.meaning.specs.Checks.{Check, fine, _>>_}
 use Rattle.meaning.specs.Evaluate.{names-right, imported}
 use Rattle.meaning.specs.Reached.{total-of}
+use Rattle.tape.specs.Tape.{import-role}
 use Rattle.tables.specs.Entries.{role-at, next-with}
 use Rattle.forms.specs.declared.Form.{Form}
 use Rattle.forms.specs.declared.Block.{Block}
@@ -82,7 +83,8 @@ next-within role tape (suc c) i = go (eqb (role-at tape i) role) (next-within ro
     go true h = omega arith
     go false h = omega arith
 
-place-small : (w : List ℕ) (t : ℕ) (h : Heads) (from end i : ℕ) → ImportedRoom w t h from end → i ≡ next-with 11 (part w 0 t) from (end - from) → i < 131072
+place-small : (w : List ℕ) (t : ℕ) (h : Heads) (from end i : ℕ) → ImportedRoom w t h from end → i ≡ next-with import-role (part w 0 t) from (end - from)
+    → i < 131072
 unfolding tape-end
 place-small w t h from end i c e =
     let l = next-within 11 (part w 0 t) (end - from) from in
@@ -93,11 +95,12 @@ nothing-there : (b : Block) (f : Form) → f ≡ empty-in b → MadeThere b f
 unfolding empty-in
 nothing-there b f e = rw e (omega arith)
 
-pub place-fits : (w : List ℕ) (t : ℕ) (h : Heads) (from end i : ℕ) → ImportedRoom w t h from end → i ≡ next-with 11 (part w 0 t) from (end - from) → Fits w32 i
+pub place-fits : (w : List ℕ) (t : ℕ) (h : Heads) (from end i : ℕ) → ImportedRoom w t h from end → i ≡ next-with import-role (part w 0 t) from (end - from)
+    → Fits w32 i
 place-fits w t h from end i c e = omega (arith, place-small w t h from end i c e)
 
 pub imports-room : (w : List ℕ) (t : ℕ) (h : Heads) (from end i j : ℕ) (b : Block) (f : Form) → ImportedRoom w t h from end
-    → i ≡ next-with 11 (part w 0 t) from (end - from) → j ≡ i → b ≡ joining-block → f ≡ empty-in b → ImportsRoom w t h j (Done f)
+    → i ≡ next-with import-role (part w 0 t) from (end - from) → j ≡ i → b ≡ joining-block → f ≡ empty-in b → ImportsRoom w t h j (Done f)
 imports-room w t h from end i j b f c e q z g = record {
   ground = c .ground;
   there = nothing-there joining-block f (g ∙ ap empty-in z);
@@ -105,7 +108,7 @@ imports-room w t h from end i j b f c e q z g = record {
 }
 
 pub all-made : (text : List ℕ) (t : ℕ) (w w′ : List ℕ) (h : Heads) (from end i j : ℕ) (b : Block) (f : Form) (r : Made)
-    → i ≡ next-with 11 (part w 0 t) from (end - from) → j ≡ i → b ≡ joining-block → f ≡ empty-in b → ImportsMade text t w h 32768 j (Done f) r w′
+    → i ≡ next-with import-role (part w 0 t) from (end - from) → j ≡ i → b ≡ joining-block → f ≡ empty-in b → ImportsMade text t w h 32768 j (Done f) r w′
     → Imported text t w h from end r w′
 all-made text t w w′ h from end i j b f r e q z g x = record {
   kept = x .kept;

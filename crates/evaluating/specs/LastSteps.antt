@@ -1,16 +1,16 @@
 -- The last two steps: their outcome is what is joined, put in order. No two hidden items of it are one, and order changes no size.
-use mathlib.Core.Path.{_≡_, refl, sym, subst}
+use mathlib.Core.Path.{_≡_, refl, sym}
 use Prim.Native.Nat.{ℕ, _+_}
 use mathlib.Core.List.{List}
 use Rattle.meaning.specs.Lists.{sorted}
 use Rattle.meaning.specs.Names.{by-bytes}
 use Rattle.meaning.specs.Syntax.{Module}
-use Rattle.meaning.specs.Origins.{hidden-section, Origin, Item, ResolvedEquation}
+use Rattle.meaning.specs.Origins.{hidden-section, Origin, Item}
 use Rattle.meaning.specs.Normal.{Normal, sorts-among}
-use Rattle.meaning.specs.Checks.{Check, Outcome, fine, stop, _>>=_, _>>_, Size, size, add-sizes, equation-nodes, room, total-room}
+use Rattle.meaning.specs.Checks.{Outcome, fine, stop, _>>=_, _>>_, Size, size, equation-nodes}
 use Rattle.meaning.specs.Written.{origin-text, equation-order, visible-order, visible-in-order, hidden-order, hidden-in-order, in-order}
 use Rattle.meaning.specs.OrderLaws.{sorted-rearranged, sorted-length}
-use Rattle.meaning.specs.Evaluate.{Evaluated, seen-sorts, joined-visible, own-checks, own-equations, imported, joined-own}
+use Rattle.meaning.specs.Evaluate.{Evaluated, joined-visible, imported, joined-own}
 use Rattle.laws.specs.OwnItems.{declared-name}
 use Rattle.hidden_items.specs.Sound.{HiddenItem, HiddenSound}
 use Rattle.laws.specs.Outcomes.{Gives, gives-bound, gives-after, gives-then, gives-of}

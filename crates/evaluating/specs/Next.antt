@@ -11,12 +11,14 @@ use Rattle.meaning.specs.Checks.{fine, Size, size, add-sizes}
 use Rattle.meaning.specs.Written.{in-order}
 use Rattle.meaning.specs.Evaluate.{Evaluated, evaluate}
 use Rattle.meaning.specs.Reached.{total-of, module-names}
+use Rattle.meaning.specs.Numbers.{parameter-room}
+use Rattle.tables.specs.Rows.{row-size}
 use Rattle.forms.specs.declared.Culprit.{Culprit}
 use Rattle.forms.specs.declared.Form.{Form}
 use Rattle.forms.specs.declared.Made.{Made}
 use Rattle.forms.specs.declared.Made.the-variants.{Done, Refused as NotMade}
 use Rattle.forms.specs.Memory.{part, Kept as KeptOutside}
-use Rattle.forms.specs.Forms.{Stands}
+use Rattle.forms.specs.Forms.{Stands, equation-size, slot-size}
 use Rattle.forms.specs.Blocks.{Makes, MadeIn, MadeThere}
 use Rattle.forms.specs.Verdicts.{culprit-of}
 use Rattle.layout.specs.Layout.{joining-block, second-block, kept-start, table-start, Laid}
@@ -66,13 +68,14 @@ pub record LastStepping (text : List ℕ) (t : ℕ) (w : List ℕ) (h : Heads) (
 
 -- ---- places
 
-kept-space : (size t : ℕ) → Laid size t → kept-start + (64 * 8 * 2 + 1024 * 16 + 512 * 8 + 4096) ≤ table-start
+kept-space : (size t : ℕ) → Laid size t → kept-start + (64 * parameter-room * slot-size + 1024 * row-size + 512 * equation-size + 4096) ≤ table-start
 kept-space size t l = l .kept-table
 
 -- the next form behind those of k modules
 next-space : (t : ℕ) (w : List ℕ) (h : Heads) (k : ℕ) (s : State) (f : Form) → Ready t w h k s → MadeThere joining-block f
     → s .cursor + form-space f
-    ≤ kept-start + ((k + 1) * 8 * 2 + with-form (s .totals) f .items * 16 + with-form (s .totals) f .equations * 8 + with-form (s .totals) f .nodes)
+    ≤ kept-start + ((k + 1) * parameter-room * slot-size + with-form (s .totals) f .items * row-size + with-form (s .totals) f .equations * equation-size
+    + with-form (s .totals) f .nodes)
 unfolding with-form
 next-space t w h k s f ready made = omega (arith, ready .space, made .fits .parameters)
 

@@ -10,10 +10,10 @@ use borrow.Author.Tests.{eqb-true, lt-ltb, le-ltb}
 use Rattle.meaning.specs.Lists.{pick, each}
 use Rattle.meaning.specs.OrderLaws.{Every}
 use Rattle.meaning.specs.Syntax.{Clause, renamed-by, bound-by, Import, Module}
+use Rattle.tape.specs.Roles.{All, all-append, all-signature, all-parameters, all-groups, all-equations}
 use Rattle.limits.specs.Limits.{PairsWithin, Limited}
-use Rattle.tape.specs.Tape.{Entry, entry, module-role, export-sort, export-function, hidden-sort, hidden-function, flat-parameter, flat-signature, flat-clause, flat-import, flat-group, flat-equation, flat-module}
+use Rattle.tape.specs.Tape.{Entry, entry, module-role, export-sort, export-function, hidden-sort, hidden-function, flat-parameter, flat-signature, flat-clause, flat-import, flat-group, flat-equation, flat-module, import-role}
 use Rattle.tables.specs.Entries.{role-at, next-with}
-use Rattle.walks.specs.Flat.{All, all-append, all-signature, all-parameters, all-groups, all-equations}
 use Rattle.declarations.specs.Spelled.{Spells, spells-front, spells-behind}
 use Rattle.importing.specs.Spelling.{runs, FewPairs, ImportsAt}
 
@@ -81,12 +81,13 @@ no-import r h = go (eqb r 11) refl
     go true q = absurd (false≢true (sym h ∙ ap (λ (k : ℕ). pick (ltb k 11) false (ltb k 17)) (eqb-true r 11 q)))
     go false q = refl
 
-stops-there : (tape : List ℕ) (i c : ℕ) → role-at tape i ≡ 11 → next-with 11 tape i (suc c) ≡ i
+stops-there : (tape : List ℕ) (i c : ℕ) → role-at tape i ≡ import-role → next-with import-role tape i (suc c) ≡ i
 unfolding next-with pick
 stops-there tape i c e = rw e
 
 module _ (text tape : List ℕ) where
-  next-past : (es : List Entry) (i c : ℕ) → All Other es → Spells text tape i es → next-with 11 tape i (length es + c) ≡ next-with 11 tape (i + length es) c
+  next-past : (es : List Entry) (i c : ℕ) → All Other es → Spells text tape i es
+      → next-with import-role tape i (length es + c) ≡ next-with import-role tape (i + length es) c
   unfolding next-with pick
   next-past [] i c l s = let e : i + 0 ≡ i = omega arith in let d : 0 + c ≡ c = omega arith in rw (e, d)
   next-past (x ∷ es) i c l s =
@@ -123,7 +124,7 @@ module _ (text tape : List ℕ) where
     ahead-spelled = spells-front text tape (ahead m) (each flat-import (m .imports) ++ rest m) from parted
 
     -- none: the search runs to the end
-    none-found : length (each flat-import (m .imports)) ≡ 0 → next-with 11 tape from (end - from) ≡ end
+    none-found : length (each flat-import (m .imports)) ≡ 0 → next-with import-role tape from (end - from) ≡ end
     unfolding next-with
     none-found e =
         let n : end - from ≡ length (ahead m) + (length (rest m) + 0) = omega (arith, whole, e) in
@@ -133,7 +134,7 @@ module _ (text tape : List ℕ) where
         rw n (next-past (ahead m) from (length (rest m) + 0) (ahead-other m) ahead-spelled ∙ next-past (rest m) place 0 (rest-other m) s ∙ z)
 
     -- one: the search stops at it
-    one-found : (c : ℕ) → length (each flat-import (m .imports)) + length (rest m) ≡ suc c → role-at tape place ≡ 11 → next-with 11 tape from (end - from) ≡ place
+    one-found : (c : ℕ) → length (each flat-import (m .imports)) + length (rest m) ≡ suc c → role-at tape place ≡ import-role → next-with import-role tape from (end - from) ≡ place
     unfolding next-with pick
     one-found c e r =
         let n : end - from ≡ length (ahead m) + suc c = omega (arith, whole, e) in
@@ -162,11 +163,11 @@ module _ (text tape : List ℕ) where
       after = then-other (rest m) (place + length (each flat-import (m .imports))) end (rest-other m) behind-imports whole (a .after);
     }
 
-    pub imports-there : ImportsAt text tape (next-with 11 tape from (end - from)) (m .imports)
+    pub imports-there : ImportsAt text tape (next-with import-role tape from (end - from)) (m .imports)
     unfolding each flat-import
     imports-there = go (m .imports) refl
       where
-        go : (is : List Import) → m .imports ≡ is → ImportsAt text tape (next-with 11 tape from (end - from)) (m .imports)
+        go : (is : List Import) → m .imports ≡ is → ImportsAt text tape (next-with import-role tape from (end - from)) (m .imports)
         go [] e =
             let z : length (each flat-import (m .imports)) ≡ 0 = ap (λ (xs : List Import). length (each flat-import xs)) e in
             subst (λ (i : ℕ). ImportsAt text tape i (m .imports)) (sym (none-found z)) (at-end (m .imports) e)

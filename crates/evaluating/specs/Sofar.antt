@@ -2,7 +2,7 @@
 use Prim.Native.Nat.{ℕ, _+_, _-_, _*_, _≤_, _<_}
 use mathlib.Core.List.{List, []}
 use lib.ListN.{length, getD}
-use Rattle.meaning.specs.Numbers.{module-limit}
+use Rattle.meaning.specs.Numbers.{module-limit, parameter-room}
 use Rattle.meaning.specs.OrderLaws.{Every}
 use Rattle.meaning.specs.Syntax.{Module}
 use Rattle.meaning.specs.Distinct.{Fresh}
@@ -10,7 +10,9 @@ use Rattle.meaning.specs.Evaluate.{Evaluated}
 use Rattle.meaning.specs.Reached.{total-of}
 use Rattle.limits.specs.Limits.{Limited}
 use Rattle.tape.specs.Tape.{flat-module}
+use Rattle.tables.specs.Rows.{row-size}
 use Rattle.forms.specs.Memory.{part}
+use Rattle.forms.specs.Forms.{equation-size, slot-size}
 use Rattle.layout.specs.Layout.{tape-end, kept-start, Laid}
 use Rattle.modules.specs.declared.Heads.{Heads}
 use Rattle.modules.specs.Modules.{declared}
@@ -41,7 +43,7 @@ pub record Ready (t : ℕ) (w : List ℕ) (h : Heads) (k : ℕ) (s : State) : Ty
   pub few-entries : (j : ℕ) → j < h .count → getD (h .places) (j + 1) 0 - getD (h .places) j 0 ≤ 32768
   pub below : TableBelow w (s .cursor)
   pub start : kept-start ≤ s .cursor
-  pub space : s .cursor ≤ kept-start + (k * 8 * 2 + s .totals .items * 16 + s .totals .equations * 8 + s .totals .nodes)
+  pub space : s .cursor ≤ kept-start + (k * parameter-room * slot-size + s .totals .items * row-size + s .totals .equations * equation-size + s .totals .nodes)
   pub right : TotalsRight (s .totals)
 
 -- of the modules ms those of env are evaluated, and what is kept stands for their normal forms

@@ -1,20 +1,13 @@
 -- The first two steps on the tape, and what the imports of a module come to (meaning/specs/Evaluate.antt, `evaluate`).
-use mathlib.Core.Path.{_≡_, refl, sym, ap, ap₂, _∙_, subst}
-use mathlib.Core.Bool.{Bool, true, false}
-use Prim.Native.Nat.{ℕ, zero, suc, _+_, _-_, _≤_, _<_}
-use native.Mathlib.Omega.{arith}
-use mathlib.Core.List.{List, [], _∷_, _++_}
-use lib.Dec.{eqb}
-use lib.ListN.{length, take, getD, length-append}
-use Rattle.meaning.specs.Lists.{pick, each}
-use Rattle.meaning.specs.Names.{Name}
+use Prim.Native.Nat.{ℕ, _-_, _≤_}
+use mathlib.Core.List.{List}
+use lib.ListN.{length, take}
 use Rattle.meaning.specs.OrderLaws.{Every}
-use Rattle.meaning.specs.Syntax.{Import, Module}
-use Rattle.meaning.specs.Normal.{Normal, empty}
-use Rattle.meaning.specs.Checks.{Check, Outcome, fine, _>>=_, _>>_}
+use Rattle.meaning.specs.Syntax.{Import}
+use Rattle.meaning.specs.Checks.{Check, _>>=_, _>>_}
 use Rattle.meaning.specs.Evaluate.{Evaluated, names-right, imported}
-use Rattle.tape.specs.Tape.{Entry, flat-module}
-use Rattle.tables.specs.Entries.{role-at, next-with}
+use Rattle.tape.specs.Tape.{import-role}
+use Rattle.tables.specs.Entries.{next-with}
 use Rattle.forms.specs.declared.Made.{Made}
 use Rattle.forms.specs.Memory.{part, Kept}
 use Rattle.forms.specs.Blocks.{Makes, MadeIn}
@@ -42,7 +35,7 @@ pub record ImportedRoom (w : List ℕ) (t : ℕ) (h : Heads) (from end : ℕ) : 
   pub within : end ≤ t
 
 abbrev pub imports-place : List ℕ → ℕ → ℕ → ℕ
-imports-place tape from end = next-with 11 tape from (end - from)
+imports-place tape from end = next-with import-role tape from (end - from)
 
 pub record Imported (text : List ℕ) (t : ℕ) (w : List ℕ) (h : Heads) (from end : ℕ) (r : Made) (w′ : List ℕ) : Type 0 where
   pub kept : Kept (joining-block .low) (second-block .high) w w′

@@ -9,6 +9,7 @@ use layout::joining_block;
 use modules::Heads;
 use modules::names_right;
 use tables::entries::next_with;
+use tape::roles;
 use uniting::empty_form;
 ghost use mathlib.Core.Path.{_≡_};
 ghost use lib.ListN.{length};
@@ -48,7 +49,7 @@ pub fn imported(
     requires { ⌜ ImportedRoom (now work) t h from end ⌝ }
     ensures { λ r. ⌜ Imported (joint (now (library .entry)) (now (text .entry))) t (now (work .entry)) h from end r (now (work .exit)) ⌝ }
 {
-    let i = next_with(&work[0..t], 11, from as usize, end as usize);
+    let i = next_with(&work[0..t], roles::IMPORT, from as usize, end as usize);
     let b = joining_block();
     let nothing = empty_form(b);
     imports_from(

@@ -1,4 +1,5 @@
 // A module's text: the part of whichever of the two lent texts declares it. Nothing is copied.
+use meaning::numbers;
 use types::Part;
 ghost use mathlib.Core.Path.{_≡_};
 ghost use Rattle.meaning.specs.Texts.{two-texts, ends-part, part-end, no-part, part-of, fetched, part-bytes};
@@ -21,7 +22,7 @@ fn part_end(text: &[u8], at: usize) -> usize
     ensures { λ r. ⌜ r ≡ part-end (now (text .entry)) 32768 at ⌝ }
 {
     let mut i = at;
-    let mut left: usize = 32768;
+    let mut left: usize = numbers::TEXT_SIZE;
     while 0 < left {
         let t = tokens::next_token(text, i);
         let kind = t.kind;
@@ -49,7 +50,7 @@ fn part_of(text: &[u8], marked: bool, name: &[u8]) -> Part
     ensures { λ r. ⌜ r ≡ part-of (now (text .entry)) marked (now (name .entry)) ⌝ }
 {
     let mut i = 0;
-    let mut left: usize = 64;
+    let mut left: usize = numbers::MODULE_LIMIT;
     while 0 < left {
         let t = tokens::next_token(text, i);
         let kind = t.kind;

@@ -2,15 +2,15 @@
 use mathlib.Core.Path.{_≡_}
 use Prim.Native.Nat.{ℕ, _+_, _*_, _≤_}
 use mathlib.Core.List.{List}
-use Rattle.meaning.specs.Names.{Name}
 use Rattle.meaning.specs.Numbers.{parameter-room, item-room, equation-room, node-limit}
 use Rattle.meaning.specs.Normal.{Normal}
 use Rattle.meaning.specs.Checks.{Outcome, fine, stop}
+use Rattle.tables.specs.Rows.{row-size}
 use Rattle.forms.specs.declared.Form.{Form}
 use Rattle.forms.specs.declared.Block.{Block}
 use Rattle.forms.specs.declared.Made.{Made}
 use Rattle.forms.specs.declared.Made.the-variants.{Done, Refused}
-use Rattle.forms.specs.Forms.{Stands}
+use Rattle.forms.specs.Forms.{Stands, equation-size, slot-size}
 use Rattle.forms.specs.FormLaws.{Apart}
 use Rattle.forms.specs.Verdicts.{culprit-of}
 
@@ -19,10 +19,10 @@ use Rattle.forms.specs.Verdicts.{culprit-of}
 pub record BlockLaid (size t : ℕ) (b : Block) (names rows hidden-rows sources : ℕ) : Type 0 where
   pub tape : t ≤ b .low
   pub first : b .low ≤ b .parameters
-  pub parameters : b .parameters + names * 2 ≤ b .visible
-  pub visible : b .visible + rows * 16 ≤ b .hidden
-  pub hidden : b .hidden + hidden-rows * 16 ≤ b .equations
-  pub equations : b .equations + b .«equation_room» * 8 ≤ b .nodes
+  pub parameters : b .parameters + names * slot-size ≤ b .visible
+  pub visible : b .visible + rows * row-size ≤ b .hidden
+  pub hidden : b .hidden + hidden-rows * row-size ≤ b .equations
+  pub equations : b .equations + b .«equation_room» * equation-size ≤ b .nodes
   pub nodes : b .nodes + b .«node_room» ≤ b .«visible_notes»
   pub enough : b .«equation_room» * node-limit ≤ b .«node_room»
   pub visible-notes : b .«visible_notes» + sources ≤ b .«hidden_notes»
@@ -41,10 +41,10 @@ pub record Lies (b : Block) (f : Form) : Type 0 where
 
 -- the words from low up to high are none of the form's
 pub record Outside (low high : ℕ) (f : Form) : Type 0 where
-  pub parameters : Apart low high (f .parameters) (f .parameters + f .«parameter_count» * 2)
-  pub visible : Apart low high (f .visible) (f .visible + f .«visible_count» * 16)
-  pub hidden : Apart low high (f .hidden) (f .hidden + f .«hidden_count» * 16)
-  pub equations : Apart low high (f .equations) (f .equations + f .«equation_count» * 8)
+  pub parameters : Apart low high (f .parameters) (f .parameters + f .«parameter_count» * slot-size)
+  pub visible : Apart low high (f .visible) (f .visible + f .«visible_count» * row-size)
+  pub hidden : Apart low high (f .hidden) (f .hidden + f .«hidden_count» * row-size)
+  pub equations : Apart low high (f .equations) (f .equations + f .«equation_count» * equation-size)
   pub nodes : Apart low high (f .nodes) (f .nodes + f .«node_count»)
 
 -- the form has no more than fits (document 01, 18)

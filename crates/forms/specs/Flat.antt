@@ -1,11 +1,10 @@
 -- Terms laid flat say all that the terms do: two equations have one content exactly when their nodes are the same in turn.
 use mathlib.Core.Path.{_≡_, refl, sym, ap, ap₂, _∙_}
-use Prim.Native.Nat.{ℕ, zero, suc}
 use mathlib.Core.Bool.{Bool, true, false, _&&_}
 use mathlib.Core.List.{List, [], _∷_, _++_, append-assoc}
 use lib.Dec.{eqb, eqb·zero-suc, eqb·suc-zero, eqb·suc-suc}
 use Rattle.meaning.specs.Lists.{pick, agree, each}
-use Rattle.meaning.specs.Origins.{Origin, same-origin, Sort, same-sort, Head, same-head, ResolvedTerm, var, app, ResolvedTerms, none-left, _and-then_, same-term, same-terms, ResolvedSides, same-sides, ResolvedEquation, one-equation}
+use Rattle.meaning.specs.Origins.{same-origin, same-sort, same-head, ResolvedTerm, var, app, ResolvedTerms, none-left, _and-then_, same-term, same-terms, ResolvedSides, same-sides, ResolvedEquation, one-equation}
 use Rattle.forms.specs.Forms.{Node, function-node, variable-node, how-many, flat-term, flat-terms, flat-sides, flat-equation}
 
 -- a test of two nodes

@@ -1,19 +1,18 @@
 -- Laws of frames: what lies apart from the words that changed stands for what it stood for; and tables that grow by a row.
 use mathlib.Core.Path.{_≡_, refl, sym, ap, ap₂, _∙_}
 use mathlib.Core.Logic.{_⊎_, inl, inr, ⊎-elim}
-use Prim.Native.Nat.{ℕ, zero, suc, _+_, _-_, _*_, _/_, _≤_, _<_}
-use mathlib.Core.List.{List, [], _∷_, _++_, map}
+use Prim.Native.Nat.{ℕ, zero, suc, _+_, _-_, _*_, _≤_, _<_}
+use mathlib.Core.List.{List, [], _∷_, _++_}
 use native.Mathlib.Omega.{arith}
 use lib.ListN.{length, getD, take, drop, set, length-set, length-take, length-drop}
-use lib.Seq.{sets, length-sets, getD-set-other, getD-take, getD-drop, ext-getD}
+use lib.Seq.{sets, getD-set-other, getD-take, getD-drop, ext-getD}
 use Rattle.meaning.specs.Origins.{Item}
 use Rattle.meaning.specs.Normal.{Slot}
 use Rattle.names.specs.Word.{name-of}
-use Rattle.tables.specs.declared.Row.{Row}
-use Rattle.tables.specs.Rows.{word-section, words-from, item-of, row-at}
-use Rattle.forms.specs.declared.EquationRow.{EquationRow}
+use Rattle.tables.specs.Rows.{item-of, row-at, row-size}
+use Rattle.tables.specs.RowLaws.{row-same}
 use Rattle.forms.specs.Memory.{part, Same, Kept, KeptTwo}
-use Rattle.forms.specs.Forms.{slot-at, slots-at, items-at, equation-row-at}
+use Rattle.forms.specs.Forms.{slot-at, slots-at, items-at, equation-row-at, slot-size}
 
 -- the words from b up to f lie apart from those from a up to e
 abbrev pub Apart : ℕ → ℕ → ℕ → ℕ → Type 0
@@ -72,46 +71,26 @@ pub kept-two-swap : (a e b f : ℕ) (w w′ : List ℕ) → KeptTwo a e b f w w�
 kept-two-swap a e b f w w′ k = record { size = k .size; kept = λ i p q. k .kept i q p }
 
 module _ (w w′ : List ℕ) where
-  pub words-from-same : (b c : ℕ) → Same b (b + c) w w′ → words-from w′ b c ≡ words-from w b c
-  unfolding words-from
-  words-from-same b zero p = refl
-  words-from-same b (suc c) p =
-      ap₂ (λ (x : ℕ) (xs : List ℕ). x ∷ xs) (p b (omega arith) (omega arith)) (words-from-same (suc b) c (λ i h l. p i (omega arith) (omega arith)))
-
-  pub row-same : (b : ℕ) → Same b (b + 15) w w′ → row-at w′ b ≡ row-at w b
-  unfolding row-at
-  row-same b p =
-      let g : (j : ℕ) → j < 15 → getD w′ (b + j) 0 ≡ getD w (b + j) 0 = λ j h. p (b + j) (omega arith) (omega arith) in
-      let g₀ : getD w′ b 0 ≡ getD w b 0 = p b (omega arith) (omega arith) in
-      let more = words-from-same (b + 6) 9 (λ i h l. p i (omega arith) (omega arith)) in
-      λ i. record {
-        standing = word-section (g₀ i);
-        name = g 1 (omega arith) i;
-        kind = g 2 (omega arith) i;
-        origin = record { home = g 3 (omega arith) i; section = word-section (g 4 (omega arith) i); place = g 5 (omega arith) i };
-        sorts = more i;
-      }
-
-  pub slot-same : (text : List ℕ) (b : ℕ) → Same b (b + 2) w w′ → slot-at text w′ b ≡ slot-at text w b
+  pub slot-same : (text : List ℕ) (b : ℕ) → Same b (b + slot-size) w w′ → slot-at text w′ b ≡ slot-at text w b
   unfolding slot-at
   slot-same text b p =
       let name = ap (name-of text) (p b (omega arith) (omega arith)) in
       let home = ap (name-of text) (p (b + 1) (omega arith) (omega arith)) in
       λ i. record { name = name i; home = home i }
 
-  pub slots-same : (text : List ℕ) (b c : ℕ) → Same b (b + c * 2) w w′ → slots-at text w′ b c ≡ slots-at text w b c
+  pub slots-same : (text : List ℕ) (b c : ℕ) → Same b (b + c * slot-size) w w′ → slots-at text w′ b c ≡ slots-at text w b c
   unfolding slots-at
   slots-same text b zero p = refl
   slots-same text b (suc c) p =
       ap₂ (λ (x : Slot) (xs : List Slot). x ∷ xs) (slot-same text b (λ i h l. p i (omega arith) (omega arith)))
-      (slots-same text (b + 2) c (λ i h l. p i (omega arith) (omega arith)))
+      (slots-same text (b + slot-size) c (λ i h l. p i (omega arith) (omega arith)))
 
-  pub items-same : (text tape : List ℕ) (b c : ℕ) → Same b (b + c * 16) w w′ → items-at text tape w′ b c ≡ items-at text tape w b c
+  pub items-same : (text tape : List ℕ) (b c : ℕ) → Same b (b + c * row-size) w w′ → items-at text tape w′ b c ≡ items-at text tape w b c
   unfolding items-at
   items-same text tape b zero p = refl
   items-same text tape b (suc c) p =
-      ap₂ (λ (x : Item) (xs : List Item). x ∷ xs) (ap (item-of text tape) (row-same b (λ i h l. p i (omega arith) (omega arith))))
-      (items-same text tape (b + 16) c (λ i h l. p i (omega arith) (omega arith)))
+      ap₂ (λ (x : Item) (xs : List Item). x ∷ xs) (ap (item-of text tape) (row-same w w′ b (λ i h l. p i (omega arith) (omega arith))))
+      (items-same text tape (b + row-size) c (λ i h l. p i (omega arith) (omega arith)))
 
   pub equation-row-same : (b : ℕ) → Same b (b + 6) w w′ → equation-row-at w′ b ≡ equation-row-at w b
   unfolding equation-row-at
@@ -142,45 +121,45 @@ module _ (w w′ : List ℕ) where
 
 -- ---- a table that grows
 
-pub items-grow : (text tape w : List ℕ) (b c : ℕ) → items-at text tape w b (suc c) ≡ items-at text tape w b c ++ (item-of text tape (row-at w (b + c * 16)) ∷ [])
+pub items-grow : (text tape w : List ℕ) (b c : ℕ) → items-at text tape w b (suc c) ≡ items-at text tape w b c ++ (item-of text tape (row-at w (b + c * row-size)) ∷ [])
 unfolding items-at
-items-grow text tape w b zero = let e : b + 0 * 16 ≡ b = omega arith in rw e
+items-grow text tape w b zero = let e : b + 0 * row-size ≡ b = omega arith in rw e
 items-grow text tape w b (suc c) =
-    let e : b + 16 + c * 16 ≡ b + suc c * 16 = omega arith in
+    let e : b + row-size + c * row-size ≡ b + suc c * row-size = omega arith in
     ap (λ (xs : List Item). item-of text tape (row-at w b) ∷ xs)
-    (items-grow text tape w (b + 16) c ∙ ap (λ (i : ℕ). items-at text tape w (b + 16) c ++ (item-of text tape (row-at w i) ∷ [])) e)
+    (items-grow text tape w (b + row-size) c ∙ ap (λ (i : ℕ). items-at text tape w (b + row-size) c ++ (item-of text tape (row-at w i) ∷ [])) e)
 
-pub slots-grow : (text w : List ℕ) (b c : ℕ) → slots-at text w b (suc c) ≡ slots-at text w b c ++ (slot-at text w (b + c * 2) ∷ [])
+pub slots-grow : (text w : List ℕ) (b c : ℕ) → slots-at text w b (suc c) ≡ slots-at text w b c ++ (slot-at text w (b + c * slot-size) ∷ [])
 unfolding slots-at
-slots-grow text w b zero = let e : b + 0 * 2 ≡ b = omega arith in rw e
+slots-grow text w b zero = let e : b + 0 * slot-size ≡ b = omega arith in rw e
 slots-grow text w b (suc c) =
-    let e : b + 2 + c * 2 ≡ b + suc c * 2 = omega arith in
-    ap (slot-at text w b ∷_) (slots-grow text w (b + 2) c ∙ ap (λ (i : ℕ). slots-at text w (b + 2) c ++ (slot-at text w i ∷ [])) e)
+    let e : b + slot-size + c * slot-size ≡ b + suc c * slot-size = omega arith in
+    ap (slot-at text w b ∷_) (slots-grow text w (b + slot-size) c ∙ ap (λ (i : ℕ). slots-at text w (b + slot-size) c ++ (slot-at text w i ∷ [])) e)
 
 -- a table in two parts
-pub items-split : (text tape w : List ℕ) (b v m : ℕ) → items-at text tape w b (v + m) ≡ items-at text tape w b v ++ items-at text tape w (b + v * 16) m
+pub items-split : (text tape w : List ℕ) (b v m : ℕ) → items-at text tape w b (v + m) ≡ items-at text tape w b v ++ items-at text tape w (b + v * row-size) m
 unfolding items-at
 items-split text tape w b zero m =
-    let e : b ≡ b + 0 * 16 = omega arith in
+    let e : b ≡ b + 0 * row-size = omega arith in
     let c : 0 + m ≡ m = omega arith in
     ap₂ (λ (i k : ℕ). items-at text tape w i k) e c
 items-split text tape w b (suc v) m =
-    let e : b + 16 + v * 16 ≡ b + suc v * 16 = omega arith in
+    let e : b + row-size + v * row-size ≡ b + suc v * row-size = omega arith in
     let c : suc v + m ≡ suc (v + m) = omega arith in
     ap (items-at text tape w b) c
     ∙ ap (item-of text tape (row-at w b) ∷_)
-    (items-split text tape w (b + 16) v m ∙ ap (λ (i : ℕ). items-at text tape w (b + 16) v ++ items-at text tape w i m) e)
+    (items-split text tape w (b + row-size) v m ∙ ap (λ (i : ℕ). items-at text tape w (b + row-size) v ++ items-at text tape w i m) e)
 
 pub length-items : (text tape w : List ℕ) (b c : ℕ) → length (items-at text tape w b c) ≡ c
 unfolding items-at
 length-items text tape w b zero = refl
-length-items text tape w b (suc c) = ap suc (length-items text tape w (b + 16) c)
+length-items text tape w b (suc c) = ap suc (length-items text tape w (b + row-size) c)
 
 -- item i of a table
-pub item-at : (text tape w : List ℕ) (b c i : ℕ) (d : Item) → i < c → getD (items-at text tape w b c) i d ≡ item-of text tape (row-at w (b + i * 16))
+pub item-at : (text tape w : List ℕ) (b c i : ℕ) (d : Item) → i < c → getD (items-at text tape w b c) i d ≡ item-of text tape (row-at w (b + i * row-size))
 unfolding items-at
 item-at text tape w b zero i d h = absurd (omega arith)
-item-at text tape w b (suc c) zero d h = let e : b + 0 * 16 ≡ b = omega arith in rw e
+item-at text tape w b (suc c) zero d h = let e : b + 0 * row-size ≡ b = omega arith in rw e
 item-at text tape w b (suc c) (suc i) d h =
-    let e : b + 16 + i * 16 ≡ b + suc i * 16 = omega arith in
-    item-at text tape w (b + 16) c i d (omega arith) ∙ ap (λ (j : ℕ). item-of text tape (row-at w j)) e
+    let e : b + row-size + i * row-size ≡ b + suc i * row-size = omega arith in
+    item-at text tape w (b + row-size) c i d (omega arith) ∙ ap (λ (j : ℕ). item-of text tape (row-at w j)) e

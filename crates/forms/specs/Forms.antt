@@ -8,14 +8,25 @@ use lib.ListN.{length, getD, take, drop}
 use Rattle.meaning.specs.Lists.{pick, each, sum}
 use Rattle.meaning.specs.Numbers.{node-limit}
 use Rattle.meaning.specs.Origins.{Origin, Sort, hidden-sort, Head, visible-head, hidden-head, ResolvedTerm, var, app, ResolvedTerms, none-left, _and-then_, ResolvedSides, ResolvedEquation, Shape, sort-shape, function-shape, variable-shape, is-sort, is-function, Item}
-use Rattle.meaning.specs.Normal.{Slot, Visible, Hidden, Normal}
+use Rattle.meaning.specs.Normal.{Slot, Visible, Normal}
 use Rattle.meaning.specs.Checks.{equation-nodes}
 use Rattle.meaning.specs.OrderLaws.{Every}
 use Rattle.names.specs.Word.{name-of}
 use Rattle.tables.specs.declared.Row.{Row}
-use Rattle.tables.specs.Rows.{item-of, row-at}
+use Rattle.tables.specs.Rows.{item-of, row-at, row-size}
 use Rattle.forms.specs.declared.Form.{Form}
 use Rattle.forms.specs.declared.EquationRow.{EquationRow}
+
+-- ---- the widths of a parameter, of an equation's row, and of a form in the table of those that are kept
+
+abbrev pub slot-size : ℕ
+slot-size = 2
+
+abbrev pub equation-size : ℕ
+equation-size = 8
+
+abbrev pub form-size : ℕ
+form-size = 16
 
 -- a parameter's two words: its name, and the name of the module that declares it
 unfoldable pub slot-at : List ℕ → List ℕ → ℕ → Slot
@@ -24,12 +35,12 @@ slot-at text w b = record { name = name-of text (getD w b 0); home = name-of tex
 -- the c parameters from place b on
 unfoldable pub slots-at : List ℕ → List ℕ → ℕ → ℕ → List Slot
 slots-at text w b zero = []
-slots-at text w b (suc c) = slot-at text w b ∷ slots-at text w (b + 2) c
+slots-at text w b (suc c) = slot-at text w b ∷ slots-at text w (b + slot-size) c
 
 -- the items of c rows from place b on
 unfoldable pub items-at : List ℕ → List ℕ → List ℕ → ℕ → ℕ → List Item
 items-at text tape w b zero = []
-items-at text tape w b (suc c) = item-of text tape (row-at w b) ∷ items-at text tape w (b + 16) c
+items-at text tape w b (suc c) = item-of text tape (row-at w b) ∷ items-at text tape w (b + row-size) c
 
 -- ---- terms laid flat: their nodes in prefix order, a function with its number of arguments
 
@@ -62,7 +73,7 @@ flat-equation e = flat-sides (e .conclusion) ++ each flat-sides (e .conditions)
 -- a node's row in the tables of visible and of hidden items
 unfoldable pub node-row : List ℕ → ℕ → ℕ → ℕ → Row
 node-row w visible hidden v =
-    let below = row-at w (hidden + v / 32 * 16) in pick (eqb (v / 16 % 2) 0) (row-at w (visible + v / 32 * 16)) below
+    let below = row-at w (hidden + v / 32 * row-size) in pick (eqb (v / 16 % 2) 0) (row-at w (visible + v / 32 * row-size)) below
 
 -- what an item is at a node: a visible function by its name and type, a hidden one by its origin and type. No node points at a sort
 unfoldable pub node-shape : Bool → ℕ → Item → Shape → Node
@@ -93,6 +104,10 @@ equation-row-at w b = record {
   count = getD w (b + 5) 0;
 }
 
+-- the words of a row whose nodes stand from `start` on
+unfoldable pub equation-words : EquationRow → ℕ → List ℕ
+equation-words q start = q .home ∷ q .position ∷ q .tag ∷ q .conditions ∷ start ∷ q .count ∷ []
+
 -- the row stands for the equation, and its nodes lie within the form's
 pub record EquationStands (text tape w : List ℕ) (f : Form) (r : EquationRow) (e : ResolvedEquation) : Type 0 where
   pub home : r .home ≡ e .module-number
@@ -106,7 +121,7 @@ pub record EquationStands (text tape w : List ℕ) (f : Form) (r : EquationRow) 
 abbrev pub EquationsStand : List ℕ → List ℕ → List ℕ → Form → ℕ → List ResolvedEquation → Type 0
 EquationsStand text tape w f b [] = Unit {0}
 EquationsStand text tape w f b (e ∷ es) =
-    EquationStands text tape w f (equation-row-at w b) e × EquationsStand text tape w f (b + 8) es
+    EquationStands text tape w f (equation-row-at w b) e × EquationsStand text tape w f (b + equation-size) es
 
 -- what a node's word points at: a visible function that the form has, or a hidden function or variable, which stands alone
 unfoldable pub node-item : List ℕ → List ℕ → List ℕ → Form → ℕ → Item

@@ -12,12 +12,13 @@ use Rattle.meaning.specs.Lists.{pick}
 use Rattle.meaning.specs.Origins.{ResolvedEquation, is-sort, is-function, Item}
 use Rattle.meaning.specs.Normal.{Normal}
 use Rattle.tables.specs.declared.Row.{Row}
-use Rattle.tables.specs.Rows.{item-of}
+use Rattle.tables.specs.Rows.{item-of, row-size}
+use Rattle.tables.specs.RowLaws.{row-same}
 use Rattle.forms.specs.declared.Form.{Form}
 use Rattle.forms.specs.declared.EquationRow.{EquationRow}
 use Rattle.forms.specs.Memory.{part, Same, Kept}
-use Rattle.forms.specs.Forms.{node-row, node-of, node-in, nodes-of, node-item, equation-row-at, EquationStands, EquationsStand, VisiblePoint, HiddenPoint, Pointing, visible-at, Stands}
-use Rattle.forms.specs.FormLaws.{kept-same, row-same, slots-same, items-same, equation-row-same, words-same, tape-same}
+use Rattle.forms.specs.Forms.{node-row, node-of, node-in, nodes-of, node-item, equation-row-at, EquationStands, EquationsStand, VisiblePoint, HiddenPoint, Pointing, visible-at, Stands, equation-size, slot-size}
+use Rattle.forms.specs.FormLaws.{kept-same, slots-same, items-same, equation-row-same, words-same, tape-same}
 use Rattle.forms.specs.Blocks.{Outside}
 
 pub map-same : {A : Type 0} (f g : ℕ → A) (xs : List ℕ) → ((i : ℕ) → i < length xs → f (getD xs i 0) ≡ g (getD xs i 0)) → map f xs ≡ map g xs
@@ -45,8 +46,8 @@ each-points text tape w f p = record { visible = λ i h. p i h .visible; hidden 
 -- the rows of f and the nodes of f stay from w to w′
 pub record Stays (w w′ : List ℕ) (f : Form) : Type 0 where
   pub size : length w′ ≡ length w
-  pub visible : Same (f .visible) (f .visible + f .«visible_count» * 16) w w′
-  pub hidden : Same (f .hidden) (f .hidden + f .«hidden_count» * 16) w w′
+  pub visible : Same (f .visible) (f .visible + f .«visible_count» * row-size) w w′
+  pub hidden : Same (f .hidden) (f .hidden + f .«hidden_count» * row-size) w w′
   pub nodes : Same (f .nodes) (f .nodes + f .«node_count») w w′
 
 module _ (text tape w w′ : List ℕ) (f : Form) (stays : Stays w w′ f) where
@@ -58,11 +59,11 @@ module _ (text tape w w′ : List ℕ) (f : Form) (stays : Stays w w′ f) where
         go : (b : Bool) → eqb (v / 16 % 2) 0 ≡ b → node-row w′ (f .visible) (f .hidden) v ≡ node-row w (f .visible) (f .hidden) v
         go true e =
             let l = points .visible (eqb-true (v / 16 % 2) 0 e) .inside in
-            rw e (row-same w w′ (f .visible + v / 32 * 16) (λ i h k. stays .visible i (omega arith) (omega arith)))
+            rw e (row-same w w′ (f .visible + v / 32 * row-size) (λ i h k. stays .visible i (omega arith) (omega arith)))
         go false e =
             let z = eqb-false (v / 16 % 2) 0 e in
             let l = points .hidden (omega arith) .inside in
-            rw e (row-same w w′ (f .hidden + v / 32 * 16) (λ i h k. stays .hidden i (omega arith) (omega arith)))
+            rw e (row-same w w′ (f .hidden + v / 32 * row-size) (λ i h k. stays .hidden i (omega arith) (omega arith)))
 
     pub node-stays : node-in text tape w′ (f .visible) (f .hidden) v ≡ node-in text tape w (f .visible) (f .hidden) v
     unfolding node-in
@@ -118,24 +119,24 @@ module _ (text tape w w′ : List ℕ) (f : Form) (stays : Stays w w′ f) where
               ∙ map-same (node-in text tape w′ (f .visible) (f .hidden)) (node-in text tape w (f .visible) (f .hidden)) vs each-node ∙ s .nodes;
         }
 
-    pub equations-stay : (b : ℕ) (es : List ResolvedEquation) → Same b (b + length es * 8) w w′
+    pub equations-stay : (b : ℕ) (es : List ResolvedEquation) → Same b (b + length es * equation-size) w w′
         → EquationsStand text tape w f b es → EquationsStand text tape w′ f b es
     equations-stay b [] p s = tt
     equations-stay b (e ∷ es) p s =
         let row : equation-row-at w′ b ≡ equation-row-at w b = equation-row-same w w′ b (λ i h l. p i h (omega arith)) in (
           subst (λ (r : EquationRow). EquationStands text tape w′ f r e) (sym row) (equation-stays (equation-row-at w b) e (s .0)),
-          equations-stay (b + 8) es (λ i h l. p i (omega arith) (omega arith)) (s .1),
+          equations-stay (b + equation-size) es (λ i h l. p i (omega arith) (omega arith)) (s .1),
         )
 
-  pub visible-stays : Same (f .parameters) (f .parameters + f .«parameter_count» * 2) w w′ → visible-at text tape w′ f ≡ visible-at text tape w f
+  pub visible-stays : Same (f .parameters) (f .parameters + f .«parameter_count» * slot-size) w w′ → visible-at text tape w′ f ≡ visible-at text tape w f
   unfolding visible-at
   visible-stays p =
       let slots = slots-same w w′ text (f .parameters) (f .«parameter_count») p in
       let items = items-same w w′ text tape (f .visible) (f .«visible_count») (stays .visible) in
       λ i. record { parameters = slots i; items = items i }
 
-  pub stands-stays : (n : Normal) → Same (f .parameters) (f .parameters + f .«parameter_count» * 2) w w′
-      → Same (f .equations) (f .equations + f .«equation_count» * 8) w w′ → Stands text tape w f n → Stands text tape w′ f n
+  pub stands-stays : (n : Normal) → Same (f .parameters) (f .parameters + f .«parameter_count» * slot-size) w w′
+      → Same (f .equations) (f .equations + f .«equation_count» * equation-size) w w′ → Stands text tape w f n → Stands text tape w′ f n
   stands-stays n p q s = record {
     visible = visible-stays p ∙ s .visible;
     hidden = items-same w w′ text tape (f .hidden) (f .«hidden_count») (stays .hidden) ∙ s .hidden;

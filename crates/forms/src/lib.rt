@@ -1,7 +1,19 @@
 // Where a normal form lies in the working memory, and how much of it there is; and how a check ends.
+pub mod equations;
 
-// Places are words of the working memory; an item row has sixteen words, an equation row eight, a parameter two (its name and the name of
-// the module that declares it), a node one.
+// The words of a parameter, which are its name and the name of the module that declares it; of an equation's row; and of a form in the table
+// of those that are kept. Each as a count of words, or as a step from place to place.
+pub const SLOT_SIZE: u32 = 2;
+
+pub const SLOT_STEP: usize = SLOT_SIZE as usize;
+
+pub const EQUATION_SIZE: u32 = 8;
+
+pub const EQUATION_STEP: usize = EQUATION_SIZE as usize;
+
+pub const FORM_STEP: usize = 16;
+
+// Places are words of the working memory; a node is one word.
 pub struct Form {
     pub parameters: u32,
     pub parameter_count: u32,

@@ -10,6 +10,7 @@ use lib.ListN.{length, getD, set, length-set}
 use lib.Seq.{sets, getD-set-same}
 use borrow.Author.Tests.{leb-true, leb-false}
 use Rattle.meaning.specs.Normal.{Normal}
+use Rattle.tables.specs.Rows.{row-size}
 use Rattle.forms.specs.declared.Form.{Form}
 use Rattle.forms.specs.Memory.{part, Kept, KeptTwo}
 use Rattle.forms.specs.Forms.{items-at, Stands}
@@ -90,8 +91,8 @@ clear-apart a e b f c = go (leb f a) (leb e b) (leb-true f a) (leb-false f a) (l
 -- none of the words from low up to high is the form's
 pub record Free (low high : ℕ) (f : Form) : Type 0 where
   pub parameters : Clear low high (f .parameters) (f .parameters + f .«parameter_count» * 2)
-  pub visible : Clear low high (f .visible) (f .visible + f .«visible_count» * 16)
-  pub hidden : Clear low high (f .hidden) (f .hidden + f .«hidden_count» * 16)
+  pub visible : Clear low high (f .visible) (f .visible + f .«visible_count» * row-size)
+  pub hidden : Clear low high (f .hidden) (f .hidden + f .«hidden_count» * row-size)
   pub equations : Clear low high (f .equations) (f .equations + f .«equation_count» * 8)
   pub nodes : Clear low high (f .nodes) (f .nodes + f .«node_count»)
 
@@ -121,7 +122,7 @@ tape-kept {t} h k = tape-same _ _ t (k .size) (λ i u v. k .below i (omega arith
 pub tape-kept-two : {t a e b f : ℕ} {w w′ : List ℕ} → t ≤ a → t ≤ b → KeptTwo a e b f w w′ → part w′ 0 t ≡ part w 0 t
 tape-kept-two {t} h l k = tape-same _ _ t (k .size) (λ i u v. k .kept i (inl (omega arith)) (inl (omega arith)))
 
-pub items-kept : {t low high : ℕ} {w w′ : List ℕ} (text : List ℕ) (b c : ℕ) → t ≤ low → Kept low high w w′ → Apart low high b (b + c * 16)
+pub items-kept : {t low high : ℕ} {w w′ : List ℕ} (text : List ℕ) (b c : ℕ) → t ≤ low → Kept low high w w′ → Apart low high b (b + c * row-size)
     → items-at text (part w′ 0 t) w′ b c ≡ items-at text (part w 0 t) w b c
 items-kept {w = w} {w′ = w′} text b c h k p =
     ap (λ (tape : List ℕ). items-at text tape w′ b c) (tape-kept h k) ∙ items-same w w′ text _ b c (kept-same _ _ _ _ w w′ p k)

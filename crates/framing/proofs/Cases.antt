@@ -22,7 +22,6 @@ use Rattle.meaning.specs.Answer.{in-line, request, request-end, has-request, li
 use Rattle.names.proofs.Runs.{run-on, run-stop, run-ends, run-from, front}
 use Rattle.pen.specs.Pen.{Pen, pen, written}
 use Rattle.pen.proofs.Laws.{written-kept, laid, reached}
-use Rattle.pen.proofs.Cases.{digits-none, digits-one, digits-more}
 use Rattle.framing.specs.Framed.{AloneFramed, BothFramed}
 
 -- ---- a line that goes on at s: a loop at i, from where its end is sought
@@ -264,4 +263,4 @@ module _ (rest : List ℕ) (e : ℕ) (at-end : e ≡ library-request-end rest) w
         }
 
 -- what the answers of this crate hand to `search`
-pub ruleset cases = (line-on, line-stop, line-out, request-start, request-room, request-unended, request-long, request-told, request-ends, request-ends-within, request-fits, behind-request, saying-none, saying-ten, saying-more, saying-again, saying-end, ten-within, decimal-told, library-start, library-room, library-digits, library-unended, library-long, library-other, library-told, framed-none, line-ends-within, line-reaches, line-short, line-fits, library-fits, framed-long, framed-both, framed-few, digits-none, digits-one, digits-more, needs)
+pub ruleset cases = (line-on, line-stop, line-out, request-start, request-room, request-unended, request-long, request-told, request-ends, request-ends-within, request-fits, behind-request, saying-none, saying-ten, saying-more, saying-again, saying-end, ten-within, decimal-told, library-start, library-room, library-digits, library-unended, library-long, library-other, library-told, framed-none, line-ends-within, line-reaches, line-short, line-fits, library-fits, framed-long, framed-both, framed-few, needs)

@@ -1,12 +1,12 @@
 // How an input is framed: its first line, which names the asked module, and the line behind it that may say how long the library is.
+use meaning::numbers;
 ghost use mathlib.Core.Path.{_≡_};
 ghost use Prim.Native.Nat.{_-_, _≤_};
 ghost use lib.ListN.{length};
 ghost use Rattle.meaning.specs.Names.{same};
 ghost use Rattle.meaning.specs.Tokens.{run-end};
 ghost use Rattle.meaning.specs.Answer.{in-line, request-end, has-request, library-request-end, said-by, has-library-line};
-ghost use Rattle.meaning.specs.Written.{digits, decimal};
-ghost use Rattle.pen.specs.Pen.{pen, written};
+ghost use Rattle.meaning.specs.Written.{decimal};
 ghost use Rattle.framing.specs.Framed.{Framed};
 
 // Where the line that goes on at `start` ends: at its LF, or at the end of the input.
@@ -35,20 +35,6 @@ pub fn has_request(input: &[u8], e: usize) -> bool
         return false;
     }
     names::same_bytes(&input[0..10], b"normalise=")
-}
-
-// The digits of n, `size` of them at most. The pen's own numbers have 32 bits; a place has as many as a length.
-pub fn put_digits(page: &mut [u8], at: usize, limit: usize, n: usize, size: usize) -> usize
-    ensures { λ r. ⌜ pen r (now (page .exit)) ≡ written limit (digits size n) (pen at (now (page .entry))) ⌝ }
-{
-    if size == 0 {
-        return at;
-    }
-    if n < 10 {
-        return pen::put(page, at, limit, (48 + n) as u8);
-    }
-    let to = put_digits(page, at, limit, n / 10, size - 1);
-    pen::put(page, to, limit, (48 + n % 10) as u8)
 }
 
 // ---- the library's line
@@ -83,7 +69,7 @@ fn is_decimal(written: &[u8], n: usize) -> bool
     ensures { λ r. ⌜ r ≡ same (now (written .entry)) (decimal n) ⌝ }
 {
     let mut page = [0; 10];
-    let size = put_digits(&mut page, 0, 11, n, 10);
+    let size = pen::put_digits(&mut page, 0, 11, n, 10);
     names::same_bytes(written, &page[0..size])
 }
 
@@ -119,7 +105,7 @@ pub fn framed(rest: &[u8]) -> Framing
     let e = line_end(rest, 8);
     if has_library_line(rest, e) {
         let size = said_by(&rest[8..e]);
-        if 32768 < size {
+        if numbers::TEXT_SIZE < size {
             return Framing::TooLong;
         }
         let from = e + 1;

@@ -12,10 +12,10 @@ use Rattle.meaning.specs.Normal.{Normal, nothing-hidden, empty, unite-hidden, u
 use Rattle.meaning.specs.Written.{hidden-in-order, in-order}
 use Rattle.meaning.specs.Own.{own-sort, own-function, own-variable, own-hidden-items}
 use Rattle.meaning.specs.OrderLaws.{Every, Pairwise, Rearranged, rearranged-every, sorted-rearranged, pairwise-rearranged, any-none}
+use Rattle.laws.specs.Decides.{items-decided}
 use Rattle.laws.specs.EveryLaws.{every-all, every-append, every-map}
 use Rattle.laws.specs.OwnItems.{section-made, hidden-every}
-pub use Rattle.laws.specs.OwnItems.{declared-name}
-use Rattle.tables.specs.Decides.{items-decided}
+use Rattle.laws.specs.OwnItems.{declared-name}
 
 pub record HiddenItem (i : Item) : Type 0 where
   pub standing : i .standing ≡ hidden-section

@@ -20,16 +20,18 @@ use Rattle.meaning.specs.Checks.{fine, sorts-clash, functions-clash, overloaded
 use Rattle.meaning.specs.Trials.{all-opened}
 use Rattle.meaning.specs.OrderLaws.{Every, Rearranged, same-equal, Pairwise, same-self}
 use Rattle.meaning.specs.Evaluate.{united}
-use Rattle.promises.specs.ListingLaws.{both-true, every-so, item-equal, origin-self, slot-equal}
-use Rattle.promises.specs.SameListing.{SameNormal, kept-member}
+use Rattle.promises.specs.ListingLaws.{item-equal, origin-self, slot-equal}
+use Rattle.promises.specs.SameListing.{SameNormal}
 use Rattle.promises.specs.Told.{Stands, StandsIn}
-use Rattle.promises.specs.Sound.{every-member, any-found, any-passes, every-any, in-union-left, in-union-right, member-keep, once-told}
+use Rattle.promises.specs.Sound.{once-told}
 use Rattle.promises.specs.SoundEvaluation.{fits-fine}
 use Rattle.promises.specs.TypedOwn.{OfFound, first-found}
 use Rattle.replacing.specs.Reordering.{Tagged, sorts-clash-symmetric, functions-clash-symmetric, overloaded-symmetric, item-self, equation-equal, equation-self}
 use Rattle.replacing.specs.VisibleAlike.{Once, NoneAtOdds, Clear, consistent-clear, clear-consistent, clear-one}
-use Rattle.import_order.specs.Sets.{Among, SameSet, Distinct, set-rearranged, least-among, every-of, every-among, set-arranged, among-fewer, union-of, union-distinct}
+use Rattle.import_order.specs.Sets.{Among, SameSet, Distinct, set-rearranged, least-among, every-among, set-arranged, among-fewer, union-of, union-distinct}
 use Rattle.meaning.specs.OutcomeLaws.{then-fine, bind-fine, fine-same}
+use Rattle.laws.specs.Decides.{both-true}
+use Rattle.laws.specs.EveryLaws.{every-so, kept-member, every-member, any-found, any-passes, every-any, in-union-left, in-union-right, member-keep, every-of}
 
 -- ---- what a form must be, to be united
 

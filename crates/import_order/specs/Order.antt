@@ -21,16 +21,16 @@ use Rattle.promises.specs.SameListing.{SameNormal}
 use Rattle.promises.specs.Demand.{InTurn}
 use Rattle.promises.specs.TwoCalls.{in-turn-each, every-first, equals-same, PlacedAlike, reached-alike, module-names-alike, evaluated, Beside, Goes, Ends, normalise-two, went-on}
 use Rattle.promises.specs.SoundEvaluation.{empty-whole, PlainModule, reached-plain, PlainClause, Whole, WholeEnv, Accepted, expressions-whole, evaluated-accepted}
-use Rattle.promises.specs.ListingLaws.{every-so}
-use Rattle.promises.specs.Sound.{Gives, member-map-to}
 use Rattle.promises.specs.AcceptedForms.{accepted-one-order, same-itself}
 use Rattle.replacing.specs.Changing.{re-function, re-signature, re-parameter, re-pair, re-clause, re-import, re-group, re-raw, re-raws, re-raw-sides, re-raw-equation, re-module, re-declared, re-origin, re-sort, re-type, re-shape, re-item, re-head, re-term, re-terms, re-sides, re-equation}
 use Rattle.replacing.specs.VisibleAlike.{Like, member-map-from}
 use Rattle.replacing.specs.Alike.{Alike, Both}
 use Rattle.replacing.specs.ModulesAlike.{EasyClause, EasyImport, HasTags, empty-both, GoodPlaced, EnvAlike, expressions-alike, imported-alike, joined-own-alike, evaluates-so, tags-of, good-placed}
-use Rattle.import_order.specs.Sets.{every-of, member-same, Among, SameSet, set-turned, set-each, every-among}
+use Rattle.import_order.specs.Sets.{member-same, Among, SameSet, set-turned, set-each, every-among}
 use Rattle.import_order.specs.AnyOrder.{united-anyhow, Good}
 use Rattle.meaning.specs.OutcomeLaws.{then-fine, bind-fine, fine-same, never}
+use Rattle.laws.specs.EveryLaws.{every-so, member-map-to, every-of}
+use Rattle.laws.specs.Outcomes.{Gives}
 
 abbrev pub as-it-is : Name → Name
 as-it-is w = w

@@ -10,8 +10,8 @@ use Rattle.meaning.specs.Texts.{Texts, two-texts, read-texts}
 use Rattle.meaning.specs.Checks.{lone}
 use Rattle.meaning.specs.Answer.{listing, refusal, answer}
 use Rattle.meaning.specs.Trials.{all-opened}
+use Rattle.laws.specs.EveryLaws.{every-member}
 use Rattle.promises.specs.Instance.{modules-in}
-use Rattle.promises.specs.Sound.{every-member}
 use Rattle.import_order.specs.Sets.{SameSet, set-itself}
 use Rattle.import_order.specs.Order.{OtherOrder, with-imports}
 use Rattle.import_order.specs.ImportOrder.{Reordered, SameOutcome, import-order}

@@ -14,7 +14,7 @@ use Rattle.meaning.specs.Origins.{Item}
 use Rattle.meaning.specs.Checks.{least-at-odds}
 use Rattle.meaning.specs.OrderLaws.{Every, Pairwise, Rearranged, any-none, rearranged-length, rearranged-member}
 use Rattle.laws.specs.EveryLaws.{every-append, any-found, any-passes, every-member, every-union}
-pub use Rattle.laws.specs.EveryLaws.{every-of}
+use Rattle.laws.specs.EveryLaws.{every-of}
 use Rattle.promises.specs.Sound.{compatible}
 use Rattle.replacing.specs.Reordering.{least-at-odds-none}
 use Rattle.replacing.specs.VisibleAlike.{member-any}

@@ -11,9 +11,11 @@ use lib.ListN.{length}
 use Rattle.meaning.specs.Lists.{pick, before}
 use Rattle.meaning.specs.Names.{same}
 use Rattle.names.specs.Word.{name-of}
+use Rattle.tape.specs.Tape.{renamed-role, bound-role}
 use Rattle.tables.specs.Entries.{role-at, word-at, name-at}
 use Rattle.forms.specs.declared.Form.{Form}
 use Rattle.forms.specs.declared.Block.{Block}
+use Rattle.forms.specs.Forms.{form-size}
 use Rattle.layout.specs.Layout.{first-block, second-block, table-start}
 use Rattle.keeping.specs.Keeping.{form-at}
 use Rattle.modules.specs.declared.Heads.{Heads}
@@ -28,9 +30,9 @@ use Rattle.importing.specs.Clausal.{clauses-start, clauses-ended, clause
 
 pub form-of-named : (text tape w : List ℕ) (h : Heads) (i x k table : ℕ) (r : Form) → x ≡ word-at tape i
     → k ≡ before (same (name-of text x)) (declared text tape h)
-    → table ≡ table-start → r ≡ form-at w (table + k * 16) → r ≡ kept-form w (number-of (declared text tape h) (name-at text tape i))
+    → table ≡ table-start → r ≡ form-at w (table + k * form-size) → r ≡ kept-form w (number-of (declared text tape h) (name-at text tape i))
 form-of-named text tape w h i x k table r e f q z =
-    z ∙ ap₂ (λ (a b : ℕ). form-at w (a + b * 16)) q (f ∙ ap (λ (v : ℕ). before (same (name-of text v)) (declared text tape h)) e)
+    z ∙ ap₂ (λ (a b : ℕ). form-at w (a + b * form-size)) q (f ∙ ap (λ (v : ℕ). before (same (name-of text v)) (declared text tape h)) e)
 
 -- ---- runs
 
@@ -87,13 +89,13 @@ pub is-second-block : (first : Bool) (b : Block) → first ≡ false → b ≡ s
 unfolding turn-block pick
 is-second-block first b f e = rw f e
 
-pub starts-renaming : (tape : List ℕ) (i role : ℕ) → role ≡ role-at tape i → role ≡ 12 → true ≡ starts-clause tape i
+pub starts-renaming : (tape : List ℕ) (i role : ℕ) → role ≡ role-at tape i → role ≡ renamed-role → true ≡ starts-clause tape i
 unfolding starts-clause pick
-starts-renaming tape i role e h = rw (← e, eq-eqb role 12 h)
+starts-renaming tape i role e h = rw (← e, eq-eqb role renamed-role h)
 
-pub starts-binding : (tape : List ℕ) (i role : ℕ) → role ≡ role-at tape i → (role ≡ 12 → ⊥) → eqb role 13 ≡ starts-clause tape i
+pub starts-binding : (tape : List ℕ) (i role : ℕ) → role ≡ role-at tape i → (role ≡ renamed-role → ⊥) → eqb role bound-role ≡ starts-clause tape i
 unfolding starts-clause pick
-starts-binding tape i role e h = rw (← e, ne-eqb role 12 h)
+starts-binding tape i role e h = rw (← e, ne-eqb role renamed-role h)
 
 pub ruleset walks = (form-of-named, run-below, run-from, walk-start, walk-on, walk-stop, walk-end)
 

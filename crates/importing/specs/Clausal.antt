@@ -17,7 +17,7 @@ use Rattle.meaning.specs.Checks.{fine}
 use Rattle.meaning.specs.Clauses.{rename, bind}
 use Rattle.meaning.specs.Evaluate.{Evaluated, normal-of, clause, clauses}
 use Rattle.names.specs.Word.{name-of}
-use Rattle.tape.specs.Tape.{entry, flat-pair}
+use Rattle.tape.specs.Tape.{entry, flat-pair, renamed-role, bound-role, old-role, actual-role}
 use Rattle.tables.specs.Entries.{role-at, word-at, name-at}
 use Rattle.forms.specs.declared.Form.{Form}
 use Rattle.forms.specs.declared.Block.{Block}
@@ -77,7 +77,7 @@ pub record ClausesRoom (w : List ℕ) (t : ℕ) (h : Heads) (i : ℕ) (g : Form)
   pub place : i < 131072
 
 unfoldable pub starts-clause : List ℕ → ℕ → Bool
-starts-clause tape i = pick (eqb (role-at tape i) 12) true (eqb (role-at tape i) 13)
+starts-clause tape i = pick (eqb (role-at tape i) renamed-role) true (eqb (role-at tape i) bound-role)
 
 -- ---- what comes of them
 
@@ -199,20 +199,21 @@ bound-at text t w w′ h i last p g a b r e f x = record {
 
 -- ---- one clause
 
-no-other : (tape : List ℕ) (i : ℕ) (k : ℕ) → role-at tape i ≡ k → eqb k 12 ≡ false → eqb (role-at tape i) 12 ≡ true → false ≡ true
-no-other tape i k e f q = sym (ap (λ (r : ℕ). eqb r 12) e ∙ f) ∙ q
+no-other : (tape : List ℕ) (i : ℕ) (k : ℕ) → role-at tape i ≡ k → eqb k 12 ≡ false → eqb (role-at tape i) renamed-role ≡ true → false ≡ true
+no-other tape i k e f q = sym (ap (λ (r : ℕ). eqb r renamed-role) e ∙ f) ∙ q
 
 -- an entry that is not of the inner run is no old name
-no-old : (r : ℕ) → runs 14 r ≡ false → eqb r 14 ≡ false
+no-old : (r : ℕ) → runs 14 r ≡ false → eqb r old-role ≡ false
 unfolding runs pick
-no-old r e = go (eqb r 14) refl
+no-old r e = go (eqb r old-role) refl
   where
-    go : (b : Bool) → eqb r 14 ≡ b → b ≡ false
+    go : (b : Bool) → eqb r old-role ≡ b → b ≡ false
     go true q = absurd (false≢true (sym e ∙ ap (λ (k : ℕ). pick (ltb k 14) false (ltb k 17)) (eqb-true r 14 q)))
     go false q = refl
 
 module _ (text : List ℕ) (t : ℕ) (w w′ : List ℕ) (h : Heads) (i end : ℕ) (g : Form) (b : Block) (r : Made) where
-  pub clause-renames : (role : ℕ) → role ≡ role-at (part w 0 t) i → role ≡ 12 → Renamed text t w (i + 1) g b r w′ → ClauseMade text t w h i end g b r w′
+  pub clause-renames : (role : ℕ) → role ≡ role-at (part w 0 t) i → role ≡ renamed-role → Renamed text t w (i + 1) g b r w′
+      → ClauseMade text t w h i end g b r w′
   unfolding clause first-entry inner
   clause-renames role at is x = record { kept = x .kept; made-in = x .made-in; made = go }
     where
@@ -226,7 +227,7 @@ module _ (text : List ℕ) (t : ℕ) (w w′ : List ℕ) (h : Heads) (i end : �
           (pairs-told text (part w 0 t) ps 32 (i + 1) (k .few) (k .inside) (no-old _ (k .after))) (x .made n s)
       go (bound-by p ps m) env n k e v s = absurd (false≢true (no-other (part w 0 t) i 13 (k .first) refl q))
 
-  pub clause-binds : (role : ℕ) → role ≡ role-at (part w 0 t) i → (role ≡ 12 → ⊥) → BoundAt text t w h i (end - 1) g b r w′
+  pub clause-binds : (role : ℕ) → role ≡ role-at (part w 0 t) i → (role ≡ renamed-role → ⊥) → BoundAt text t w h i (end - 1) g b r w′
       → ClauseMade text t w h i end g b r w′
   unfolding clause first-entry inner
   clause-binds role at other x = record { kept = x .kept; made-in = x .made-in; made = go }
@@ -239,12 +240,12 @@ module _ (text : List ℕ) (t : ℕ) (w w′ : List ℕ) (h : Heads) (i end : �
       go (renamed-by ps) env n k e v s = absurd (false≢true (sym q ∙ ap (λ (j : ℕ). eqb j 12) (k .first)))
       go (bound-by p ps m) env n k e v s =
           let pairs = each flat-pair ps in
-          let last : Spells text (part w 0 t) (i + 1 + length pairs) (entry 16 m ∷ []) =
-          spells-behind text (part w 0 t) pairs (entry 16 m ∷ []) (i + 1) (k .inside) in
-          let at : end - 1 ≡ i + 1 + length pairs = omega (arith, e, length-append pairs (entry 16 m ∷ [])) in
+          let last : Spells text (part w 0 t) (i + 1 + length pairs) (entry actual-role m ∷ []) =
+          spells-behind text (part w 0 t) pairs (entry actual-role m ∷ []) (i + 1) (k .inside) in
+          let at : end - 1 ≡ i + 1 + length pairs = omega (arith, e, length-append pairs (entry actual-role m ∷ [])) in
           let named : name-at text (part w 0 t) (end - 1) ≡ m = ap (name-at text (part w 0 t)) at ∙ last .1 in
           let pairs-are = pairs-told text (part w 0 t) ps 32 (i + 1) (k .few)
-          (spells-front text (part w 0 t) pairs (entry 16 m ∷ []) (i + 1) (k .inside)) (ap (λ (j : ℕ). eqb j 14) (last .0)) in
+          (spells-front text (part w 0 t) pairs (entry actual-role m ∷ []) (i + 1) (k .inside)) (ap (λ (j : ℕ). eqb j 14) (last .0)) in
           let actual : Stands text (part w 0 t) w (form-named text t w h (end - 1)) (normal-of env m) =
           subst (λ (x : Name). Stands text (part w 0 t) w (kept-form w (number-of (names-of text t w h) x)) (normal-of env m)) (sym named) (v .stands m) in
           subst (λ (z : Name). Makes text (part w′ 0 t) w′ r (bind z ps n (normal-of env m))) (k .name)
@@ -349,7 +350,7 @@ unfolding starts-clause pick
 starts-within tape i e = go (leb (length tape) i) refl
   where
     go : (b : Bool) → leb (length tape) i ≡ b → i < length tape
-    go true q = absurd (false≢true (ap (λ (r : ℕ). pick (eqb r 12) true (eqb r 13)) (sym (no-entry tape i (leb-true (length tape) i q))) ∙ e))
+    go true q = absurd (false≢true (ap (λ (r : ℕ). pick (eqb r renamed-role) true (eqb r bound-role)) (sym (no-entry tape i (leb-true (length tape) i q))) ∙ e))
     go false q = leb-false (length tape) i q
 
 pub run-bounds : (least : ℕ) (tape : List ℕ) (c i : ℕ) → (i ≤ run-end least tape i c) × (run-end least tape i c ≤ i + c)
@@ -371,11 +372,11 @@ module _ (text tape : List ℕ) (i : ℕ) (c : Clause) (k : ClauseAt text tape i
       run-over text tape 14 (inner c) (length tape - (i + 1)) (i + 1) (omega (arith, within)) (clause-inner c) (k .inside) (k .after)
 
 -- no clause begins behind the last
-none-starts : (r : ℕ) → runs 12 r ≡ false → pick (eqb r 12) true (eqb r 13) ≡ false
+none-starts : (r : ℕ) → runs 12 r ≡ false → pick (eqb r renamed-role) true (eqb r bound-role) ≡ false
 unfolding runs pick
-none-starts r e = go (eqb r 12) refl (eqb r 13) refl
+none-starts r e = go (eqb r renamed-role) refl (eqb r bound-role) refl
   where
-    go : (a : Bool) → eqb r 12 ≡ a → (b : Bool) → eqb r 13 ≡ b → pick a true b ≡ false
+    go : (a : Bool) → eqb r renamed-role ≡ a → (b : Bool) → eqb r bound-role ≡ b → pick a true b ≡ false
     go true p b q = absurd (false≢true (sym e ∙ ap (λ (k : ℕ). pick (ltb k 12) false (ltb k 17)) (eqb-true r 12 p)))
     go false p true q = absurd (false≢true (sym e ∙ ap (λ (k : ℕ). pick (ltb k 12) false (ltb k 17)) (eqb-true r 13 q)))
     go false p false q = refl
@@ -395,7 +396,7 @@ none-there text tape i s =
 pub one-there : (text tape : List ℕ) (i : ℕ) (c : Clause) (cs : List Clause) → ClausesAt text tape i (c ∷ cs) → starts-clause tape i ≡ true
 unfolding starts-clause
 one-there text tape i c cs s =
-    ap (λ (r : ℕ). pick (eqb r 12) true (eqb r 13)) (clause-there text tape i c cs s .first) ∙ first-starts c
+    ap (λ (r : ℕ). pick (eqb r renamed-role) true (eqb r bound-role)) (clause-there text tape i c cs s .first) ∙ first-starts c
 
 -- ---- places
 

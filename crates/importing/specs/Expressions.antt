@@ -15,7 +15,7 @@ use Rattle.meaning.specs.Syntax.{Clause, Import}
 use Rattle.meaning.specs.Normal.{Normal, empty, unite}
 use Rattle.meaning.specs.Checks.{Outcome, fine, stop, _>>=_, checked}
 use Rattle.meaning.specs.Evaluate.{Evaluated, normal-of, clauses, expressions, united, imported}
-use Rattle.tape.specs.Tape.{flat-clause}
+use Rattle.tape.specs.Tape.{flat-clause, import-role}
 use Rattle.tables.specs.Entries.{role-at, name-at}
 use Rattle.forms.specs.declared.Form.{Form}
 use Rattle.forms.specs.declared.Block.{Block}
@@ -194,10 +194,10 @@ import-run : runs 11 11 ≡ true
 unfolding runs pick
 import-run = refl
 
-pub import-within : (tape : List ℕ) (i : ℕ) → role-at tape i ≡ 11 → i < length tape
+pub import-within : (tape : List ℕ) (i : ℕ) → role-at tape i ≡ import-role → i < length tape
 import-within tape i e = go (leb (length tape) i) refl
   where
-    differ : (role : ℕ) → role ≡ 0 → role ≡ 11 → ⊥
+    differ : (role : ℕ) → role ≡ 0 → role ≡ import-role → ⊥
     differ role p q = omega (arith, p, q)
 
     go : (b : Bool) → leb (length tape) i ≡ b → i < length tape
@@ -211,7 +211,7 @@ clauses-end text tape i cs k h =
     let within = spelled-within text tape 12 (each flat-clause cs) (i + 1) refl (omega arith) (clauses-run cs) (k .entries) in
     run-over text tape 12 (each flat-clause cs) (length tape - (i + 1)) (i + 1) (omega (arith, within)) (clauses-run cs) (k .entries) (k .after)
 
-none-imported : (text tape : List ℕ) (i : ℕ) → ImportsAt text tape i [] → role-at tape i ≡ 11 → ⊥
+none-imported : (text tape : List ℕ) (i : ℕ) → ImportsAt text tape i [] → role-at tape i ≡ import-role → ⊥
 unfolding each
 none-imported text tape i s e =
     let z : i + 0 ≡ i = omega arith in
@@ -220,7 +220,8 @@ none-imported text tape i s e =
 pub imports-tape : (w : List ℕ) (t : ℕ) (h : Heads) (i : ℕ) (so-far : Made) → ImportsRoom w t h i so-far → length (part w 0 t) ≤ 65536
 imports-tape w t h i so-far c = short-tape w t (c .ground .tape)
 
-pub import-room : (w : List ℕ) (t : ℕ) (h : Heads) (i : ℕ) (so-far : Made) (role : ℕ) → role ≡ role-at (part w 0 t) i → role ≡ 11 → ImportsRoom w t h i so-far
+pub import-room : (w : List ℕ) (t : ℕ) (h : Heads) (i : ℕ) (so-far : Made) (role : ℕ) → role ≡ role-at (part w 0 t) i → role ≡ import-role
+    → ImportsRoom w t h i so-far
     → ImportRoom w t h i
 import-room w t h i so-far role told goes c =
     let short = short-tape w t (c .ground .tape) in
@@ -247,7 +248,7 @@ module _ (text : List ℕ) (t : ℕ) (w : List ℕ) (h : Heads) (i : ℕ) (so-fa
       none [] l = refl
       none (x ∷ is) l = absurd (omega arith)
 
-  imports-over : (left role : ℕ) → role ≡ role-at (part w 0 t) i → (role ≡ 11 → ⊥) → ImportsRoom w t h i so-far
+  imports-over : (left role : ℕ) → role ≡ role-at (part w 0 t) i → (role ≡ import-role → ⊥) → ImportsRoom w t h i so-far
       → ImportsMade text t w h left i so-far so-far w
   imports-over left role told other c = record {
     kept = kept-all (joining-block .low) (second-block .high) w;
@@ -259,7 +260,7 @@ module _ (text : List ℕ) (t : ℕ) (w : List ℕ) (h : Heads) (i : ℕ) (so-fa
       none [] k = refl
       none (x ∷ is) k = absurd (other (told ∙ import-there text (part w 0 t) i x is k .first))
 
-  module _ (role : ℕ) (told : role ≡ role-at (part w 0 t) i) (goes : role ≡ 11) (c : ImportsRoom w t h i so-far) where
+  module _ (role : ℕ) (told : role ≡ role-at (part w 0 t) i) (goes : role ≡ import-role) (c : ImportsRoom w t h i so-far) where
     there-is : i < length (part w 0 t)
     there-is = import-within (part w 0 t) i (sym told ∙ goes)
 
@@ -374,10 +375,10 @@ module _ (text : List ℕ) (t : ℕ) (w₀ : List ℕ) (h : Heads) (all start : 
     pub imports-ended : left ≤ 0 → ImportsMade text t w₀ h all start given so-far w
     imports-ended e = v .goes-on so-far w (imports-spent text t w h i so-far left e (v .room))
 
-    pub imports-none : (role : ℕ) → role ≡ role-at (part w 0 t) i → (role ≡ 11 → ⊥) → ImportsMade text t w₀ h all start given so-far w
+    pub imports-none : (role : ℕ) → role ≡ role-at (part w 0 t) i → (role ≡ import-role → ⊥) → ImportsMade text t w₀ h all start given so-far w
     imports-none role told other = v .goes-on so-far w (imports-over text t w h i so-far left role told other (v .room))
 
-    module _ (role : ℕ) (told : role ≡ role-at (part w 0 t) i) (goes : role ≡ 11) (end : ℕ) (w₁ : List ℕ) (r : Made)
+    module _ (role : ℕ) (told : role ≡ role-at (part w 0 t) i) (goes : role ≡ import-role) (end : ℕ) (w₁ : List ℕ) (r : Made)
         (at : end ≡ run-end 12 (part w 0 t) (i + 1) (length (part w 0 t) - (i + 1))) (x : ExpressionMade text t w h i r w₁) where
       pub imports-stop : (j : ℕ) (y : Culprit) → r ≡ Refused j y → ImportsMade text t w₀ h all start given (Refused j y) w₁
       imports-stop j y e =

@@ -11,9 +11,9 @@ use Rattle.meaning.specs.Lists.{pick, each}
 use Rattle.meaning.specs.Numbers.{pair-limit}
 use Rattle.meaning.specs.OrderLaws.{Every}
 use Rattle.meaning.specs.Syntax.{Pair, Clause, renamed-by, bound-by, Import}
-use Rattle.tape.specs.Tape.{Entry, entry, flat-pair, flat-clause, flat-import}
+use Rattle.tape.specs.Roles.{All, all-append}
+use Rattle.tape.specs.Tape.{Entry, entry, flat-pair, flat-clause, flat-import, import-role, renamed-role, bound-role, old-role, actual-role}
 use Rattle.tables.specs.Entries.{role-at, name-at}
-use Rattle.walks.specs.Flat.{All, all-append}
 use Rattle.declarations.specs.Spelled.{Spells, spells-front, spells-behind}
 use Rattle.translation.specs.Translation.{pairs-from}
 
@@ -73,11 +73,11 @@ pairs-inner (p ∷ ps) = (refl, (refl, pairs-inner ps))
 -- what stands behind a clause's first entry
 unfoldable pub inner : Clause → List Entry
 inner (renamed-by ps) = each flat-pair ps
-inner (bound-by p ps m) = each flat-pair ps ++ (entry 16 m ∷ [])
+inner (bound-by p ps m) = each flat-pair ps ++ (entry actual-role m ∷ [])
 
 unfoldable pub first-entry : Clause → Entry
-first-entry (renamed-by ps) = entry 12 []
-first-entry (bound-by p ps m) = entry 13 p
+first-entry (renamed-by ps) = entry renamed-role []
+first-entry (bound-by p ps m) = entry bound-role p
 
 pub clause-entries : (c : Clause) → flat-clause c ≡ first-entry c ∷ inner c
 unfolding flat-clause first-entry inner
@@ -87,7 +87,7 @@ clause-entries (bound-by p ps m) = refl
 pub clause-inner : (c : Clause) → All (λ r. runs 14 r ≡ true) (inner c)
 unfolding inner runs pick
 clause-inner (renamed-by ps) = pairs-inner ps
-clause-inner (bound-by p ps m) = all-append (λ (r : ℕ). runs 14 r ≡ true) (each flat-pair ps) (entry 16 m ∷ []) (pairs-inner ps) (refl, tt)
+clause-inner (bound-by p ps m) = all-append (λ (r : ℕ). runs 14 r ≡ true) (each flat-pair ps) (entry actual-role m ∷ []) (pairs-inner ps) (refl, tt)
 
 -- ---- pairs are read back
 
@@ -98,15 +98,15 @@ unfolding pairs-from each flat-pair pick
 pairs-told text tape [] zero i h s q = refl
 pairs-told text tape [] (suc c) i h s q =
     let z : i + 0 ≡ i = omega arith in
-    rw (ap (λ (j : ℕ). eqb (role-at tape j) 14) (sym z) ∙ q)
+    rw (ap (λ (j : ℕ). eqb (role-at tape j) old-role) (sym z) ∙ q)
 pairs-told text tape (p ∷ ps) zero i h s q = absurd (omega arith)
 pairs-told text tape (p ∷ ps) (suc c) i h s q =
     let z : i + 2 + length (each flat-pair ps) ≡ i + suc (suc (length (each flat-pair ps))) = omega arith in
     let e : suc (suc i) ≡ i + 2 = omega arith in
     let f : suc i ≡ i + 1 = omega arith in
     let more = pairs-told text tape ps c (i + 2) (omega arith) (subst (λ (j : ℕ). Spells text tape j (each flat-pair ps)) e (s .2 .2))
-    (ap (λ (j : ℕ). eqb (role-at tape j) 14) z ∙ q) in
-    rw (ap (λ (r : ℕ). eqb r 14) (s .0), more) (λ j. record { old = s .1 j; new = (ap (name-at text tape) (sym f) ∙ s .2 .1) j } ∷ ps)
+    (ap (λ (j : ℕ). eqb (role-at tape j) old-role) z ∙ q) in
+    rw (ap (λ (r : ℕ). eqb r old-role) (s .0), more) (λ j. record { old = s .1 j; new = (ap (name-at text tape) (sym f) ∙ s .2 .1) j } ∷ ps)
 
 -- ---- a clause at place i
 
@@ -219,7 +219,7 @@ clauses-run (c ∷ cs) =
 
 -- the import expression stands there, and behind it an entry that is none of its
 pub record ImportAt (text tape : List ℕ) (i : ℕ) (x : Import) : Type 0 where
-  pub first : role-at tape i ≡ 11
+  pub first : role-at tape i ≡ import-role
   pub name : name-at text tape i ≡ x .name
   pub clauses : ClausesAt text tape (i + 1) (x .clauses)
 
@@ -237,7 +237,7 @@ module _ (text tape : List ℕ) (i : ℕ) (x : Import) (is : List Import) (s : I
   import-place : suc i ≡ i + 1
   import-place = omega arith
 
-  import-here : Spells text tape i (entry 11 (x .name) ∷ (each flat-clause (x .clauses) ++ each flat-import is))
+  import-here : Spells text tape i (entry import-role (x .name) ∷ (each flat-clause (x .clauses) ++ each flat-import is))
   unfolding each flat-import
   import-here = s .entries
 

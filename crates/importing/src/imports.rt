@@ -8,6 +8,7 @@ use layout::joining_block;
 use modules::Heads;
 use renaming::join;
 use tables::entries::role_at;
+use tape::roles;
 ghost use mathlib.Core.Path.{_≡_};
 ghost use lib.ListN.{length};
 ghost use Rattle.names.specs.Joint.{joint};
@@ -61,8 +62,8 @@ pub fn imports_from(
     let mut at = i;
     let mut made = so_far;
     while 0 < n {
-        if role_at(&work[0..t], at as usize) == 11 {
-            let end = run_end(&work[0..t], 12, at + 1);
+        if role_at(&work[0..t], at as usize) == roles::IMPORT {
+            let end = run_end(&work[0..t], roles::RENAMING, at + 1);
             match expression(library, text, work, t, h, at) {
                 Made::Refused(k, w) => {
                     return Made::Refused(k, w);

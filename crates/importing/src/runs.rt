@@ -6,6 +6,7 @@ use modules::Heads;
 use modules::find_number;
 use tables::entries::name_at;
 use tables::entries::role_at;
+use tape::roles;
 ghost use mathlib.Core.Path.{_≡_};
 ghost use Prim.Native.Nat.{_-_, _≤_};
 ghost use lib.ListN.{length};
@@ -23,7 +24,7 @@ fn is_of_run(least: u32, role: u32) -> bool
     if role < least {
         return false;
     }
-    role < 17
+    role < roles::VARIABLE
 }
 
 // The first place from i on whose role is not of the run: from 14 up it ends a clause, from 12 up an import expression.

@@ -11,6 +11,7 @@ use modules::Heads;
 use renaming::rename;
 use tables::entries::name_at;
 use tables::entries::role_at;
+use tape::roles;
 ghost use mathlib.Core.Path.{_≡_};
 ghost use mathlib.Core.Bool.{not};
 ghost use Prim.Native.Nat.{_+_, _≤_, _<_};
@@ -54,7 +55,7 @@ fn clause_at(
     requires { ⌜ 1 ≤ end ⌝ }
     ensures { λ r. ⌜ ClauseMade (joint (now (library .entry)) (now (text .entry))) t (now (work .entry)) h i end g b r (now (work .exit)) ⌝ }
 {
-    if role_at(&work[0..t], i as usize) == 12 {
+    if role_at(&work[0..t], i as usize) == roles::RENAMING {
         return rename(library, text, work, t, i + 1, g, b);
     }
     bind_at(library, text, work, t, h, i, end - 1, g, b)
@@ -89,10 +90,10 @@ fn starts_clause(tape: &[u32], i: u32) -> bool
     ensures { λ r. ⌜ r ≡ starts-clause (now (tape .entry)) i ⌝ }
 {
     let role = role_at(tape, i as usize);
-    if role == 12 {
+    if role == roles::RENAMING {
         return true;
     }
-    role == 13
+    role == roles::BINDING
 }
 
 fn other(first: bool) -> bool
@@ -125,7 +126,7 @@ pub fn clauses_from(
     let mut turn = first;
     while 0 < n {
         if starts_clause(&work[0..t], at) {
-            let end = run_end(&work[0..t], 14, at + 1);
+            let end = run_end(&work[0..t], roles::OLD, at + 1);
             match clause_turn(library, text, work, t, h, at, end, f, turn) {
                 Made::Refused(k, w) => {
                     return Made::Refused(k, w);

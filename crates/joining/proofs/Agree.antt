@@ -11,6 +11,7 @@ use borrow.Author.Tests.{lt-ltb, le-ltb, eq-eqb, ne-eqb, eqb-true, eqb-false}
 use Rattle.meaning.specs.Lists.{pick}
 use Rattle.meaning.specs.Names.{same}
 use Rattle.meaning.specs.Origins.{declared-sort, declared-function, declared-variable, Sort, hidden-sort, Head, visible-head, hidden-head, sort-shape, function-shape, variable-shape, same-section, hidden-section, same-declared, same-origin, same-sort, same-type, same-shape, same-head}
+use Rattle.laws.specs.Decides.{names-decided, origins-decided, sorts-decided, types-decided}
 use Rattle.names.specs.Word.{name-of}
 use Rattle.tape.specs.Tape.{variable-role}
 use Rattle.tables.specs.declared.Origin.{Origin}
@@ -18,8 +19,7 @@ use Rattle.tables.specs.declared.Row.{Row}
 use Rattle.tables.specs.declared.Section.the-variants.{Hidden}
 use Rattle.tables.specs.Entries.{role-at, name-at, names-from, is-function-role, arity-at, sort-place, declared-at, home-at}
 use Rattle.tables.specs.Kinds.{kind-at}
-use Rattle.tables.specs.Rows.{section-of, origin-of, hidden-origin, sort-of, type-of, shape-of, item-of, row-at}
-use Rattle.tables.specs.Decides.{names-decided, origins-decided, sorts-decided, types-decided}
+use Rattle.tables.specs.Rows.{section-of, origin-of, hidden-origin, sort-of, type-of, shape-of, item-of, row-at, row-size}
 use Rattle.forms.specs.Forms.{Node, function-node, variable-node, node-row, node-shape, node-of, node-in}
 use Rattle.forms.specs.Flat.{same-node}
 use Rattle.joining.specs.Joined.{node-sort, functions-agree}
@@ -253,11 +253,11 @@ module _ (text tape : List ℕ) (u : ℕ) (a : Row) (v : ℕ) (b : Row) where
 -- ---- `node_row`, `same_node`
 
 module _ (w : List ℕ) (visible hidden v : ℕ) (r : Row) where
-  pub row-visible : v / 16 % 2 ≡ 0 → r ≡ row-at w (visible + v / 32 * 16) → r ≡ node-row w visible hidden v
+  pub row-visible : v / 16 % 2 ≡ 0 → r ≡ row-at w (visible + v / 32 * row-size) → r ≡ node-row w visible hidden v
   unfolding node-row pick
   row-visible h e = rw (eq-eqb (v / 16 % 2) 0 h) e
 
-  pub row-hidden : (v / 16 % 2 ≡ 0 → ⊥) → r ≡ row-at w (hidden + v / 32 * 16) → r ≡ node-row w visible hidden v
+  pub row-hidden : (v / 16 % 2 ≡ 0 → ⊥) → r ≡ row-at w (hidden + v / 32 * row-size) → r ≡ node-row w visible hidden v
   unfolding node-row pick
   row-hidden h e = rw (ne-eqb (v / 16 % 2) 0 h) e
 

@@ -1,37 +1,21 @@
--- Laws of equations: rows moved in and out, one found among a form's, one absorbed, and all of a form's.
+-- Laws of equations: one found among a form's, one absorbed, and all of a form's.
 use mathlib.Core.Path.{_≡_, refl, sym, ap, _∙_}
 use mathlib.Core.Bool.{Bool, true, false}
-use mathlib.Core.List.{List, [], _∷_}
+use mathlib.Core.List.{List}
 use Prim.Native.Nat.{ℕ, suc, _+_, _-_, _*_, _<_, _≤_}
-use native.Mathlib.Numerals.{add-one, add-two, add-three}
+use native.Mathlib.Numerals.{add-one}
 use native.Mathlib.Nat.{sub-zero}
 use native.Mathlib.Omega.{arith}
-use lib.ListN.{length, getD, set}
+use lib.ListN.{length}
 use lib.Seq.{sets}
 use borrow.Author.Needs.{needs}
 use borrow.Author.Tests.{lt-ltb, le-ltb, eq-eqb, ne-eqb}
 use Rattle.meaning.specs.Lists.{pick}
 use Rattle.forms.specs.declared.Form.{Form}
 use Rattle.forms.specs.declared.EquationRow.{EquationRow}
-use Rattle.forms.specs.Forms.{equation-row-at}
+use Rattle.forms.specs.Forms.{equation-row-at, equation-words, equation-size}
 use Rattle.joining.specs.declared.Notes.{Notes}
-use Rattle.joining.specs.Joined.{copied, same-run, same-equation, has-equation, equation-words, with-counts, Out, out, settled, joined-row, joined}
-
--- ---- rows
-
-pub equation-read : (w : List ℕ) (base i b home position tag conditions start count : ℕ) → b ≡ base + i * 8 → home ≡ getD w b 0
-    → position ≡ getD w (b + 1) 0 → tag ≡ getD w (b + 2) 0 → conditions ≡ getD w (b + 3) 0 → start ≡ getD w (b + 4) 0 → count ≡ getD w (b + 5) 0
-    → _≡_ {A = EquationRow} (record { home = home; position = position; tag = tag; conditions = conditions; start = start; count = count }) (equation-row-at w (base + i * 8))
-unfolding equation-row-at
-equation-read w base i b home position tag conditions start count e h p t c s n = rw (← e, h, p, t, c, s, n)
-
-pub three-put : (w w₁ w₂ w₃ : List ℕ) (b x y z : ℕ) → w₁ ≡ set w b x → w₂ ≡ set w₁ (b + 1) y → w₃ ≡ set w₂ (b + 2) z → w₃ ≡ sets w b (x ∷ y ∷ z ∷ [])
-three-put w w₁ w₂ w₃ b x y z e f g = rw (g, f, e, add-one b, add-two b)
-
-pub equation-written : (w w₁ w₂ : List ℕ) (base i b start : ℕ) (q : EquationRow) → b ≡ base + i * 8 → w₁ ≡ sets w b (q .home ∷ q .position ∷ q .tag ∷ [])
-    → w₂ ≡ sets w₁ (b + 3) (q .conditions ∷ start ∷ q .count ∷ []) → w₂ ≡ sets w (base + i * 8) (equation-words q start)
-unfolding equation-words
-equation-written w w₁ w₂ base i b start q e f g = rw (← e, g, f, add-three b)
+use Rattle.joining.specs.Joined.{copied, same-run, same-equation, has-equation, with-counts, Out, out, settled, joined-row, joined}
 
 -- ---- `same_equation`
 
@@ -57,8 +41,8 @@ module _ (text : List ℕ) (t : ℕ) (w : List ℕ) (f : Form) (q r : EquationRo
 
 -- ---- `is_equation`, `has_equation`
 
-pub row-told : (text : List ℕ) (t : ℕ) (w : List ℕ) (f : Form) (q r : EquationRow) (i : ℕ) (b : Bool) → r ≡ equation-row-at w (f .equations + i * 8)
-    → b ≡ same-equation text t w f q r → b ≡ same-equation text t w f q (equation-row-at w (f .equations + i * 8))
+pub row-told : (text : List ℕ) (t : ℕ) (w : List ℕ) (f : Form) (q r : EquationRow) (i : ℕ) (b : Bool) → r ≡ equation-row-at w (f .equations + i * equation-size)
+    → b ≡ same-equation text t w f q r → b ≡ same-equation text t w f q (equation-row-at w (f .equations + i * equation-size))
 row-told text t w f q r i b e g = g ∙ ap (same-equation text t w f q) e
 
 pub record Seeking (text : List ℕ) (t : ℕ) (w : List ℕ) (f : Form) (q : EquationRow) (n i : ℕ) : Type 0 where
@@ -70,7 +54,7 @@ module _ (text : List ℕ) (t : ℕ) (w : List ℕ) (f : Form) (q : EquationRow)
   seek-start = record { inside = omega arith; comes = rw sub-zero }
 
   module _ (i : ℕ) (inv : Seeking text t w f q n i) where
-    module _ (b : Bool) (h : i < n) (e : b ≡ same-equation text t w f q (equation-row-at w (f .equations + i * 8))) where
+    module _ (b : Bool) (h : i < n) (e : b ≡ same-equation text t w f q (equation-row-at w (f .equations + i * equation-size))) where
       step : has-equation text t w f q i (n - i) ≡ pick b true (has-equation text t w f q (suc i) (n - (i + 1)))
       unfolding has-equation
       step = let l : n - i ≡ suc (n - (i + 1)) = omega arith in ap (has-equation text t w f q i) l ∙ rw (← e)
@@ -97,7 +81,7 @@ module _ (text : List ℕ) (t : ℕ) (w : List ℕ) (f : Form) (q : EquationRow)
   unfolding settled pick
   settle-found h = rw (← e, h)
 
-  pub settle-new : (w′ : List ℕ) (r : Form) → b ≡ false → w′ ≡ sets w (f .equations + f .«equation_count» * 8) (equation-words q (f .«node_count»))
+  pub settle-new : (w′ : List ℕ) (r : Form) → b ≡ false → w′ ≡ sets w (f .equations + f .«equation_count» * equation-size) (equation-words q (f .«node_count»))
       → r ≡ with-counts f (f .«equation_count» + 1) (f .«node_count» + q .count) → out r w′ ≡ settled text t w f q
   unfolding settled pick
   settle-new w′ r h ew er = rw (← e, h, ew, er)
@@ -121,8 +105,8 @@ module _ (text : List ℕ) (t : ℕ) (w : List ℕ) (g : Form) (q : EquationRow)
     row-settled w₁ w₂ r l e x =
         rw (lt-ltb (f .«equation_count») (o .«equation_room») h, le-ltb (o .«node_room») (f .«node_count» + q .count) l, ← e) x
 
-pub row-joined : (text : List ℕ) (t : ℕ) (w w′ : List ℕ) (g : Form) (q : EquationRow) (k : ℕ) (o : Notes) (f r : Form) → q ≡ equation-row-at w (g .equations + k * 8)
-    → out r w′ ≡ joined-row text t w g q o f → out r w′ ≡ joined-row text t w g (equation-row-at w (g .equations + k * 8)) o f
+pub row-joined : (text : List ℕ) (t : ℕ) (w w′ : List ℕ) (g : Form) (q : EquationRow) (k : ℕ) (o : Notes) (f r : Form) → q ≡ equation-row-at w (g .equations + k * equation-size)
+    → out r w′ ≡ joined-row text t w g q o f → out r w′ ≡ joined-row text t w g (equation-row-at w (g .equations + k * equation-size)) o f
 row-joined text t w w′ g q k o f r e x = x ∙ ap (λ (p : EquationRow). joined-row text t w g p o f) e
 
 -- ---- `absorb_equations`
@@ -144,7 +128,7 @@ module _ (text : List ℕ) (t : ℕ) (w₀ : List ℕ) (g : Form) (n : ℕ) (o :
     join-tape l = rw (inv .sized) l
 
     pub join-again : (w′ : List ℕ) (r : Form) → k < n → length w′ ≡ length w
-        → out r w′ ≡ joined-row text t w g (equation-row-at w (g .equations + k * 8)) o h → Joining text t w₀ g n o f w′ r (k + 1)
+        → out r w′ ≡ joined-row text t w g (equation-row-at w (g .equations + k * equation-size)) o h → Joining text t w₀ g n o f w′ r (k + 1)
     unfolding joined
     join-again w′ r l s x =
         let c : n - k ≡ suc (n - (k + 1)) = omega arith in
@@ -160,7 +144,7 @@ module _ (text : List ℕ) (t : ℕ) (w₀ : List ℕ) (g : Form) (n : ℕ) (o :
     unfolding joined
     join-end l = let c : n - k ≡ 0 = omega arith in sym (ap (λ (m : ℕ). joined text t w g k m o h) c) ∙ inv .comes
 
-pub ruleset equations = (equation-read, three-put, equation-written, one-home, one-position, one-count, one-run, row-told)
+pub ruleset equations = (one-home, one-position, one-count, one-run, row-told)
 
 pub ruleset settling = (seek-start, seek-again, seek-found, seek-end, settle-found, settle-new, row-full, nodes-full, row-settled, row-joined)
 

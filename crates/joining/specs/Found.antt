@@ -13,11 +13,11 @@ use Rattle.meaning.specs.Lists.{pick, agree, any}
 use Rattle.meaning.specs.Names.{Name}
 use Rattle.meaning.specs.Origins.{FunctionType, ResolvedEquation, one-equation, Shape, sort-shape, function-shape, variable-shape, is-sort, is-function, Item}
 use Rattle.meaning.specs.Normal.{move-shape}
-use Rattle.tables.specs.Rows.{item-of, row-at}
+use Rattle.tables.specs.Rows.{item-of, row-at, row-size}
 use Rattle.forms.specs.declared.Form.{Form}
 use Rattle.forms.specs.declared.EquationRow.{EquationRow}
 use Rattle.forms.specs.Memory.{part}
-use Rattle.forms.specs.Forms.{Node, flat-equation, node-row, node-of, node-in, node-item, nodes-of, equation-row-at, EquationStands, EquationsStand, VisiblePoint, HiddenPoint}
+use Rattle.forms.specs.Forms.{Node, flat-equation, node-row, node-of, node-in, node-item, nodes-of, equation-row-at, EquationStands, EquationsStand, VisiblePoint, HiddenPoint, equation-size}
 use Rattle.forms.specs.Flat.{same-node, one-flat}
 use Rattle.forms.specs.FlatMoves.{move-node}
 use Rattle.forms.specs.Frames.{Points}
@@ -80,14 +80,14 @@ module _ (text : List ℕ) (t : ℕ) (w : List ℕ) (f : Form) (q : EquationRow)
       ∙ sym (one-flat y d)
 
   -- and sought among all
-  pub found-meant : (i : ℕ) (ds : List ResolvedEquation) → EquationsStand text (part w 0 t) w f (f .equations + i * 8) ds
+  pub found-meant : (i : ℕ) (ds : List ResolvedEquation) → EquationsStand text (part w 0 t) w f (f .equations + i * equation-size) ds
       → has-equation text t w f q i (length ds) ≡ any (one-equation y) ds
   unfolding has-equation any
   found-meant i [] s = refl
   found-meant i (d ∷ ds) s =
-      let e : f .equations + i * 8 + 8 ≡ f .equations + suc i * 8 = omega arith in
+      let e : f .equations + i * equation-size + equation-size ≡ f .equations + suc i * equation-size = omega arith in
       let rest = found-meant (suc i) ds (subst (λ (b : ℕ). EquationsStand text (part w 0 t) w f b ds) e (s .1)) in
-      ap₂ (λ (x : Bool) (r : Bool). pick x true r) (same-meant (equation-row-at w (f .equations + i * 8)) d (s .0)) rest
+      ap₂ (λ (x : Bool) (r : Bool). pick x true r) (same-meant (equation-row-at w (f .equations + i * equation-size)) d (s .0)) rest
 
 -- ---- a node through the notes
 
@@ -99,12 +99,12 @@ pointable visible s = pick visible (is-function s) (not (is-sort s))
 -- stands what the translation makes of the source's. Nothing is said of what no node points at: a binding drops some of it
 pub record Noted (σ : Name → Name) (φ : Name → FunctionType → Name) (text tape w : List ℕ) (visible : Bool) (o source c base n : ℕ) : Type 0 where
   pub small : n ≤ 65536
-  pub inside : (i : ℕ) → i < c → pointable visible (item-of text tape (row-at w (source + i * 16)) .shape) ≡ true → getD w (o + i) 0 < n
-  pub node : (i : ℕ) → i < c → pointable visible (item-of text tape (row-at w (source + i * 16)) .shape) ≡ true → (k : ℕ)
-      → node-of visible k (item-of text tape (row-at w (base + getD w (o + i) 0 * 16)))
-      ≡ move-node σ φ (node-of visible k (item-of text tape (row-at w (source + i * 16))))
-  pub shape : (i : ℕ) → i < c → pointable visible (item-of text tape (row-at w (source + i * 16)) .shape) ≡ true
-      → item-of text tape (row-at w (base + getD w (o + i) 0 * 16)) .shape ≡ move-shape σ φ (item-of text tape (row-at w (source + i * 16)) .shape)
+  pub inside : (i : ℕ) → i < c → pointable visible (item-of text tape (row-at w (source + i * row-size)) .shape) ≡ true → getD w (o + i) 0 < n
+  pub node : (i : ℕ) → i < c → pointable visible (item-of text tape (row-at w (source + i * row-size)) .shape) ≡ true → (k : ℕ)
+      → node-of visible k (item-of text tape (row-at w (base + getD w (o + i) 0 * row-size)))
+      ≡ move-node σ φ (node-of visible k (item-of text tape (row-at w (source + i * row-size))))
+  pub shape : (i : ℕ) → i < c → pointable visible (item-of text tape (row-at w (source + i * row-size)) .shape) ≡ true
+      → item-of text tape (row-at w (base + getD w (o + i) 0 * row-size)) .shape ≡ move-shape σ φ (item-of text tape (row-at w (source + i * row-size)) .shape)
 
 -- the notes of all rows of g, which point at rows of f
 abbrev pub VisibleNoted : (Name → Name) → (Name → FunctionType → Name) → List ℕ → List ℕ → List ℕ → Notes → Form → Form → Type 0
@@ -115,11 +115,11 @@ HiddenNoted σ φ text tape w o g f = Noted σ φ text tape w false (o .hidden) 
 
 -- what stands at a node, by its side
 module _ (text tape w : List ℕ) (f : Form) (v : ℕ) where
-  pub item-visible : v / 16 % 2 ≡ 0 → node-item text tape w f v ≡ item-of text tape (row-at w (f .visible + v / 32 * 16))
+  pub item-visible : v / 16 % 2 ≡ 0 → node-item text tape w f v ≡ item-of text tape (row-at w (f .visible + v / 32 * row-size))
   unfolding node-item node-row pick
   item-visible h = rw h
 
-  pub item-hidden : v / 16 % 2 ≡ 1 → node-item text tape w f v ≡ item-of text tape (row-at w (f .hidden + v / 32 * 16))
+  pub item-hidden : v / 16 % 2 ≡ 1 → node-item text tape w f v ≡ item-of text tape (row-at w (f .hidden + v / 32 * row-size))
   unfolding node-item node-row pick
   item-hidden h = rw h
 
@@ -140,11 +140,13 @@ module _ (σ : Name → Name) (φ : Name → FunctionType → Name) where
 pub record Goes (text tape w z : List ℕ) (move : Node → Node) (visible : Bool) (o source base n i : ℕ) : Type 0 where
   pub small : n ≤ 65536
   pub inside : getD z (o + i) 0 < n
-  pub node : (k : ℕ) → node-of visible k (item-of text tape (row-at z (base + getD z (o + i) 0 * 16)))
-      ≡ move (node-of visible k (item-of text tape (row-at w (source + i * 16))))
-  pub sort : is-sort (item-of text tape (row-at z (base + getD z (o + i) 0 * 16)) .shape) ≡ is-sort (item-of text tape (row-at w (source + i * 16)) .shape)
+  pub node : (k : ℕ) → node-of visible k (item-of text tape (row-at z (base + getD z (o + i) 0 * row-size)))
+      ≡ move (node-of visible k (item-of text tape (row-at w (source + i * row-size))))
+  pub sort : is-sort (item-of text tape (row-at z (base + getD z (o + i) 0 * row-size)) .shape)
+      ≡ is-sort (item-of text tape (row-at w (source + i * row-size)) .shape)
   pub function :
-      is-function (item-of text tape (row-at z (base + getD z (o + i) 0 * 16)) .shape) ≡ is-function (item-of text tape (row-at w (source + i * 16)) .shape)
+      is-function (item-of text tape (row-at z (base + getD z (o + i) 0 * row-size)) .shape)
+      ≡ is-function (item-of text tape (row-at w (source + i * row-size)) .shape)
 
 -- what is told of a node's word by the note that it went through
 record Passed (v moved note : ℕ) : Type 0 where
@@ -180,7 +182,7 @@ module _ (text tape w z : List ℕ) (move : Node → Node) (vn hn : ℕ) (g f : 
     visible-pointed : VisiblePoint text tape w g v → Points text tape z f moved
     visible-pointed point =
         let x = visible-passed in
-        let there = item-visible text tape z f moved (x .side ∙ side) ∙ ap (λ (r : ℕ). item-of text tape (row-at z (f .visible + r * 16))) (x .row) in
+        let there = item-visible text tape z f moved (x .side ∙ side) ∙ ap (λ (r : ℕ). item-of text tape (row-at z (f .visible + r * row-size))) (x .row) in
         record {
           visible = λ e. record {
             inside = omega (arith, x .row, went .inside);
@@ -206,7 +208,7 @@ module _ (text tape w z : List ℕ) (move : Node → Node) (vn hn : ℕ) (g f : 
     hidden-pointed point =
         let x = hidden-passed in
         let here = item-hidden text tape w g v side in
-        let there = item-hidden text tape z f moved (x .side ∙ side) ∙ ap (λ (r : ℕ). item-of text tape (row-at z (f .hidden + r * 16))) (x .row) in
+        let there = item-hidden text tape z f moved (x .side ∙ side) ∙ ap (λ (r : ℕ). item-of text tape (row-at z (f .hidden + r * row-size))) (x .row) in
         record {
           visible = λ e. absurd (omega (arith, x .side, side, e));
           hidden = λ e. record {
@@ -235,7 +237,7 @@ module _ (text tape w z : List ℕ) (move : Node → Node) (vn hn : ℕ) (g f : 
 -- node v of g through notes that are right
 module _ (σ : Name → Name) (φ : Name → FunctionType → Name) (text tape w : List ℕ) (o : Notes) (g f : Form) (v : ℕ) where
   goes : (shown : Bool) (at source c base n i : ℕ) → Noted σ φ text tape w shown at source c base n → i < c
-      → pointable shown (item-of text tape (row-at w (source + i * 16)) .shape) ≡ true → Goes text tape w w (move-node σ φ) shown at source base n i
+      → pointable shown (item-of text tape (row-at w (source + i * row-size)) .shape) ≡ true → Goes text tape w w (move-node σ φ) shown at source base n i
   goes shown at source c base n i x h p = record {
     small = x .small;
     inside = x .inside i h p;

@@ -12,11 +12,11 @@ use Rattle.meaning.specs.Lists.{pick}
 use Rattle.forms.specs.declared.Form.{Form}
 use Rattle.forms.specs.declared.EquationRow.{EquationRow}
 use Rattle.forms.specs.Memory.{Kept, KeptTwo}
-use Rattle.forms.specs.Forms.{equation-row-at}
+use Rattle.forms.specs.Forms.{equation-row-at, equation-words, equation-size}
 use Rattle.forms.specs.FormLaws.{kept-all, kept-set, kept-sets}
 use Rattle.frames.specs.Changes.{onward, wider, at-first, at-second, onward-two, wider-two}
 use Rattle.joining.specs.declared.Notes.{Notes}
-use Rattle.joining.specs.Joined.{renode, copied, has-equation, equation-words, with-counts, Out, out, settled, joined-row, joined}
+use Rattle.joining.specs.Joined.{renode, copied, has-equation, with-counts, Out, out, settled, joined-row, joined}
 
 pub copy-kept : (w : List ℕ) (v h a b c : ℕ) → Kept b (b + c) w (copied w v h a b c)
 unfolding copied
@@ -28,7 +28,8 @@ copy-kept w v h a b (suc c) =
 -- the words that may change when f grows to its room
 abbrev pub Behind : Notes → Form → List ℕ → List ℕ → Type 0
 Behind o f w w′ =
-    KeptTwo (f .equations + f .«equation_count» * 8) (f .equations + o .«equation_room» * 8) (f .nodes + f .«node_count») (f .nodes + o .«node_room») w w′
+    KeptTwo (f .equations + f .«equation_count» * equation-size) (f .equations + o .«equation_room» * equation-size) (f .nodes + f .«node_count»)
+    (f .nodes + o .«node_room») w w′
 
 -- f of memory w has become r of w′
 pub record Grown (o : Notes) (f : Form) (w : List ℕ) (r : Form) (w′ : List ℕ) : Type 0 where
@@ -72,7 +73,7 @@ module _ (o : Notes) where
     settled-grown w = go (has-equation text t w f q 0 (f .«equation_count»))
       where
         more : Out
-        more = out (with-counts f (f .«equation_count» + 1) (f .«node_count» + q .count)) (sets w (f .equations + f .«equation_count» * 8) (equation-words q (f .«node_count»)))
+        more = out (with-counts f (f .«equation_count» + 1) (f .«node_count» + q .count)) (sets w (f .equations + f .«equation_count» * equation-size) (equation-words q (f .«node_count»)))
 
         go : (b : Bool) → Grown o f w (pick b (out f w) more .form) (pick b (out f w) more .work)
         go true = grown-none f w
@@ -82,7 +83,7 @@ module _ (o : Notes) where
           more-nodes = omega arith;
           few-equations = λ l. omega arith;
           few-nodes = λ l. fits;
-          kept = at-first (wider (omega arith) (kept-sets (equation-words q (f .«node_count»)) w (f .equations + f .«equation_count» * 8)));
+          kept = at-first (wider (omega arith) (kept-sets (equation-words q (f .«node_count»)) w (f .equations + f .«equation_count» * equation-size)));
         }
 
   row-grown : (text : List ℕ) (t : ℕ) (w : List ℕ) (g : Form) (q : EquationRow) (f : Form)
@@ -116,6 +117,6 @@ module _ (o : Notes) where
   unfolding joined
   joined-grown text t w g k zero f = grown-none f w
   joined-grown text t w g k (suc c) f =
-      let x = joined-row text t w g (equation-row-at w (g .equations + k * 8)) o f in
+      let x = joined-row text t w g (equation-row-at w (g .equations + k * equation-size)) o f in
       grown-then f (x .form) (joined text t (x .work) g (suc k) c o (x .form) .form) w (x .work) (joined text t (x .work) g (suc k) c o (x .form) .work)
-      (row-grown text t w g (equation-row-at w (g .equations + k * 8)) f) (joined-grown text t (x .work) g (suc k) c (x .form))
+      (row-grown text t w g (equation-row-at w (g .equations + k * equation-size)) f) (joined-grown text t (x .work) g (suc k) c (x .form))

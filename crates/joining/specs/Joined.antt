@@ -2,7 +2,7 @@
 -- with a row more, or dropped by not moving the counts.
 use Prim.Native.Nat.{ℕ, zero, suc, _+_, _*_, _/_, _%_}
 use mathlib.Core.Bool.{Bool, true, false}
-use mathlib.Core.List.{List, [], _∷_}
+use mathlib.Core.List.{List}
 use lib.Dec.{eqb, ltb}
 use lib.ListN.{getD, set}
 use lib.Seq.{sets}
@@ -15,7 +15,7 @@ use Rattle.tables.specs.Rows.{origin-of, sort-of, shape-of}
 use Rattle.forms.specs.declared.Form.{Form}
 use Rattle.forms.specs.declared.EquationRow.{EquationRow}
 use Rattle.forms.specs.Memory.{part}
-use Rattle.forms.specs.Forms.{node-in, equation-row-at}
+use Rattle.forms.specs.Forms.{node-in, equation-row-at, equation-words, equation-size}
 use Rattle.forms.specs.Flat.{same-node}
 use Rattle.joining.specs.declared.Notes.{Notes}
 
@@ -73,11 +73,7 @@ same-equation text t w f q r =
 unfoldable pub has-equation : List ℕ → ℕ → List ℕ → Form → EquationRow → ℕ → ℕ → Bool
 has-equation text t w f q i zero = false
 has-equation text t w f q i (suc c) =
-    let r = has-equation text t w f q (suc i) c in pick (same-equation text t w f q (equation-row-at w (f .equations + i * 8))) true r
-
--- a row's words, its nodes from `start` on
-unfoldable pub equation-words : EquationRow → ℕ → List ℕ
-equation-words q start = q .home ∷ q .position ∷ q .tag ∷ q .conditions ∷ start ∷ q .count ∷ []
+    let r = has-equation text t w f q (suc i) c in pick (same-equation text t w f q (equation-row-at w (f .equations + i * equation-size))) true r
 
 -- the form with other numbers of equations and of nodes
 unfoldable pub with-counts : Form → ℕ → ℕ → Form
@@ -105,7 +101,7 @@ out f w = record { form = f; work = w }
 -- q, whose nodes stand behind those of f: dropped where it is there, else a row more
 unfoldable pub settled : List ℕ → ℕ → List ℕ → Form → EquationRow → Out
 settled text t w f q =
-    let more = out (with-counts f (f .«equation_count» + 1) (f .«node_count» + q .count)) (sets w (f .equations + f .«equation_count» * 8) (equation-words q (f .«node_count»))) in
+    let more = out (with-counts f (f .«equation_count» + 1) (f .«node_count» + q .count)) (sets w (f .equations + f .«equation_count» * equation-size) (equation-words q (f .«node_count»))) in
     pick (has-equation text t w f q 0 (f .«equation_count»)) (out f w) more
 
 -- the equation q of g absorbed into f. Where there is no room nothing changes
@@ -119,4 +115,4 @@ joined-row text t w g q o f =
 unfoldable pub joined : List ℕ → ℕ → List ℕ → Form → ℕ → ℕ → Notes → Form → Out
 joined text t w g k zero o f = out f w
 joined text t w g k (suc c) o f =
-    let x = joined-row text t w g (equation-row-at w (g .equations + k * 8)) o f in joined text t (x .work) g (suc k) c o (x .form)
+    let x = joined-row text t w g (equation-row-at w (g .equations + k * equation-size)) o f in joined text t (x .work) g (suc k) c o (x .form)

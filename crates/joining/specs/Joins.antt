@@ -16,17 +16,18 @@ use Rattle.meaning.specs.Origins.{FunctionType, ResolvedEquation, one-equation}
 use Rattle.meaning.specs.Normal.{Normal, move-sides, move-equation}
 use Rattle.meaning.specs.Checks.{equation-nodes}
 use Rattle.meaning.specs.OrderLaws.{Every}
+use Rattle.tables.specs.Rows.{row-size}
 use Rattle.forms.specs.declared.Form.{Form}
 use Rattle.forms.specs.declared.EquationRow.{EquationRow}
 use Rattle.forms.specs.Memory.{part, Kept}
-use Rattle.forms.specs.Forms.{nodes-of, flat-equation, equation-row-at, EquationStands, EquationsStand, Pointing, Stands}
+use Rattle.forms.specs.Forms.{nodes-of, flat-equation, equation-row-at, EquationStands, EquationsStand, Pointing, Stands, equation-words, equation-size, slot-size}
 use Rattle.forms.specs.FormLaws.{Apart, kept-all, kept-sets, kept-same}
 use Rattle.forms.specs.Blocks.{Outside}
 use Rattle.forms.specs.FullLists.{take-union}
 use Rattle.forms.specs.Frames.{Points, points-at, each-points, Stays, kept-stays, points-stay, node-stays}
 use Rattle.frames.specs.Changes.{onward, wider, apart-in, tape-kept, still-stands}
 use Rattle.joining.specs.declared.Notes.{Notes}
-use Rattle.joining.specs.Joined.{renode, copied, equation-words, with-counts, Out, out, settled, joined-row, joined}
+use Rattle.joining.specs.Joined.{renode, copied, with-counts, Out, out, settled, joined-row, joined}
 use Rattle.joining.specs.Grown.{copy-kept}
 use Rattle.joining.specs.Found.{VisibleNoted, HiddenNoted, Copy, node-moved, node-pointed}
 use Rattle.joining.specs.Unions.{sum-within, every-after, take-union-then}
@@ -44,13 +45,13 @@ pub record Joining (σ : Name → Name) (φ : Name → FunctionType → Name) (t
   pub visible-noted : VisibleNoted σ φ text (part w 0 t) w o g f
   pub hidden-noted : HiddenNoted σ φ text (part w 0 t) w o g f
   pub tape : t ≤ f .equations
-  pub rows : f .equations + o .«equation_room» * 8 ≤ f .nodes
+  pub rows : f .equations + o .«equation_room» * equation-size ≤ f .nodes
   pub nodes : f .nodes + o .«node_room» ≤ length w
   pub source-nodes : g .nodes + g .«node_count» ≤ length w
   pub outside-source : Outside (f .equations) (f .nodes + o .«node_room») g
-  pub outside-parameters : Apart (f .equations) (f .nodes + o .«node_room») (f .parameters) (f .parameters + f .«parameter_count» * 2)
-  pub outside-visible : Apart (f .equations) (f .nodes + o .«node_room») (f .visible) (f .visible + f .«visible_count» * 16)
-  pub outside-hidden : Apart (f .equations) (f .nodes + o .«node_room») (f .hidden) (f .hidden + f .«hidden_count» * 16)
+  pub outside-parameters : Apart (f .equations) (f .nodes + o .«node_room») (f .parameters) (f .parameters + f .«parameter_count» * slot-size)
+  pub outside-visible : Apart (f .equations) (f .nodes + o .«node_room») (f .visible) (f .visible + f .«visible_count» * row-size)
+  pub outside-hidden : Apart (f .equations) (f .nodes + o .«node_room») (f .hidden) (f .hidden + f .«hidden_count» * row-size)
   pub outside-visible-notes : Apart (f .equations) (f .nodes + o .«node_room») (o .visible) (o .visible + g .«visible_count»)
   pub outside-hidden-notes : Apart (f .equations) (f .nodes + o .«node_room») (o .hidden) (o .hidden + g .«hidden_count»)
   pub enough : o .«equation_room» * node-limit ≤ o .«node_room»
@@ -101,7 +102,7 @@ module _ (σ : Name → Name) (φ : Name → FunctionType → Name) (text : List
         }
 
     -- what lies among the rows and nodes, but not in those that f has already
-    outside-part : (a e m : ℕ) → f .equations ≤ a → e ≤ high → f .equations + f .«equation_count» * 8 ≤ a
+    outside-part : (a e m : ℕ) → f .equations ≤ a → e ≤ high → f .equations + f .«equation_count» * equation-size ≤ a
         → Apart a e (f .nodes) (f .nodes + m) → Outside a e (with-counts f (f .«equation_count») m)
     unfolding with-counts
     outside-part a e m h l r p = record {
@@ -219,7 +220,7 @@ module _ (σ : Name → Name) (φ : Name → FunctionType → Name) (text : List
         new-joining =
             let ds = to .hidden .equations in
             let y = move-equation σ φ e in
-            let b = f .equations + f .«equation_count» * 8 in
+            let b = f .equations + f .«equation_count» * equation-size in
             let w₁ = copy-of in
             let w₂ = with-row copy-of f q in
             let row : Kept (f .equations) high w₁ w₂ = wider (omega (arith, joining .rows, free)) (kept-sets (equation-words q (f .«node_count»)) w₁ b) in
@@ -234,7 +235,8 @@ module _ (σ : Name → Name) (φ : Name → FunctionType → Name) (text : List
             kept (omega (arith, free))
             (subst (λ (es : List ResolvedEquation). Stands text (part w₂ 0 t) w₂ (with-more f q) (with-equations to es))
             (sym (take-all (o .«equation_room») (ds ++ (y ∷ [])) (omega (arith, length-append ds (y ∷ []), joining .target .equation-count, free))))
-            (subst (λ (tape : List ℕ). Stands text tape w₂ (with-more f q) (with-equations to (ds ++ (y ∷ [])))) (tape-copied ∙ sym (tape-kept (joining .tape) kept)) grown))
+            (subst (λ (tape : List ℕ). Stands text tape w₂ (with-more f q) (with-equations to (ds ++ (y ∷ []))))
+            (tape-copied ∙ sym (tape-kept (joining .tape) kept)) grown))
 
         -- a row that is there
         old-joining : Then to (out f copy-of) (take (o .«equation_room») (to .hidden .equations))
@@ -276,14 +278,14 @@ module _ (σ : Name → Name) (φ : Name → FunctionType → Name) (text : List
       subst (λ (es : List ResolvedEquation). Then to (out f w) es)
       (sym (take-all (o .«equation_room») (to .hidden .equations) (omega (arith, joining .target .equation-count, joining .few)))) joining
   rows-joining k done (e ∷ rest) z s w f to joining =
-      let q = equation-row-at w (g .equations + k * 8) in
+      let q = equation-row-at w (g .equations + k * equation-size) in
       let ds = to .hidden .equations in
       let y = move-equation σ φ e in
       let r = o .«equation_room» in
       let behind = equations-after text (part w 0 t) w g (g .equations) done (e ∷ rest)
       (subst (λ (es : List ResolvedEquation). EquationsStand text (part w 0 t) w g (g .equations) es) s (joining .source .equations)) in
       let stands : EquationStands text (part w 0 t) w g q e =
-      subst (λ (j : ℕ). EquationStands text (part w 0 t) w g (equation-row-at w (g .equations + j * 8)) e) z (behind .0) in
+      subst (λ (j : ℕ). EquationStands text (part w 0 t) w g (equation-row-at w (g .equations + j * equation-size)) e) z (behind .0) in
       let small = every-after (λ (d : ResolvedEquation). equation-nodes d ≤ node-limit) done (e ∷ rest)
       (subst (Every (λ (d : ResolvedEquation). equation-nodes d ≤ node-limit)) s (joining .source .small)) in
       let x = joined-row text t w g q o f in

@@ -8,10 +8,10 @@ use lib.Seq.{sets}
 use Rattle.meaning.specs.Origins.{ResolvedEquation}
 use Rattle.forms.specs.declared.Form.{Form}
 use Rattle.forms.specs.declared.EquationRow.{EquationRow}
-use Rattle.forms.specs.Forms.{nodes-of, node-item, equation-row-at, EquationStands, EquationsStand}
+use Rattle.forms.specs.Forms.{nodes-of, node-item, equation-row-at, EquationStands, EquationsStand, equation-words, equation-size}
 use Rattle.forms.specs.Frames.{Points}
-use Rattle.frames.specs.Changes.{stored}
-use Rattle.joining.specs.Joined.{equation-words, with-counts}
+use Rattle.joining.specs.Joined.{with-counts}
+use Rattle.tables.specs.RowLaws.{stored-there}
 
 -- ---- other counts
 
@@ -38,7 +38,7 @@ module _ (text tape w : List ℕ) (f : Form) (n m : ℕ) where
   pub equations-more : (b : ℕ) (es : List ResolvedEquation) → f .«node_count» ≤ m → EquationsStand text tape w f b es
       → EquationsStand text tape w (with-counts f n m) b es
   equations-more b [] more s = tt
-  equations-more b (e ∷ es) more s = (equation-more (equation-row-at w b) e more (s .0), equations-more (b + 8) es more (s .1))
+  equations-more b (e ∷ es) more s = (equation-more (equation-row-at w b) e more (s .0), equations-more (b + equation-size) es more (s .1))
 
 -- ---- a row more
 
@@ -49,7 +49,7 @@ pub row-back : (w : List ℕ) (b : ℕ) (q : EquationRow) (start : ℕ) → b + 
 unfolding equation-row-at equation-words
 row-back w b q start h =
     let vs = q .home ∷ q .position ∷ q .tag ∷ q .conditions ∷ start ∷ q .count ∷ [] in
-    let there : (i : ℕ) → i < 6 → getD (sets w b vs) (b + i) 0 ≡ getD vs i 0 = λ i l. stored w b vs i l (omega arith) in
+    let there : (i : ℕ) → i < 6 → getD (sets w b vs) (b + i) 0 ≡ getD vs i 0 = λ i l. stored-there w b vs i l (omega arith) in
     let z : b + 0 ≡ b = omega arith in
     let first : getD (sets w b vs) b 0 ≡ q .home = ap (λ (j : ℕ). getD (sets w b vs) j 0) (sym z) ∙ there 0 (omega arith) in
     λ i. record {
@@ -63,18 +63,18 @@ row-back w b q start h =
 
 -- the rows of ds, and behind them one for e
 pub equations-grow : (text tape w : List ℕ) (f : Form) (b : ℕ) (ds : List ResolvedEquation) (e : ResolvedEquation) → EquationsStand text tape w f b ds
-    → EquationStands text tape w f (equation-row-at w (b + length ds * 8)) e → EquationsStand text tape w f b (ds ++ (e ∷ []))
+    → EquationStands text tape w f (equation-row-at w (b + length ds * equation-size)) e → EquationsStand text tape w f b (ds ++ (e ∷ []))
 equations-grow text tape w f b [] e s r =
-    let z : b + 0 * 8 ≡ b = omega arith in
+    let z : b + 0 * equation-size ≡ b = omega arith in
     (subst (λ (j : ℕ). EquationStands text tape w f (equation-row-at w j) e) z r, tt)
 equations-grow text tape w f b (d ∷ ds) e s r =
-    let z : b + suc (length ds) * 8 ≡ b + 8 + length ds * 8 = omega arith in
-    (s .0, equations-grow text tape w f (b + 8) ds e (s .1) (subst (λ (j : ℕ). EquationStands text tape w f (equation-row-at w j) e) z r))
+    let z : b + suc (length ds) * equation-size ≡ b + equation-size + length ds * equation-size = omega arith in
+    (s .0, equations-grow text tape w f (b + equation-size) ds e (s .1) (subst (λ (j : ℕ). EquationStands text tape w f (equation-row-at w j) e) z r))
 
 -- the rows behind those of ds
 pub equations-after : (text tape w : List ℕ) (f : Form) (b : ℕ) (ds es : List ResolvedEquation) → EquationsStand text tape w f b (ds ++ es)
-    → EquationsStand text tape w f (b + length ds * 8) es
-equations-after text tape w f b [] es s = let z : b ≡ b + 0 * 8 = omega arith in subst (λ (j : ℕ). EquationsStand text tape w f j es) z s
+    → EquationsStand text tape w f (b + length ds * equation-size) es
+equations-after text tape w f b [] es s = let z : b ≡ b + 0 * equation-size = omega arith in subst (λ (j : ℕ). EquationsStand text tape w f j es) z s
 equations-after text tape w f b (d ∷ ds) es s =
-    let z : b + 8 + length ds * 8 ≡ b + suc (length ds) * 8 = omega arith in
-    subst (λ (j : ℕ). EquationsStand text tape w f j es) z (equations-after text tape w f (b + 8) ds es (s .1))
+    let z : b + equation-size + length ds * equation-size ≡ b + suc (length ds) * equation-size = omega arith in
+    subst (λ (j : ℕ). EquationsStand text tape w f j es) z (equations-after text tape w f (b + equation-size) ds es (s .1))

@@ -12,7 +12,7 @@ use Rattle.meaning.specs.Names.{Name}
 use Rattle.meaning.specs.Origins.{FunctionType}
 use Rattle.meaning.specs.Normal.{move-shape}
 use Rattle.tables.specs.declared.Row.{Row}
-use Rattle.tables.specs.Rows.{item-of, row-at}
+use Rattle.tables.specs.Rows.{item-of, row-at, row-size}
 use Rattle.tables.specs.RowLaws.{row-same}
 use Rattle.forms.specs.declared.Form.{Form}
 use Rattle.forms.specs.Memory.{Same}
@@ -23,17 +23,18 @@ use Rattle.joining.specs.Joined.{renode, renoded}
 use Rattle.joining.specs.Found.{pointable, Noted}
 
 pub noted-stays : (σ : Name → Name) (φ : Name → FunctionType → Name) (text tape w w′ : List ℕ) (visible : Bool) (o source c base n : ℕ)
-    → Same o (o + c) w w′ → Same source (source + c * 16) w w′ → Same base (base + n * 16) w w′
+    → Same o (o + c) w w′ → Same source (source + c * row-size) w w′ → Same base (base + n * row-size) w w′
     → Noted σ φ text tape w visible o source c base n → Noted σ φ text tape w′ visible o source c base n
 noted-stays σ φ text tape w w′ visible o source c base n s₁ s₂ s₃ x =
     let word : (i : ℕ) → i < c → getD w′ (o + i) 0 ≡ getD w (o + i) 0 = λ i h. s₁ (o + i) (omega arith) (omega arith) in
-    let here : (i : ℕ) → i < c → row-at w′ (source + i * 16) ≡ row-at w (source + i * 16) =
-    λ i h. row-same w w′ (source + i * 16) (λ j a b. s₂ j (omega arith) (omega arith)) in
-    let points : (i : ℕ) → i < c → pointable visible (item-of text tape (row-at w′ (source + i * 16)) .shape) ≡ true
-    → pointable visible (item-of text tape (row-at w (source + i * 16)) .shape) ≡ true =
+    let here : (i : ℕ) → i < c → row-at w′ (source + i * row-size) ≡ row-at w (source + i * row-size) =
+    λ i h. row-same w w′ (source + i * row-size) (λ j a b. s₂ j (omega arith) (omega arith)) in
+    let points : (i : ℕ) → i < c → pointable visible (item-of text tape (row-at w′ (source + i * row-size)) .shape) ≡ true
+    → pointable visible (item-of text tape (row-at w (source + i * row-size)) .shape) ≡ true =
     λ i h z. ap (λ (q : Row). pointable visible (item-of text tape q .shape)) (sym (here i h)) ∙ z in
-    let there : (i : ℕ) → i < c → getD w (o + i) 0 < n → row-at w′ (base + getD w′ (o + i) 0 * 16) ≡ row-at w (base + getD w (o + i) 0 * 16) =
-    λ i h l. ap (λ (r : ℕ). row-at w′ (base + r * 16)) (word i h) ∙ row-same w w′ (base + getD w (o + i) 0 * 16) (λ j a b. s₃ j (omega arith) (omega arith)) in
+    let there : (i : ℕ) → i < c → getD w (o + i) 0 < n → row-at w′ (base + getD w′ (o + i) 0 * row-size) ≡ row-at w (base + getD w (o + i) 0 * row-size) =
+    λ i h l. ap (λ (r : ℕ). row-at w′ (base + r * row-size)) (word i h)
+    ∙ row-same w w′ (base + getD w (o + i) 0 * row-size) (λ j a b. s₃ j (omega arith) (omega arith)) in
     record {
       small = x .small;
       inside = λ i h z. subst (λ (r : ℕ). r < n) (sym (word i h)) (x .inside i h (points i h z));

@@ -15,12 +15,12 @@ use Rattle.names.specs.Word.{name-of}
 use Rattle.forms.specs.declared.Form.{Form}
 use Rattle.forms.specs.declared.EquationRow.{EquationRow}
 use Rattle.forms.specs.Memory.{part}
-use Rattle.forms.specs.Forms.{node-in, nodes-of, flat-equation, equation-row-at, EquationStands, EquationsStand, Pointing, visible-at, Stands}
+use Rattle.forms.specs.Forms.{node-in, nodes-of, flat-equation, equation-row-at, equation-words, EquationStands, EquationsStand, Pointing, visible-at, Stands, equation-size}
 use Rattle.forms.specs.FormLaws.{kept-sets, kept-same, items-same}
 use Rattle.forms.specs.FlatMoves.{equation-count}
 use Rattle.forms.specs.Blocks.{Outside}
 use Rattle.forms.specs.Frames.{Stays, points-at, each-points, kept-stays, pointing-stays, equation-stays, equations-stay, visible-stays}
-use Rattle.joining.specs.Joined.{has-equation, equation-words, with-counts, Out, out, settled}
+use Rattle.joining.specs.Joined.{has-equation, with-counts, Out, out, settled}
 use Rattle.joining.specs.Found.{Copy, found-meant}
 use Rattle.joining.specs.More.{points-more, equations-more, row-back, equations-grow}
 use Rattle.joining.specs.Unions.{sum-more, every-more}
@@ -35,7 +35,7 @@ with-more f q = with-counts f (f .«equation_count» + 1) (f .«node_count» + q
 
 -- the memory with a row more
 abbrev pub with-row : List ℕ → Form → EquationRow → List ℕ
-with-row w f q = sets w (f .equations + f .«equation_count» * 8) (equation-words q (f .«node_count»))
+with-row w f q = sets w (f .equations + f .«equation_count» * equation-size) (equation-words q (f .«node_count»))
 
 -- the normal form with other equations
 abbrev pub with-equations : Normal → List ResolvedEquation → Normal
@@ -57,7 +57,7 @@ module _ (text : List ℕ) (t : ℕ) (w : List ℕ) (f : Form) (q : EquationRow)
 
   found : has-equation text t w f q 0 (f .«equation_count») ≡ any (one-equation y) ds
   found =
-      let z : f .equations ≡ f .equations + 0 * 8 = omega arith in
+      let z : f .equations ≡ f .equations + 0 * equation-size = omega arith in
       ap (has-equation text t w f q 0) (stands .equation-count)
       ∙ found-meant text t w f q y copy 0 ds (subst (λ (b : ℕ). EquationsStand text (part w 0 t) w f b ds) z (stands .equations))
 
@@ -76,13 +76,14 @@ module _ (text : List ℕ) (t : ℕ) (w : List ℕ) (f : Form) (q : EquationRow)
       go false = new
 
   module _ (tag : name-of text (q .tag) ≡ y .tag) (conditions : q .conditions ≡ length (y .conditions)) (small : equation-nodes y ≤ node-limit)
-      (room : f .equations + f .«equation_count» * 8 + 6 ≤ length w) (pointing : Pointing text (part w 0 t) w (with-copy f q))
-      (outside : Outside (f .equations + f .«equation_count» * 8) (f .equations + f .«equation_count» * 8 + 6) (with-copy f q)) where
+      (room : f .equations + f .«equation_count» * equation-size + 6 ≤ length w) (pointing : Pointing text (part w 0 t) w (with-copy f q))
+      (outside : Outside (f .equations + f .«equation_count» * equation-size) (f .equations + f .«equation_count» * equation-size + 6) (with-copy f q)) where
     row-stays : Stays w (with-row w f q) (with-copy f q)
     unfolding equation-words
     row-stays =
-        kept-stays w (with-row w f q) (f .equations + f .«equation_count» * 8) (f .equations + f .«equation_count» * 8 + 6) (with-copy f q)
-        (kept-sets (equation-words q (f .«node_count»)) w (f .equations + f .«equation_count» * 8)) outside
+        kept-stays w (with-row w f q) (f .equations + f .«equation_count» * equation-size) (f .equations + f .«equation_count» * equation-size + 6)
+        (with-copy f q)
+        (kept-sets (equation-words q (f .«node_count»)) w (f .equations + f .«equation_count» * equation-size)) outside
 
     new-row : EquationRow
     new-row = record { home = q .home; position = q .position; tag = q .tag; conditions = q .conditions; start = f .«node_count»; count = q .count }
@@ -95,7 +96,7 @@ module _ (text : List ℕ) (t : ℕ) (w : List ℕ) (f : Form) (q : EquationRow)
 
     old-stand : EquationsStand text (part w 0 t) (with-row w f q) (with-copy f q) (f .equations) ds
     old-stand =
-        let kept = kept-sets (equation-words q (f .«node_count»)) w (f .equations + f .«equation_count» * 8) in
+        let kept = kept-sets (equation-words q (f .«node_count»)) w (f .equations + f .«equation_count» * equation-size) in
         equations-stay text (part w 0 t) w (with-row w f q) (with-copy f q) row-stays pointing (f .equations) ds
         (λ i h l. kept .below i (omega (arith, stands .equation-count)))
         (equations-more text (part w 0 t) w f (f .«equation_count») (f .«node_count» + q .count) (f .equations) ds (omega arith) (stands .equations))
@@ -103,9 +104,9 @@ module _ (text : List ℕ) (t : ℕ) (w : List ℕ) (f : Form) (q : EquationRow)
     grown-stand : EquationsStand text (part w 0 t) (with-row w f q) (with-more f q) (f .equations) (ds ++ (y ∷ []))
     unfolding new-row with-counts
     grown-stand =
-        let row : equation-row-at (with-row w f q) (f .equations + length ds * 8) ≡ new-row =
-        ap (λ (k : ℕ). equation-row-at (with-row w f q) (f .equations + k * 8)) (sym (stands .equation-count))
-        ∙ row-back w (f .equations + f .«equation_count» * 8) q (f .«node_count») room in
+        let row : equation-row-at (with-row w f q) (f .equations + length ds * equation-size) ≡ new-row =
+        ap (λ (k : ℕ). equation-row-at (with-row w f q) (f .equations + k * equation-size)) (sym (stands .equation-count))
+        ∙ row-back w (f .equations + f .«equation_count» * equation-size) q (f .«node_count») room in
         equations-more text (part w 0 t) (with-row w f q) (with-copy f q) (f .«equation_count» + 1) (f .«node_count» + q .count)
         (f .equations) (ds ++ (y ∷ [])) (omega arith)
         (equations-grow text (part w 0 t) (with-row w f q) (with-copy f q) (f .equations) ds y old-stand
@@ -123,7 +124,7 @@ module _ (text : List ℕ) (t : ℕ) (w : List ℕ) (f : Form) (q : EquationRow)
     pub grown-stands : Stands text (part w 0 t) (with-row w f q) (with-more f q) (with-equations n (ds ++ (y ∷ [])))
     unfolding with-counts visible-at equation-words
     grown-stands =
-        let b = f .equations + f .«equation_count» * 8 in
+        let b = f .equations + f .«equation_count» * equation-size in
         let kept = kept-sets (equation-words q (f .«node_count»)) w b in
         let parameters = kept-same b (b + 6) _ _ w (with-row w f q) (outside .parameters) kept in
         let nodes = run-count text (part w 0 t) w f (f .nodes + f .«node_count») (q .count) y (copy .fits) (copy .nodes) in

@@ -1,66 +1,17 @@
-// Equations: rows moved in and out, one found among a form's, one absorbed, and all of a form's.
+// Equations: one found among a form's, one absorbed, and all of a form's.
 use super::Notes;
 use super::nodes::copy_nodes;
 use super::nodes::same_nodes;
 use forms::EquationRow;
 use forms::Form;
-use tables::entries::put_word;
-use tables::entries::word_at;
+use forms::equations::read_equation;
+use forms::equations::write_equation;
 ghost use mathlib.Core.Path.{_≡_};
-ghost use mathlib.Core.List.{[], _∷_};
-ghost use Prim.Native.Nat.{_+_, _*_, _≤_, _<_, _^_};
+ghost use Prim.Native.Nat.{_+_, _*_, _≤_, _<_};
 ghost use lib.ListN.{length};
-ghost use lib.Seq.{sets};
 ghost use Rattle.names.specs.Joint.{joint};
-ghost use Rattle.forms.specs.Forms.{equation-row-at};
-ghost use Rattle.joining.specs.Joined.{same-equation, has-equation, equation-words, with-counts, out, settled, joined-row, joined};
-
-// Row i of a table of equations that starts at `base`.
-fn equation_place(base: u32, i: u32) -> usize
-    ensures { λ r. ⌜ r ≡ base + i * 8 ⌝ }
-{
-    base as usize + i as usize * 8
-}
-
-// The equation at row i of the table that starts at `base`.
-pub fn read_equation(w: &[u32], base: u32, i: u32) -> EquationRow
-    ensures { λ r. ⌜ r ≡ equation-row-at (now (w .entry)) (base + i * 8) ⌝ }
-{
-    let b = equation_place(base, i);
-    let home = word_at(w, b);
-    let position = word_at(w, b + 1);
-    let tag = word_at(w, b + 2);
-    let conditions = word_at(w, b + 3);
-    let start = word_at(w, b + 4);
-    let count = word_at(w, b + 5);
-    EquationRow {
-        home,
-        position,
-        tag,
-        conditions,
-        start,
-        count,
-    }
-}
-
-// x, y and z stored from place b on.
-fn put_three(w: &mut [u32], b: usize, x: u32, y: u32, z: u32)
-    requires { ⌜ b < 2 ^ 40 ⌝ }
-    ensures { λ r. ⌜ now (w .exit) ≡ sets (now (w .entry)) b (x ∷ y ∷ z ∷ []) ⌝ }
-{
-    put_word(w, b, x);
-    put_word(w, b + 1, y);
-    put_word(w, b + 2, z);
-}
-
-// q stored at row i of the table that starts at `base`, its nodes from `start` on.
-pub fn write_equation(w: &mut [u32], base: u32, i: u32, q: EquationRow, start: u32)
-    ensures { λ r. ⌜ now (w .exit) ≡ sets (now (w .entry)) (base + i * 8) (equation-words q start) ⌝ }
-{
-    let b = equation_place(base, i);
-    put_three(w, b, q.home, q.position, q.tag);
-    put_three(w, b + 3, q.conditions, start, q.count);
-}
+ghost use Rattle.forms.specs.Forms.{equation-row-at, equation-size};
+ghost use Rattle.joining.specs.Joined.{same-equation, has-equation, with-counts, out, settled, joined-row, joined};
 
 // Is q, whose nodes stand behind those of f, the equation r of f?
 fn same_equation(
@@ -115,7 +66,7 @@ fn is_equation(
     i: u32,
 ) -> bool
     requires { ⌜ t ≤ length (now work) ⌝ }
-    ensures { λ x. ⌜ x ≡ same-equation (joint (now (library .entry)) (now (text .entry))) t (now (work .entry)) f q (equation-row-at (now (work .entry)) (f .equations + i * 8)) ⌝ }
+    ensures { λ x. ⌜ x ≡ same-equation (joint (now (library .entry)) (now (text .entry))) t (now (work .entry)) f q (equation-row-at (now (work .entry)) (f .equations + i * equation-size)) ⌝ }
 {
     let base = f.equations;
     let r = read_equation(work, base, i);
@@ -235,7 +186,7 @@ fn absorb_equation(
     f: Form,
 ) -> Form
     requires { ⌜ t ≤ length (now work) ⌝ }
-    ensures { λ r. ⌜ out r (now (work .exit)) ≡ joined-row (joint (now (library .entry)) (now (text .entry))) t (now (work .entry)) g (equation-row-at (now (work .entry)) (g .equations + k * 8)) o f ⌝ }
+    ensures { λ r. ⌜ out r (now (work .exit)) ≡ joined-row (joint (now (library .entry)) (now (text .entry))) t (now (work .entry)) g (equation-row-at (now (work .entry)) (g .equations + k * equation-size)) o f ⌝ }
 {
     let base = g.equations;
     let q = read_equation(work, base, k);

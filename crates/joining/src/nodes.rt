@@ -9,6 +9,7 @@ use tables::entries::put_word;
 use tables::entries::same_name_at;
 use tables::entries::same_word;
 use tables::entries::word_at;
+use tables::kinds;
 use tables::rows::read_row;
 use tables::sections::same_section;
 use tables::sorts::same_shape;
@@ -36,7 +37,7 @@ fn is_sort(library: &[u8], text: &[u8], tape: &[u32], o: Origin, w: u32) -> bool
     let p = o.place;
     if same_name_at(library, text, tape, p as usize, d as usize) {
         let k = kind_at(tape, p);
-        if k == 0 {
+        if k == kinds::SORT {
             let h = o.home;
             let g = home_at(tape, d);
             if same_word(library, text, h, g) {
@@ -60,13 +61,13 @@ fn same_node_sorts(library: &[u8], text: &[u8], tape: &[u32], a: Row, b: Row) ->
     let p = b.origin;
     let s = a.sorts;
     let t = b.sorts;
-    if k == 0 {
-        if l == 0 {
+    if k == kinds::SORT {
+        if l == kinds::SORT {
             return same_origin(library, text, tape, o, p);
         }
         return is_sort(library, text, tape, o, t[8]);
     }
-    if l == 0 {
+    if l == kinds::SORT {
         return is_sort(library, text, tape, p, s[8]);
     }
     same_sort(library, text, tape, s[8], t[8])
@@ -98,8 +99,8 @@ fn same_at_nodes(library: &[u8], text: &[u8], tape: &[u32], u: u32, a: Row, v: u
 {
     let k = a.kind;
     let l = b.kind;
-    if k < 2 {
-        if l < 2 {
+    if k < kinds::FUNCTION {
+        if l < kinds::FUNCTION {
             let o = a.origin;
             let p = b.origin;
             if same_origin(library, text, tape, o, p) {
@@ -109,7 +110,7 @@ fn same_at_nodes(library: &[u8], text: &[u8], tape: &[u32], u: u32, a: Row, v: u
         }
         return false;
     }
-    if l < 2 {
+    if l < kinds::FUNCTION {
         return false;
     }
     same_functions(library, text, tape, u, a, v, b)

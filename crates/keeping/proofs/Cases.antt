@@ -12,6 +12,7 @@ use lib.Seq.{sets}
 use Rattle.forms.specs.declared.Form.{Form}
 use Rattle.forms.specs.Memory.{Kept}
 use Rattle.forms.specs.FormLaws.{kept-all, kept-sets}
+use Rattle.forms.specs.Forms.{form-size}
 use Rattle.frames.specs.Changes.{onward, wider}
 use Rattle.keeping.specs.Keeping.{form-at, form-words, nothing-at, Cleared, form-back, form-same}
 
@@ -42,10 +43,10 @@ two-put w w₁ w₂ b x y e f = rw (f, e, add-one b)
 pub four-put : (w w₁ w₂ : List ℕ) (b v x y z : ℕ) → w₁ ≡ sets w b (v ∷ x ∷ []) → w₂ ≡ sets w₁ (b + 2) (y ∷ z ∷ []) → w₂ ≡ sets w b (v ∷ x ∷ y ∷ z ∷ [])
 four-put w w₁ w₂ b v x y z e f = rw (f, e, add-two b)
 
-pub form-written : (w w₁ w₂ w₃ : List ℕ) (table k b : ℕ) (f : Form) → b ≡ table + k * 16
+pub form-written : (w w₁ w₂ w₃ : List ℕ) (table k b : ℕ) (f : Form) → b ≡ table + k * form-size
     → w₁ ≡ sets w b (f .parameters ∷ f .«parameter_count» ∷ f .visible ∷ f .«visible_count» ∷ [])
     → w₂ ≡ sets w₁ (b + 4) (f .hidden ∷ f .«hidden_count» ∷ f .equations ∷ f .«equation_count» ∷ [])
-    → w₃ ≡ sets w₂ (b + 8) (f .nodes ∷ f .«node_count» ∷ []) → w₃ ≡ sets w (table + k * 16) (form-words f)
+    → w₃ ≡ sets w₂ (b + 8) (f .nodes ∷ f .«node_count» ∷ []) → w₃ ≡ sets w (table + k * form-size) (form-words f)
 unfolding form-words
 form-written w w₁ w₂ w₃ table k b f e c₁ c₂ c₃ =
     let a₄ : b + 4 ≡ suc (suc (suc (suc b))) = omega arith in
@@ -57,24 +58,24 @@ form-written w w₁ w₂ w₃ table k b f e c₁ c₂ c₃ =
 -- k of n rows have nothing
 pub record Clearing (table n start : ℕ) (w₀ w : List ℕ) (k : ℕ) (f : Form) : Type 0 where
   pub inside : k ≤ n
-  pub room : table + n * 16 ≤ length w₀
+  pub room : table + n * form-size ≤ length w₀
   pub nothing : f ≡ nothing-at start
   pub cleared : Cleared table k start w₀ w
 
-pub cleared-none : (table n start : ℕ) (w : List ℕ) (f : Form) → table + n * 16 ≤ length w → f ≡ nothing-at start → Clearing table n start w w 0 f
+pub cleared-none : (table n start : ℕ) (w : List ℕ) (f : Form) → table + n * form-size ≤ length w → f ≡ nothing-at start → Clearing table n start w w 0 f
 cleared-none table n start w f room e = record {
   inside = omega arith;
   room = room;
   nothing = e;
-  cleared = record { rows = λ k h. absurd (omega arith); kept = kept-all table (table + 0 * 16) w };
+  cleared = record { rows = λ k h. absurd (omega arith); kept = kept-all table (table + 0 * form-size) w };
 }
 
-pub cleared-one : (table n k start : ℕ) (w w₁ w₂ : List ℕ) (f : Form) → k < n → w₂ ≡ sets w₁ (table + k * 16) (form-words f)
+pub cleared-one : (table n k start : ℕ) (w w₁ w₂ : List ℕ) (f : Form) → k < n → w₂ ≡ sets w₁ (table + k * form-size) (form-words f)
     → Clearing table n start w w₁ k f → Clearing table n start w w₂ (k + 1) f
 unfolding form-words
 cleared-one table n k start w w₁ w₂ f less put s =
     let c = s .cleared in
-    let b = table + k * 16 in
+    let b = table + k * form-size in
     let size = c .kept .size in
     let here : Kept b (b + 10) w₁ w₂ = rw put (kept-sets (form-words f) w₁ b) in
     record {
@@ -84,7 +85,7 @@ cleared-one table n k start w w₁ w₂ f less put s =
       cleared = record {
         rows = λ j h. ⊎-elim
             (λ (l : j ≡ k). rw (l, put) (form-back w₁ b f (omega (arith, size, s .room)) ∙ s .nothing))
-            (λ (l : j < k). form-same w₁ w₂ (table + j * 16) (λ i p q. here .below i (omega arith)) ∙ c .rows j l)
+            (λ (l : j < k). form-same w₁ w₂ (table + j * form-size) (λ i p q. here .below i (omega arith)) ∙ c .rows j l)
             (eq-or-lt-of-le {n = j} {m = k} (omega arith));
         kept = onward (wider (omega arith) (c .kept)) (wider (omega arith) here);
       };

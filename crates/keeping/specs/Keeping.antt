@@ -7,7 +7,8 @@ use lib.ListN.{length, getD}
 use lib.Seq.{sets}
 use Rattle.forms.specs.declared.Form.{Form}
 use Rattle.forms.specs.Memory.{Same, Kept}
-use Rattle.frames.specs.Changes.{stored}
+use Rattle.forms.specs.Forms.{form-size}
+use Rattle.tables.specs.RowLaws.{stored-there}
 
 -- the form whose words begin at b
 unfoldable pub form-at : List ℕ → ℕ → Form
@@ -45,8 +46,8 @@ nothing-at kept = record {
 
 -- n rows of the table have nothing, and all else stays
 pub record Cleared (table n start : ℕ) (w w′ : List ℕ) : Type 0 where
-  pub rows : (k : ℕ) → k < n → form-at w′ (table + k * 16) ≡ nothing-at start
-  pub kept : Kept table (table + n * 16) w w′
+  pub rows : (k : ℕ) → k < n → form-at w′ (table + k * form-size) ≡ nothing-at start
+  pub kept : Kept table (table + n * form-size) w w′
 
 -- ---- a row that is written is read back, and others stay
 
@@ -54,7 +55,7 @@ pub form-back : (w : List ℕ) (b : ℕ) (f : Form) → b + 10 ≤ length w → 
 unfolding form-at form-words
 form-back w b f h =
     let vs = form-words f in
-    let there : (i : ℕ) → i < 10 → getD (sets w b vs) (b + i) 0 ≡ getD vs i 0 = λ i l. stored w b vs i l (omega arith) in
+    let there : (i : ℕ) → i < 10 → getD (sets w b vs) (b + i) 0 ≡ getD vs i 0 = λ i l. stored-there w b vs i l (omega arith) in
     let z : b + 0 ≡ b = omega arith in
     let first : getD (sets w b vs) b 0 ≡ f .parameters = ap (λ (j : ℕ). getD (sets w b vs) j 0) (sym z) ∙ there 0 (omega arith) in
     λ i. record {

@@ -1,4 +1,5 @@
 // The table of where each module's normal form is kept: a row of sixteen words for each module, and one more for a name that no module has.
+use forms::FORM_STEP;
 use forms::Form;
 use tables::entries::put_word;
 use tables::entries::word_at;
@@ -7,13 +8,14 @@ ghost use mathlib.Core.List.{[], _∷_};
 ghost use Prim.Native.Nat.{_+_, _*_, _^_, _≤_, _<_};
 ghost use lib.ListN.{length};
 ghost use lib.Seq.{sets};
+ghost use Rattle.forms.specs.Forms.{form-size};
 ghost use Rattle.keeping.specs.Keeping.{form-at, form-words, nothing-at, Cleared};
 
 // Row k of the table.
 fn form_place(table: u32, k: u32) -> usize
-    ensures { λ r. ⌜ r ≡ table + k * 16 ⌝ }
+    ensures { λ r. ⌜ r ≡ table + k * form-size ⌝ }
 {
-    table as usize + k as usize * 16
+    table as usize + k as usize * FORM_STEP
 }
 
 // The form whose words begin at b.
@@ -47,7 +49,7 @@ fn form_at(w: &[u32], b: usize) -> Form
 
 // Where the normal form of module k is.
 pub fn read_form(w: &[u32], table: u32, k: u32) -> Form
-    ensures { λ r. ⌜ r ≡ form-at (now (w .entry)) (table + k * 16) ⌝ }
+    ensures { λ r. ⌜ r ≡ form-at (now (w .entry)) (table + k * form-size) ⌝ }
 {
     let b = form_place(table, k);
     form_at(w, b)
@@ -73,7 +75,7 @@ fn put_four(w: &mut [u32], b: usize, v: u32, x: u32, y: u32, z: u32)
 
 // The normal form of module k is at f.
 pub fn write_form(w: &mut [u32], table: u32, k: u32, f: Form)
-    ensures { λ r. ⌜ now (w .exit) ≡ sets (now (w .entry)) (table + k * 16) (form-words f) ⌝ }
+    ensures { λ r. ⌜ now (w .exit) ≡ sets (now (w .entry)) (table + k * form-size) (form-words f) ⌝ }
 {
     let b = form_place(table, k);
     put_four(
@@ -115,7 +117,7 @@ fn nothing_at(kept: u32) -> Form
 
 // No module has a normal form yet: each of the n rows of the table has nothing.
 pub fn clear_forms(w: &mut [u32], table: u32, n: u32, kept: u32)
-    requires { ⌜ table + n * 16 ≤ length (now w) ⌝ }
+    requires { ⌜ table + n * form-size ≤ length (now w) ⌝ }
     ensures { λ r. ⌜ Cleared table n kept (now (w .entry)) (now (w .exit)) ⌝ }
 {
     let nothing = nothing_at(kept);

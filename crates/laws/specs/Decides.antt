@@ -3,7 +3,7 @@ use mathlib.Core.Path.{_≡_, refl, ap, ap₂}
 use mathlib.Core.Bool.{Bool, true, false, _&&_, false≢true}
 use mathlib.Core.List.{List, [], _∷_}
 use Rattle.meaning.specs.Lists.{pick, agree}
-use Rattle.meaning.specs.Names.{Name, same}
+use Rattle.meaning.specs.Names.{same}
 use Rattle.meaning.specs.OrderLaws.{same-self, same-equal}
 use Rattle.meaning.specs.Origins.{Section, export-section, hidden-section, parameter-section, same-section, Declared, declared-sort, declared-function, declared-variable, same-declared, Origin, same-origin, Sort, visible-sort, hidden-sort, same-sort, FunctionType, same-type, Shape, sort-shape, function-shape, variable-shape, same-shape, Item, one-item}
 

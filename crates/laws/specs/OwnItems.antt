@@ -1,5 +1,5 @@
 -- M's own declarations item by item: what holds of each sort, function and variable as an item holds of M's own items.
-use mathlib.Core.List.{List, _++_, map}
+use mathlib.Core.List.{List, map}
 use Rattle.meaning.specs.Lists.{each}
 use Rattle.meaning.specs.Names.{Name}
 use Rattle.meaning.specs.Syntax.{Function, Signature, Parameter, Module, variables-of}

@@ -1,11 +1,11 @@
 -- What is said of a normal form piece by piece, of each parameter, visible item, hidden item or equation, is kept by its translation, by unions,
 -- by M's own declarations and by order, where it is kept of each piece.
-use mathlib.Core.Bool.{Bool, not}
-use mathlib.Core.List.{List, [], _++_, map}
-use Rattle.meaning.specs.Names.{Name, same, not-after}
+use mathlib.Core.Bool.{not}
+use mathlib.Core.List.{List, [], map}
+use Rattle.meaning.specs.Names.{Name}
 use Rattle.meaning.specs.Syntax.{Parameter, Module}
-use Rattle.meaning.specs.Origins.{FunctionType, Item, ResolvedEquation, in-parameter, one-item, one-equation}
-use Rattle.meaning.specs.Normal.{Slot, Normal, nothing-visible, nothing-hidden, empty, is-parameter-of, unite-visible, unite-hidden, unite, move-item, move-hidden-item, move-equation, move-visible, move-hidden, move}
+use Rattle.meaning.specs.Origins.{FunctionType, Item, ResolvedEquation, in-parameter, one-item}
+use Rattle.meaning.specs.Normal.{Slot, Normal, nothing-visible, nothing-hidden, empty, unite-visible, unite-hidden, unite, move-item, move-hidden-item, move-visible, move-hidden, move}
 use Rattle.meaning.specs.Written.{visible-in-order, hidden-in-order, in-order}
 use Rattle.meaning.specs.Clauses.{without-visible, without}
 use Rattle.meaning.specs.Own.{own-slot, own-visible, own-hidden-items}

@@ -11,15 +11,15 @@ use borrow.Author.Tests.{leb-false}
 use Rattle.types.specs.declared.Token.{Token}
 use Rattle.meaning.specs.Laws.{by-cases}
 use Rattle.meaning.specs.Lists.{sum}
-use Rattle.meaning.specs.Names.{byte, slice, Name, prefix-name, infix-name}
-use Rattle.meaning.specs.Numbers.{text-size, name-size, import-limit, binding-limit, pair-limit, argument-limit, condition-limit, bracket-limit, node-limit, over-size, other-end, module-twice}
+use Rattle.meaning.specs.Names.{slice, Name, prefix-name, infix-name}
+use Rattle.meaning.specs.Numbers.{text-size, name-size, import-limit, binding-limit, pair-limit, argument-limit, condition-limit, bracket-limit, node-limit, over-size}
 use Rattle.meaning.specs.Syntax.{Function, Signature, Parameter, Pair, Clause, renamed-by, bound-by, Import, VariableGroup, Term, node, Terms, no-terms, _then_, terms, Operand, joined-left, Sides, Equation, conditions-of, Module}
 use Rattle.meaning.specs.Tokens.{ident, operator, token-at}
 use Rattle.meaning.specs.OrderLaws.{Every}
 use Rattle.meaning.specs.Texts.{Texts, all-read, read-texts}
 use Rattle.meaning.specs.TextsLaws.{of-both}
 use Rattle.laws.specs.EveryLaws.{every-append}
-use Rattle.meaning.specs.Grammar.{State, Result, done, refused, Parser, after, _>>=_ as bind-read, _>>_ as next-read, return, refuse, unexpected, if-next, is, is-name, begins-function, begins-term, too-many, empty-signature, step, expect, short-name, name, bare-operator, that-name, this-name, separated, many, some-of, optional, sort-list, input-type, prefix-operator, infix-operator, one-input, two-inputs, function-by, function, signature, parameter, exports, function-name, pair, pairs, renamed, bound, perhaps-renamed, modifier, modifier-end, import-expression, imports, variable-group, variables, counted, term-name, term-operator, primary-by, prefixed, operand, term-by, in-brackets, term, sides, sides-list, implied, conditional, equation-after, no-nodes, equation, fresh-name, a-module, modules, read}
+use Rattle.meaning.specs.Grammar.{State, Result, done, refused, Parser, after, _>>=_ as bind-read, _>>_ as next-read, return, refuse, unexpected, if-next, is, begins-term, too-many, empty-signature, step, expect, short-name, name, bare-operator, that-name, this-name, separated, many, some-of, optional, sort-list, input-type, prefix-operator, infix-operator, one-input, two-inputs, function-by, function, signature, parameter, exports, function-name, pair, pairs, renamed, bound, perhaps-renamed, modifier, modifier-end, import-expression, imports, variable-group, variables, counted, term-name, term-operator, primary-by, prefixed, operand, term-by, in-brackets, term, sides, sides-list, implied, conditional, equation-after, no-nodes, equation, fresh-name, a-module, modules, read}
 
 -- ---- nodes as they are read: a name is a node
 

@@ -2,7 +2,6 @@
 -- a step gives new names, they come from the text, whose names have N.
 use mathlib.Core.Path.{_≡_, subst}
 use Prim.Native.Nat.{ℕ, _+_}
-use mathlib.Core.Bool.{Bool}
 use mathlib.Core.Option.{Option, none}
 use mathlib.Core.List.{List, [], _∷_}
 use Rattle.meaning.specs.Laws.{by-cases}
@@ -15,7 +14,7 @@ use Rattle.meaning.specs.Checks.{fine, Size, room}
 use Rattle.meaning.specs.OutcomeLaws.{unless-fine}
 use Rattle.meaning.specs.Clauses.{paired, otherwise, renaming, rename, new-sort, new-function, pairs-right, unpaired, without, bound-to, bind}
 use Rattle.meaning.specs.Evaluate.{Evaluated, normal-of, clause, clauses, expressions, united, imported, seen-sorts, joined-visible, own-checks, own-equations, joined-hidden, joined-own, evaluate}
-use Rattle.meaning.specs.Reached.{Placed, reached-among, reached, Ended, normalised, total-of, in-turn, module-names, normalise}
+use Rattle.meaning.specs.Reached.{Placed, reached-among, reached, normalised, total-of, in-turn, module-names, normalise}
 use Rattle.meaning.specs.OrderLaws.{Every}
 use Rattle.laws.specs.EveryLaws.{every-all}
 use Rattle.laws.specs.Outcomes.{Gives, gives-bound, gives-after, gives-then, checked-gives, Ends, ends-or}

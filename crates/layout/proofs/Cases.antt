@@ -1,9 +1,11 @@
 -- Each answer of the layout's functions, as its definition has it.
-use mathlib.Core.Path.{_≡_, refl, sym, _∙_}
+use mathlib.Core.Path.{_≡_, refl}
 use Prim.Native.Nat.{ℕ, _+_, _*_, _≤_}
 use native.Mathlib.Omega.{arith}
 use borrow.Author.Needs.{needs}
+use Rattle.tables.specs.Rows.{row-size}
 use Rattle.forms.specs.declared.Block.{Block}
+use Rattle.forms.specs.Forms.{equation-size, slot-size}
 use Rattle.layout.specs.Layout.{block-span, block-at, tape-end, joining-block, first-block, second-block, kept-start, table-start}
 
 pub tape-number : 65536 ≡ tape-end
@@ -21,14 +23,14 @@ table-number = refl
 pub is-block : (low names rows hidden-rows equations sources : ℕ) → record {
   low = low;
   parameters = low;
-  visible = low + names * 2;
-  hidden = low + names * 2 + rows * 16;
-  equations = low + names * 2 + rows * 16 + hidden-rows * 16;
-  nodes = low + names * 2 + rows * 16 + hidden-rows * 16 + equations * 8;
-  «visible_notes» = low + names * 2 + rows * 16 + hidden-rows * 16 + equations * 8 + equations * 64;
-  «hidden_notes» = low + names * 2 + rows * 16 + hidden-rows * 16 + equations * 8 + equations * 64 + sources;
-  order = low + names * 2 + rows * 16 + hidden-rows * 16 + equations * 8 + equations * 64 + sources + sources;
-  high = low + names * 2 + rows * 16 + hidden-rows * 16 + equations * 8 + equations * 64 + sources + sources + names + rows;
+  visible = low + names * slot-size;
+  hidden = low + names * slot-size + rows * row-size;
+  equations = low + names * slot-size + rows * row-size + hidden-rows * row-size;
+  nodes = low + names * slot-size + rows * row-size + hidden-rows * row-size + equations * equation-size;
+  «visible_notes» = low + names * slot-size + rows * row-size + hidden-rows * row-size + equations * equation-size + equations * 64;
+  «hidden_notes» = low + names * slot-size + rows * row-size + hidden-rows * row-size + equations * equation-size + equations * 64 + sources;
+  order = low + names * slot-size + rows * row-size + hidden-rows * row-size + equations * equation-size + equations * 64 + sources + sources;
+  high = low + names * slot-size + rows * row-size + hidden-rows * row-size + equations * equation-size + equations * 64 + sources + sources + names + rows;
   «equation_room» = equations;
   «node_room» = equations * 64;
 }

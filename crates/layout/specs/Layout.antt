@@ -2,28 +2,30 @@
 use Prim.Native.Nat.{ℕ, _+_, _*_, _≤_}
 use native.Mathlib.Omega.{arith}
 use Rattle.meaning.specs.Numbers.{module-limit, parameter-room, item-total, equation-total, node-total, memory-size}
+use Rattle.tables.specs.Rows.{row-size}
 use Rattle.forms.specs.declared.Block.{Block}
 use Rattle.forms.specs.Blocks.{BlockLaid}
+use Rattle.forms.specs.Forms.{equation-size, slot-size, form-size}
 
 -- ---- a block
 
 -- the words of a block with room for so many parameters, visible and hidden rows, equations, and rows of a source
 abbrev pub block-span : ℕ → ℕ → ℕ → ℕ → ℕ → ℕ
 block-span names rows hidden-rows equations sources =
-    names * 2 + rows * 16 + hidden-rows * 16 + equations * 8 + equations * 64 + sources + sources + names + rows
+    names * slot-size + rows * row-size + hidden-rows * row-size + equations * equation-size + equations * 64 + sources + sources + names + rows
 
 unfoldable pub block-at : ℕ → ℕ → ℕ → ℕ → ℕ → ℕ → Block
 block-at low names rows hidden-rows equations sources = record {
   low = low;
   parameters = low;
-  visible = low + names * 2;
-  hidden = low + names * 2 + rows * 16;
-  equations = low + names * 2 + rows * 16 + hidden-rows * 16;
-  nodes = low + names * 2 + rows * 16 + hidden-rows * 16 + equations * 8;
-  «visible_notes» = low + names * 2 + rows * 16 + hidden-rows * 16 + equations * 8 + equations * 64;
-  «hidden_notes» = low + names * 2 + rows * 16 + hidden-rows * 16 + equations * 8 + equations * 64 + sources;
-  order = low + names * 2 + rows * 16 + hidden-rows * 16 + equations * 8 + equations * 64 + sources + sources;
-  high = low + names * 2 + rows * 16 + hidden-rows * 16 + equations * 8 + equations * 64 + sources + sources + names + rows;
+  visible = low + names * slot-size;
+  hidden = low + names * slot-size + rows * row-size;
+  equations = low + names * slot-size + rows * row-size + hidden-rows * row-size;
+  nodes = low + names * slot-size + rows * row-size + hidden-rows * row-size + equations * equation-size;
+  «visible_notes» = low + names * slot-size + rows * row-size + hidden-rows * row-size + equations * equation-size + equations * 64;
+  «hidden_notes» = low + names * slot-size + rows * row-size + hidden-rows * row-size + equations * equation-size + equations * 64 + sources;
+  order = low + names * slot-size + rows * row-size + hidden-rows * row-size + equations * equation-size + equations * 64 + sources + sources;
+  high = low + names * slot-size + rows * row-size + hidden-rows * row-size + equations * equation-size + equations * 64 + sources + sources + names + rows;
   «equation_room» = equations;
   «node_room» = equations * 64;
 }
@@ -65,8 +67,8 @@ pub record Laid (size t : ℕ) : Type 0 where
   pub joining-first : joining-block .high ≤ first-block .low
   pub first-second : first-block .high ≤ second-block .low
   pub second-kept : second-block .high ≤ kept-start
-  pub kept-table : kept-start + (module-limit * parameter-room * 2 + item-total * 16 + equation-total * 8 + node-total) ≤ table-start
-  pub table : table-start + (module-limit + 1) * 16 ≤ size
+  pub kept-table : kept-start + (module-limit * parameter-room * slot-size + item-total * row-size + equation-total * equation-size + node-total) ≤ table-start
+  pub table : table-start + (module-limit + 1) * form-size ≤ size
 
 pub memory-laid : (size t : ℕ) → t ≤ tape-end → memory-size ≤ size → Laid size t
 unfolding tape-end joining-block first-block second-block kept-start table-start memory-size block-at

@@ -1,6 +1,9 @@
 // Where things lie in the working memory: the tape, the block in which a module's imports are united and its own items join them, two blocks
 // in which the clauses of an import expression work in turn, and the normal forms that are kept, with a table of where each module's is.
 use forms::Block;
+use forms::EQUATION_SIZE;
+use forms::SLOT_SIZE;
+use tables::ROW_SIZE;
 ghost use mathlib.Core.Path.{_≡_};
 ghost use Prim.Native.Nat.{_+_, _*_, _≤_};
 ghost use Rattle.layout.specs.Layout.{block-span, block-at, tape-end, joining-block, first-block, second-block, kept-start, table-start};
@@ -17,10 +20,10 @@ fn block_at(
     requires { ⌜ low + block-span names rows «hidden_rows» equations sources ≤ 1073741824 ⌝ }
     ensures { λ r. ⌜ r ≡ block-at low names rows «hidden_rows» equations sources ⌝ }
 {
-    let visible = low + names * 2;
-    let hidden = visible + rows * 16;
-    let first = hidden + hidden_rows * 16;
-    let nodes = first + equations * 8;
+    let visible = low + names * SLOT_SIZE;
+    let hidden = visible + rows * ROW_SIZE;
+    let first = hidden + hidden_rows * ROW_SIZE;
+    let nodes = first + equations * EQUATION_SIZE;
     let visible_notes = nodes + equations * 64;
     let hidden_notes = visible_notes + sources;
     let order = hidden_notes + sources;

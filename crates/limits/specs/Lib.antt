@@ -1,3 +1,2 @@
-pub mod EveryLaws
 pub mod Nodes
 pub mod Limits

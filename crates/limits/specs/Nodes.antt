@@ -13,7 +13,7 @@ use Rattle.meaning.specs.Checks.{Outcome, fine, stop, _>>=_, term-nodes, terms-
 use Rattle.meaning.specs.Typing.{Typed, TypedList, of-shape, found-with, no-arguments, takes, is-variable, joined-typed, equated, joined-sides, made-equation, applied, alone, with-arguments, typed, typed-list, typed-sides, typed-conditions, typed-equations}
 use Rattle.meaning.specs.OrderLaws.{Every}
 use Rattle.laws.specs.Reading.{source-nodes, all-source-nodes, source-sides}
-unfoldable pub use Rattle.laws.specs.Reading.{source-equation}
+use Rattle.laws.specs.Reading.{source-equation}
 
 -- ---- typed, there are at most n nodes
 

@@ -17,10 +17,10 @@ use Rattle.names.specs.Word.{name-of}
 use Rattle.tables.specs.declared.Section.{Section}
 use Rattle.tables.specs.declared.Section.the-variants.{Export, Parameter}
 use Rattle.tables.specs.declared.Row.{Row}
-use Rattle.tables.specs.Rows.{section-of, origin-of, sort-of, type-of, shape-of, item-of, row-at}
+use Rattle.tables.specs.Rows.{section-of, origin-of, sort-of, type-of, shape-of, item-of, row-at, row-size}
 use Rattle.forms.specs.declared.Form.{Form}
 use Rattle.forms.specs.declared.EquationRow.{EquationRow}
-use Rattle.forms.specs.Forms.{items-at, equation-row-at}
+use Rattle.forms.specs.Forms.{items-at, equation-row-at, equation-size, slot-size}
 use Rattle.pen.specs.Pen.{Pen, pen, written, rows-text}
 use Rattle.pen.proofs.Laws.{then, count-over, count-fits, laid, reached, none-written}
 use Rattle.pen.proofs.Rows.{Writing, rows-start, rows-again, rows-end}
@@ -91,7 +91,7 @@ module _ (l : ℕ) (p q : Pen) where
 
   -- ---- rows
   module _ (text tape w : List ℕ) where
-    module _ (b i : ℕ) (row : Row) (e : row ≡ row-at w (b + i * 16)) where
+    module _ (b i : ℕ) (row : Row) (e : row ≡ row-at w (b + i * row-size)) where
       module _ (section : Section) (s f : List ℕ) (x : Bool) (h : x ≡ same-section (section-of text section) (section-of text (row .standing))) where
         pub standing-there : x ≡ true → q ≡ written l (item-text s f (name-of text (row .name)) [] (item-of text tape row)) p
             → q ≡ written l (standing-row text tape w b (section-of text section) s f i) p
@@ -118,7 +118,7 @@ module _ (l : ℕ) (p q : Pen) where
       unfolding formals-text section-of
       formals-done n a e g = then l _ _ p a q e g
 
-      pub parameter-done : (i n : ℕ) → n ≡ getD w (f .parameters + i * 2) 0 → q ≡ written l (formals-text text tape w f (name-of text n)) p
+      pub parameter-done : (i n : ℕ) → n ≡ getD w (f .parameters + i * slot-size) 0 → q ≡ written l (formals-text text tape w f (name-of text n)) p
           → q ≡ written l (parameter-row text tape w f i) p
       unfolding parameter-row
       parameter-done i n e g = rw (← e) g
@@ -128,20 +128,13 @@ module _ (l : ℕ) (p q : Pen) where
       unfolding visible-text section-of
       seen-done a e g = then l _ _ p a q e g
 
-      pub equation-done : (i : ℕ) (row : EquationRow) (a c : Pen) → row ≡ equation-row-at w (f .equations + i * 8) → a ≡ written l (bytes "equation=") p
+      pub equation-done : (i : ℕ) (row : EquationRow) (a c : Pen) → row ≡ equation-row-at w (f .equations + i * equation-size)
+          → a ≡ written l (bytes "equation=") p
           → c ≡ written l (equation-at text w (f .visible) (f .nodes) row) a → q ≡ written l (bytes "\n") c → q ≡ written l (equation-row text w f i) p
       unfolding equation-row line-of
       equation-done i row a c e g h k =
           let value = equation-at text w (f .visible) (f .nodes) row in
           rw (← e) (then l (bytes "equation=") (value ++ bytes "\n") p a q g (then l value (bytes "\n") a c q h k))
-
-pub equation-read : (w : List ℕ) (base i home position tag conditions start count : ℕ) → home ≡ getD w (base + i * 8) 0
-    → position ≡ getD w (base + i * 8 + 1) 0 → tag ≡ getD w (base + i * 8 + 2) 0 → conditions ≡ getD w (base + i * 8 + 3) 0
-    → start ≡ getD w (base + i * 8 + 4) 0 → count ≡ getD w (base + i * 8 + 5) 0
-    → _≡_ {A = EquationRow} (record { home = home; position = position; tag = tag; conditions = conditions; start = start; count = count })
-    (equation-row-at w (base + i * 8))
-unfolding equation-row-at
-equation-read w base i home position tag conditions start count h p t c s n = rw (h, p, t, c, s, n)
 
 -- a loop over all of n rows
 pub rows-done : (l : ℕ) (f : ℕ → List ℕ) (n at : ℕ) (o₀ : List ℕ) (i t : ℕ) (o : List ℕ) → Writing l f 0 n at o₀ i t o → n ≤ i
@@ -168,4 +161,4 @@ module _ (bs o e : List ℕ) (k : ℕ) (c : pen k e ≡ written (length o + 1) b
       laid (length o + 1) 0 m bs o o′ (omega arith) (omega arith) (omega arith) f ∙ ap (λ (n : ℕ). bs ++ drop n o) (zero-add (length bs)) in
       rw (le-leb (length bs) (length o) (omega arith), all, after)
 
-pub ruleset cases = (line-done, key-sort, key-variable, key-function, rest-done, item-done, visible-done, standing-there, standing-elsewhere, hidden-done, formals-done, parameter-done, seen-done, equation-done, equation-read, then, rows-start, rows-again, rows-done, too-long, all-written, needs)
+pub ruleset cases = (line-done, key-sort, key-variable, key-function, rest-done, item-done, visible-done, standing-there, standing-elsewhere, hidden-done, formals-done, parameter-done, seen-done, equation-done, then, rows-start, rows-again, rows-done, too-long, all-written, needs)

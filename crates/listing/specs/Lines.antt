@@ -8,9 +8,9 @@ use Rattle.meaning.specs.Names.{bytes, Name}
 use Rattle.meaning.specs.Origins.{Section, export-section, parameter-section, same-section, Origin, Shape, sort-shape, function-shape, variable-shape, Item}
 use Rattle.meaning.specs.Written.{origin-text, numbered, shape-text}
 use Rattle.names.specs.Word.{name-of}
-use Rattle.tables.specs.Rows.{item-of, row-at}
+use Rattle.tables.specs.Rows.{item-of, row-at, row-size}
 use Rattle.forms.specs.declared.Form.{Form}
-use Rattle.forms.specs.Forms.{items-at, equation-row-at}
+use Rattle.forms.specs.Forms.{items-at, equation-row-at, equation-size, slot-size}
 use Rattle.pen.specs.Pen.{rows-text}
 use Rattle.printing.specs.Terms.{equation-at}
 
@@ -44,7 +44,7 @@ item-text s f called hidden i = key-by s f (i .shape) ++ (bytes "=" ++ (called +
 -- row i, if it stands in the section
 unfoldable pub standing-row : (text tape w : List ℕ) (b : ℕ) → Section → (s f : List ℕ) → ℕ → List ℕ
 standing-row text tape w b section s f i =
-    let item = item-of text tape (row-at w (b + i * 16)) in
+    let item = item-of text tape (row-at w (b + i * row-size)) in
     let there = item-text s f (item .name) [] item in
     pick (same-section section (item .standing)) there []
 
@@ -59,15 +59,15 @@ formals-text text tape w f p =
     ++ standing-text text tape w (f .visible) (f .«visible_count») (parameter-section p) (bytes "parameter-sort") (bytes "parameter-function")
 
 unfoldable pub parameter-row : (text tape w : List ℕ) → Form → ℕ → List ℕ
-parameter-row text tape w f i = formals-text text tape w f (name-of text (getD w (f .parameters + i * 2) 0))
+parameter-row text tape w f i = formals-text text tape w f (name-of text (getD w (f .parameters + i * slot-size) 0))
 
 unfoldable pub hidden-row : (text tape w : List ℕ) → (b c : ℕ) → ℕ → List ℕ
 hidden-row text tape w b c i =
-    item-text (bytes "hidden-sort") (bytes "hidden-function") (numbered (i + 1)) (items-at text tape w b c) (item-of text tape (row-at w (b + i * 16)))
+    item-text (bytes "hidden-sort") (bytes "hidden-function") (numbered (i + 1)) (items-at text tape w b c) (item-of text tape (row-at w (b + i * row-size)))
 
 unfoldable pub equation-row : (text w : List ℕ) → Form → ℕ → List ℕ
 equation-row text w f i =
-    line-of (bytes "equation") (equation-at text w (f .visible) (f .nodes) (equation-row-at w (f .equations + i * 8)))
+    line-of (bytes "equation") (equation-at text w (f .visible) (f .nodes) (equation-row-at w (f .equations + i * equation-size)))
 
 -- ---- the listing of a form
 

@@ -11,9 +11,10 @@ use Rattle.meaning.specs.Normal.{Visible, Normal}
 use Rattle.meaning.specs.Written.{equation-text}
 use Rattle.meaning.specs.Listing.{Line, line, lines-text, visible-lines, hidden-item-lines, equation-line, hidden-lines, listing-lines}
 use Rattle.names.specs.Word.{name-of}
+use Rattle.tables.specs.Rows.{row-size}
 use Rattle.hidden_items.specs.Sound.{HiddenSound}
 use Rattle.forms.specs.declared.Form.{Form}
-use Rattle.forms.specs.Forms.{items-at, equation-row-at, EquationsStand, Stands}
+use Rattle.forms.specs.Forms.{items-at, equation-row-at, EquationsStand, Stands, equation-size}
 use Rattle.pen.specs.Pen.{rows-text}
 use Rattle.printing.specs.Meant.{Told, equation-meant}
 use Rattle.listing.specs.Lines.{line-of, equation-row, visible-text, hidden-text, listing-text}
@@ -27,14 +28,14 @@ module _ (text tape w : List ℕ) (f : Form) where
   abbrev AllTold : Type 0
   AllTold = (i : ℕ) → i < f .«node_count» → Told text tape w (f .visible) (f .hidden) (f .«hidden_count») (getD w (f .nodes + i) 0)
 
-  equations-meant : AllTold → (es : List ResolvedEquation) (i : ℕ) → EquationsStand text tape w f (f .equations + i * 8) es
+  equations-meant : AllTold → (es : List ResolvedEquation) (i : ℕ) → EquationsStand text tape w f (f .equations + i * equation-size) es
       → rows-text (equation-row text w f) i (length es) ≡ lines-text (map (equation-line hidden) es)
   unfolding rows-text equation-row equation-line lines-text each
   equations-meant t [] i s = refl
   equations-meant t (e ∷ es) i s =
-      let next : f .equations + i * 8 + 8 ≡ f .equations + (i + 1) * 8 = omega arith in
+      let next : f .equations + i * equation-size + equation-size ≡ f .equations + (i + 1) * equation-size = omega arith in
       let more = equations-meant t es (i + 1) (subst (λ (b : ℕ). EquationsStand text tape w f b es) next (s .1)) in
-      let row = equation-row-at w (f .equations + i * 8) in
+      let row = equation-row-at w (f .equations + i * equation-size) in
       let nodes : (j : ℕ) → j < row .count → Told text tape w (f .visible) (f .hidden) (f .«hidden_count») (getD w (f .nodes + row .start + j) 0) =
       λ j l. let place : f .nodes + row .start + j ≡ f .nodes + (row .start + j) = omega arith in
       rw place (t (row .start + j) (omega (arith, s .0 .within, l))) in
@@ -46,8 +47,8 @@ module _ (text tape w : List ℕ) (f : Form) where
   unfolding hidden-text hidden-lines
   hidden-meant es t e s =
       let n = f .«hidden_count» in
-      let first : f .hidden + 0 * 16 ≡ f .hidden = omega arith in
-      let start : f .equations ≡ f .equations + 0 * 8 = omega arith in
+      let first : f .hidden + 0 * row-size ≡ f .hidden = omega arith in
+      let start : f .equations ≡ f .equations + 0 * equation-size = omega arith in
       ap₂ _++_
       (hidden-items-meant text tape w (f .hidden) n 0 n ∙ ap (λ (b : ℕ). lines-text (hidden-item-lines hidden 1 (items-at text tape w b n))) first)
       (ap (rows-text (equation-row text w f) 0) e ∙ equations-meant t es 0 (subst (λ (b : ℕ). EquationsStand text tape w f b es) start s))

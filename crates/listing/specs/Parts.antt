@@ -13,9 +13,9 @@ use Rattle.meaning.specs.Normal.{slot-names, formals}
 use Rattle.meaning.specs.Written.{numbered, shape-text}
 use Rattle.meaning.specs.Listing.{Line, line, line-text, lines-text, origin-line, kind-key, item-line, exported-lines, formal-lines, is-exported, parameter-lines, visible-lines, hidden-item-lines}
 use Rattle.names.specs.Word.{name-of}
-use Rattle.tables.specs.Rows.{item-of, row-at}
+use Rattle.tables.specs.Rows.{item-of, row-at, row-size}
 use Rattle.forms.specs.declared.Form.{Form}
-use Rattle.forms.specs.Forms.{slot-at, slots-at, items-at, visible-at}
+use Rattle.forms.specs.Forms.{slot-at, slots-at, items-at, visible-at, slot-size}
 use Rattle.pen.specs.Pen.{rows-text}
 use Rattle.listing.specs.Lines.{line-of, origin-line-of, key-by, rest-of, item-text, standing-row, standing-text, formals-text, parameter-row, hidden-row, visible-text}
 
@@ -131,7 +131,7 @@ module _ (text tape w : List ℕ) where
       let texts : Item → List ℕ = λ (i : Item). item-text s f (i .name) [] i in
       let test : Item → Bool = λ (i : Item). same-section section (i .standing) in
       let tests : _≡_ {A = Item → Bool} test (λ (i : Item). there (i .standing)) = λ j i. h (i .standing) j in
-      rows-told 16 (λ p. item-of text tape (row-at w p)) (items-at text tape w) (λ p. refl) (λ p n. refl) (λ (i : Item). pick (test i) (texts i) []) b c
+      rows-told row-size (λ p. item-of text tape (row-at w p)) (items-at text tape w) (λ p. refl) (λ p n. refl) (λ (i : Item). pick (test i) (texts i) []) b c
       ∙ each-kept test texts xs
       ∙ ap (λ (p : Item → Bool). each texts (keep p xs)) tests
       ∙ each-so texts (λ (i : Item). lines-text (lines i)) (keep (λ (i : Item). there (i .standing)) xs) k
@@ -155,7 +155,7 @@ module _ (text tape w : List ℕ) where
     unfolding parameter-row slot-names slots-at slot-at
     parameters-told =
         let v = visible-at text tape w f in
-        rows-told 2 (λ p. name-of text (getD w p 0)) (λ p n. slot-names (slots-at text w p n)) (λ p. refl) (λ p n. refl) (formals-text text tape w f)
+        rows-told slot-size (λ p. name-of text (getD w p 0)) (λ p n. slot-names (slots-at text w p n)) (λ p. refl) (λ p n. refl) (formals-text text tape w f)
         (f .parameters) (f .«parameter_count»)
         ∙ each-so (formals-text text tape w f) (λ (p : Name). lines-text (parameter-lines v p)) names formals-told
         ∙ sym (lines-each (parameter-lines v) names)
@@ -173,21 +173,23 @@ module _ (text tape w : List ℕ) where
 
   -- hidden items: c rows from b on
   abbrev hidden-lines-at : ℕ → ℕ → ℕ → List Line
-  hidden-lines-at b c i = item-lines "hidden-sort" "hidden-function" (numbered (i + 1)) (items-at text tape w b c) (item-of text tape (row-at w (b + i * 16)))
+  hidden-lines-at b c i =
+      item-lines "hidden-sort" "hidden-function" (numbered (i + 1)) (items-at text tape w b c) (item-of text tape (row-at w (b + i * row-size)))
 
   hidden-told : (b c i : ℕ) → hidden-row text tape w b c i ≡ lines-text (hidden-lines-at b c i)
   unfolding hidden-row
-  hidden-told b c i = item-told "hidden-sort" "hidden-function" (numbered (i + 1)) (items-at text tape w b c) (item-of text tape (row-at w (b + i * 16)))
+  hidden-told b c i = item-told "hidden-sort" "hidden-function" (numbered (i + 1)) (items-at text tape w b c) (item-of text tape (row-at w (b + i * row-size)))
 
   -- n of them from row i on
   pub hidden-items-meant : (b c i n : ℕ)
-      → rows-text (hidden-row text tape w b c) i n ≡ lines-text (hidden-item-lines (items-at text tape w b c) (i + 1) (items-at text tape w (b + i * 16) n))
+      → rows-text (hidden-row text tape w b c) i n
+      ≡ lines-text (hidden-item-lines (items-at text tape w b c) (i + 1) (items-at text tape w (b + i * row-size) n))
   unfolding rows-text items-at hidden-item-lines lines-text each
   hidden-items-meant b c i zero = refl
   hidden-items-meant b c i (suc n) =
       let hidden = items-at text tape w b c in
-      let more = items-at text tape w (b + i * 16 + 16) n in
-      let next : b + (i + 1) * 16 ≡ b + i * 16 + 16 = omega arith in
+      let more = items-at text tape w (b + i * row-size + row-size) n in
+      let next : b + (i + 1) * row-size ≡ b + i * row-size + row-size = omega arith in
       ap₂ _++_ (hidden-told b c i)
       (hidden-items-meant b c (i + 1) n ∙ ap (λ (a : ℕ). lines-text (hidden-item-lines hidden (i + 1 + 1) (items-at text tape w a n))) next)
       ∙ sym (lines-append (hidden-lines-at b c i) (hidden-item-lines hidden (i + 1 + 1) more))

@@ -11,9 +11,10 @@ use lib.ListN.{length, getD}
 use Rattle.meaning.specs.Lists.{pick}
 use Rattle.meaning.specs.Origins.{Origin, same-origin, Shape, sort-shape, function-shape, variable-shape, same-shape, is-sort, is-function, Item, one-item}
 use Rattle.meaning.specs.OrderLaws.{Every, Pairwise}
-use Rattle.tables.specs.Rows.{item-of, row-at}
-use Rattle.tables.specs.Decides.{origins-decided, shapes-decided, items-decided}
-use Rattle.hidden_items.specs.Sound.{declared-name, HiddenItem, Different, HiddenItems}
+use Rattle.laws.specs.Decides.{origins-decided, shapes-decided, items-decided}
+use Rattle.laws.specs.OwnItems.{declared-name}
+use Rattle.tables.specs.Rows.{item-of, row-at, row-size}
+use Rattle.hidden_items.specs.Sound.{HiddenItem, Different, HiddenItems}
 use Rattle.forms.specs.declared.Form.{Form}
 use Rattle.forms.specs.Forms.{items-at, node-row, node-item, VisiblePoint, HiddenPoint, Pointing}
 use Rattle.forms.specs.FormLaws.{length-items, item-at}
@@ -81,7 +82,7 @@ module _ (text tape w : List ℕ) (f : Form) where
   n = f .«hidden_count»
 
   unlike-rows : Unlike (items-at text tape w h n) → (i j : ℕ) → i < n → j < i
-      → alike (item-of text tape (row-at w (h + i * 16))) (item-of text tape (row-at w (h + j * 16))) ≡ false
+      → alike (item-of text tape (row-at w (h + i * row-size))) (item-of text tape (row-at w (h + j * row-size))) ≡ false
   unlike-rows u i j l m =
       let d = item-of text tape (row-at w h) in
       let within : i < length (items-at text tape w h n) = rw (length-items text tape w h n) l in
@@ -92,9 +93,9 @@ module _ (text tape w : List ℕ) (f : Form) where
   module _ (v : ℕ) where
     told-visible : v / 16 % 2 ≡ 0 → VisiblePoint text tape w f v → Told text tape w b h n v
     unfolding node-item node-row pick is-function
-    told-visible z p = go (item-of text tape (row-at w (b + v / 32 * 16)) .shape) refl (rw (eq-eqb (v / 16 % 2) 0 z) at (p .function))
+    told-visible z p = go (item-of text tape (row-at w (b + v / 32 * row-size)) .shape) refl (rw (eq-eqb (v / 16 % 2) 0 z) at (p .function))
       where
-        go : (s : Shape) → item-of text tape (row-at w (b + v / 32 * 16)) .shape ≡ s → is-function s ≡ true → Told text tape w b h n v
+        go : (s : Shape) → item-of text tape (row-at w (b + v / 32 * row-size)) .shape ≡ s → is-function s ≡ true → Told text tape w b h n v
         go sort-shape e q = absurd (false≢true q)
         go (function-shape t) e q = visible-told text tape w b h n v t z e
         go (variable-shape s) e q = absurd (false≢true q)
@@ -102,10 +103,10 @@ module _ (text tape w : List ℕ) (f : Form) where
     told-hidden : Unlike (items-at text tape w h n) → (v / 16 % 2 ≡ 0 → ⊥) → HiddenPoint text tape w f v → Told text tape w b h n v
     unfolding node-item node-row pick is-function is-sort
     told-hidden u z p =
-        go (item-of text tape (row-at w (h + v / 32 * 16)) .shape) refl (rw (ne-eqb (v / 16 % 2) 0 z) at (p .no-sort))
+        go (item-of text tape (row-at w (h + v / 32 * row-size)) .shape) refl (rw (ne-eqb (v / 16 % 2) 0 z) at (p .no-sort))
         (rw (ne-eqb (v / 16 % 2) 0 z) at (p .alone))
       where
-        go : (s : Shape) → item-of text tape (row-at w (h + v / 32 * 16)) .shape ≡ s → is-sort s ≡ false → (is-function s ≡ false → v % 16 ≡ 0)
+        go : (s : Shape) → item-of text tape (row-at w (h + v / 32 * row-size)) .shape ≡ s → is-sort s ≡ false → (is-function s ≡ false → v % 16 ≡ 0)
             → Told text tape w b h n v
         go sort-shape e q a = absurd (false≢true (sym q))
         go (function-shape t) e q a =

@@ -2,6 +2,7 @@
 use printing::sorts::put_shape;
 use tables::Origin;
 use tables::Row;
+use tables::kinds;
 use writing::put_origin;
 ghost use mathlib.Core.Path.{_≡_};
 ghost use mathlib.Core.List.{[]};
@@ -62,10 +63,10 @@ fn put_key(
 ) -> usize
     ensures { λ r. ⌜ pen r (now (out .exit)) ≡ written limit (key-of kind (now (sort .entry)) (now (function .entry))) (pen at (now (out .entry))) ⌝ }
 {
-    if kind == 0 {
+    if kind == kinds::SORT {
         return pen::put_text(out, at, limit, sort);
     }
-    if kind == 1 {
+    if kind == kinds::VARIABLE {
         return pen::put_text(out, at, limit, b"variable");
     }
     pen::put_text(out, at, limit, function)

@@ -2,19 +2,19 @@
 use super::lines::put_hidden_item;
 use super::lines::put_line;
 use super::lines::put_visible_item;
-use forms::EquationRow;
 use forms::Form;
+use forms::SLOT_STEP;
+use forms::equations::read_equation;
 use printing::equations::put_equation;
 use tables::Section;
 use tables::entries::word_at;
 use tables::rows::read_row;
 use tables::sections::same_section;
 ghost use mathlib.Core.Path.{_≡_};
-ghost use Prim.Native.Nat.{_+_, _*_, _^_, _<_};
+ghost use Prim.Native.Nat.{_^_, _<_};
 ghost use Rattle.names.specs.Word.{name-of};
 ghost use Rattle.names.specs.Joint.{joint};
 ghost use Rattle.tables.specs.Rows.{section-of};
-ghost use Rattle.forms.specs.Forms.{equation-row-at};
 ghost use Rattle.pen.specs.Pen.{pen, written, rows-text};
 ghost use Rattle.listing.specs.Lines.{standing-row, standing-text, formals-text, parameter-row, hidden-row, equation-row, visible-text, hidden-text};
 
@@ -129,7 +129,7 @@ fn put_parameter_row(
 ) -> usize
     ensures { λ r. ⌜ pen r (now (out .exit)) ≡ written limit (parameter-row (joint (now (library .entry)) (now (text .entry))) (now (tape .entry)) (now (work .entry)) f i) (pen at (now (out .entry))) ⌝ }
 {
-    let p = word_at(work, f.parameters as usize + i as usize * 2);
+    let p = word_at(work, f.parameters as usize + i as usize * SLOT_STEP);
     put_parameter(out, at, limit, library, text, tape, work, f, p)
 }
 
@@ -243,27 +243,6 @@ fn put_hidden_items(
         i += 1;
     }
     to
-}
-
-// The equation at row i of the table that starts at `base`.
-fn read_equation(w: &[u32], base: u32, i: u32) -> EquationRow
-    ensures { λ r. ⌜ r ≡ equation-row-at (now (w .entry)) (base + i * 8) ⌝ }
-{
-    let b = base as usize + i as usize * 8;
-    let home = word_at(w, b);
-    let position = word_at(w, b + 1);
-    let tag = word_at(w, b + 2);
-    let conditions = word_at(w, b + 3);
-    let start = word_at(w, b + 4);
-    let count = word_at(w, b + 5);
-    EquationRow {
-        home,
-        position,
-        tag,
-        conditions,
-        start,
-        count,
-    }
 }
 
 // The line of the equation at row i of the form's.

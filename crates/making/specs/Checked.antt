@@ -20,7 +20,7 @@ use Rattle.forms.specs.declared.Made.the-variants.{Done, Refused}
 use Rattle.forms.specs.declared.Verdict.{Verdict}
 use Rattle.forms.specs.declared.Verdict.the-variants.{Fine, Stop}
 use Rattle.forms.specs.Memory.{part, Kept}
-use Rattle.forms.specs.Forms.{slots-at, visible-at, Stands}
+use Rattle.forms.specs.Forms.{slots-at, visible-at, Stands, slot-size}
 use Rattle.forms.specs.FormLaws.{length-items}
 use Rattle.forms.specs.Blocks.{BlockLaid, Lies, Fits, Makes, MadeIn}
 use Rattle.forms.specs.Verdicts.{culprit-of, nobody-of, told}
@@ -61,7 +61,7 @@ pub record CheckedForm (text : List ℕ) (t : ℕ) (w : List ℕ) (f : Form) (b 
 pub length-slots : (text w : List ℕ) (b c : ℕ) → length (slots-at text w b c) ≡ c
 unfolding slots-at
 length-slots text w b zero = refl
-length-slots text w b (suc c) = ap suc (length-slots text w (b + 2) c)
+length-slots text w b (suc c) = ap suc (length-slots text w (b + slot-size) c)
 
 pub and-true : (a b : Bool) → (a && b) ≡ true → (a ≡ true) × (b ≡ true)
 and-true true b e = (refl, e)

@@ -1,9 +1,9 @@
 -- Outcomes, and the checks after each clause and each union (document 01, "Evaluating"): 15, 10, 11, and room, 18.
 use Prim.Native.Nat.{ℕ, _+_}
-use mathlib.Core.Bool.{Bool, true, false, not, _&&_, _||_}
+use mathlib.Core.Bool.{Bool, false, not, _&&_, _||_}
 use mathlib.Core.Option.{Option, none, some}
-use mathlib.Core.List.{List, [], _∷_, _++_, map}
-use lib.Dec.{eqb, leb}
+use mathlib.Core.List.{List, [], _∷_, _++_}
+use lib.Dec.{leb}
 use lib.ListN.{length}
 use Rattle.meaning.specs.Lists.{pick, any, sum, agree}
 use Rattle.meaning.specs.Names.{Name, same, by-name}

@@ -2,7 +2,7 @@
 use Prim.Native.Nat.{ℕ}
 use mathlib.Core.Bool.{Bool, true, false, not, _&&_, _||_}
 use mathlib.Core.Option.{Option, none, some}
-use mathlib.Core.List.{List, [], _∷_, _++_, map}
+use mathlib.Core.List.{List, [], _∷_}
 use lib.Dec.{eqb}
 use lib.ListN.{length}
 use Rattle.meaning.specs.Lists.{pick, keep, any, first, first-bad}
@@ -11,7 +11,7 @@ use Rattle.meaning.specs.Numbers.{bad-renaming, bad-parameter, formal-ab
 use Rattle.meaning.specs.Syntax.{Pair}
 use Rattle.meaning.specs.Origins.{Origin, same-origin, Sort, visible-sort, hidden-sort, FunctionType, Shape, sort-shape, function-shape, variable-shape, same-shape, is-function, Item, in-parameter}
 use Rattle.meaning.specs.Normal.{Slot, Visible, Normal, names-in, sorts-among, sort-names, is-called, origin-of, slot-names, formals, unite, move-type, move}
-use Rattle.meaning.specs.Checks.{Culprit, lone, Outcome, fine, stop, _>>=_, _>>_, Check, unless, needs, each-beside, checked}
+use Rattle.meaning.specs.Checks.{Culprit, lone, Outcome, stop, _>>=_, _>>_, Check, unless, needs, each-beside, checked}
 
 -- ---- pairs
 

@@ -1,11 +1,11 @@
 -- What a call gives: the answer, and the lent slices afterwards. This is what the public function's contract cites.
-use mathlib.Core.Path.{_≡_, refl, sym, ap, _∙_}
-use Prim.Native.Nat.{ℕ, _+_, _-_, _≤_}
+use mathlib.Core.Path.{_≡_, refl, sym, _∙_}
+use Prim.Native.Nat.{ℕ, _-_, _≤_}
 use native.Mathlib.Omega.{arith}
 use mathlib.Core.Bool.{Bool, true, false}
-use mathlib.Core.List.{List, [], _∷_, _++_, map}
-use lib.Dec.{leb, ltb, leb→le, T}
-use lib.ListN.{length, drop, length-append, length-drop}
+use mathlib.Core.List.{List, []}
+use lib.Dec.{leb→le, T}
+use lib.ListN.{length, length-append, length-drop}
 use Rattle.meaning.specs.Laws.{by-cases}
 use Rattle.meaning.specs.Lists.{each}
 use Rattle.meaning.specs.Names.{Name}

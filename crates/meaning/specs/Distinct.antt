@@ -4,15 +4,13 @@ use Prim.Native.Nat.{ℕ, zero, suc}
 use native.Mathlib.Omega.{arith}
 use mathlib.Core.Bool.{Bool, true, false}
 use mathlib.Core.List.{List, [], _∷_, _++_}
-use lib.Dec.{eqb, leb}
-use lib.ListN.{length}
 use Rattle.meaning.specs.Lists.{pick}
 use Rattle.meaning.specs.Names.{Name, same, member}
 use Rattle.meaning.specs.Numbers.{module-limit}
 use Rattle.meaning.specs.Syntax.{Module}
 use Rattle.meaning.specs.Grammar.{State, Result, done, refused, after, _>>=_, _>>_, return, refuse, unexpected, if-next, too-many, name, fresh-name, a-module, modules, read}
 use Rattle.meaning.specs.Reached.{module-names}
-use Rattle.meaning.specs.Texts.{Texts, read-texts, all-read, refused-in}
+use Rattle.meaning.specs.Texts.{Texts, read-texts, all-read}
 use Rattle.meaning.specs.TextsLaws.{Parts, read-parts, by-library}
 
 -- no module is called like one before it, or like one of the names taken

@@ -1,8 +1,8 @@
 -- The grammar (document 01, "The text"; 02, request Two; 004, section 2.1): from a text to its modules, or its leftmost offence with the
 -- smaller number at one place: refusals 1 to 5.
 use Prim.Native.Nat.{ℕ, zero, suc, _+_, _-_}
-use mathlib.Core.Bool.{Bool, true, false, not, _&&_, _||_}
-use mathlib.Core.List.{List, [], _∷_, _++_, map}
+use mathlib.Core.Bool.{Bool, not, _||_}
+use mathlib.Core.List.{List, [], _∷_, _++_}
 use lib.Dec.{eqb, leb}
 use lib.ListN.{length}
 use Rattle.types.specs.declared.Token.{Token}

@@ -3,7 +3,7 @@ use Prim.Native.Nat.{ℕ, _+_}
 use Prim.Native.String.{String}
 use mathlib.Core.Bool.{Bool, true, false}
 use mathlib.Core.List.{List, [], _∷_, _++_, map}
-use lib.ListN.{length, take}
+use lib.ListN.{take}
 use Rattle.meaning.specs.Lists.{pick, keep, before, each}
 use Rattle.meaning.specs.Names.{bytes, Name, same, member, words}
 use Rattle.meaning.specs.Origins.{Section, export-section, hidden-section, parameter-section, Origin, ResolvedEquation, Shape, sort-shape, function-shape, variable-shape, Item}

@@ -1,7 +1,7 @@
 -- Choices and lists, for all that follows. A choice goes by `pick`; what recurses is bound by `let`, since a call's arguments are
 -- computed before the call and a `let` waits until it is wanted.
-use Prim.Native.Nat.{ℕ, zero, suc, _+_}
-use mathlib.Core.Bool.{Bool, true, false, not, _&&_, _||_}
+use Prim.Native.Nat.{ℕ, suc, _+_}
+use mathlib.Core.Bool.{Bool, true, false, not}
 use mathlib.Core.Option.{Option, none, some}
 use mathlib.Core.List.{List, [], _∷_, _++_}
 

@@ -1,6 +1,6 @@
 -- Normal forms (document 01, "Origins" and "Evaluating"; 004, section 4.1): a visible part, made of visible parts alone, and a hidden part;
 -- their union, and their translation by new names.
-use mathlib.Core.Bool.{Bool, true, false, not, _&&_}
+use mathlib.Core.Bool.{Bool, true, not, _&&_}
 use mathlib.Core.Option.{Option, none, some}
 use mathlib.Core.List.{List, [], _∷_, _++_, map}
 use Rattle.meaning.specs.Lists.{keep, any, first, all-among, union}

@@ -1,8 +1,7 @@
 -- M's own declarations (document 01, "Evaluating", step 4): its items with their origins, and the checks 13 and 12 of them.
-use Prim.Native.Nat.{ℕ}
-use mathlib.Core.Bool.{Bool, true, false, not, _&&_, _||_}
+use mathlib.Core.Bool.{Bool, false, not, _||_}
 use mathlib.Core.Option.{Option, none, some}
-use mathlib.Core.List.{List, [], _∷_, _++_, map}
+use mathlib.Core.List.{List, _∷_, _++_, map}
 use Rattle.meaning.specs.Lists.{pick, keep, any, first-some, none-in, each, first-bad}
 use Rattle.meaning.specs.Names.{Name, member}
 use Rattle.meaning.specs.Numbers.{bad-sort}

@@ -1,6 +1,6 @@
 -- What a binding's pairs have when none of them is wrong: all that is asked of a pair, of each.
-use mathlib.Core.Path.{_≡_, refl}
-use mathlib.Core.Bool.{Bool, true, not}
+use mathlib.Core.Path.{_≡_}
+use mathlib.Core.Bool.{true, not}
 use mathlib.Core.List.{List, [], _∷_}
 use Rattle.meaning.specs.Lists.{pick, any}
 use Rattle.meaning.specs.Names.{Name, member}

@@ -1,6 +1,5 @@
 -- The asked module and those that it reaches, evaluated in text order (document 01, "Evaluating"); 6.
 use Prim.Native.Nat.{ℕ, _+_}
-use mathlib.Core.Bool.{Bool, true, false}
 use mathlib.Core.List.{List, [], _∷_, _++_, map}
 use lib.Dec.{leb}
 use lib.ListN.{length}

@@ -2,10 +2,9 @@
 use mathlib.Core.Path.{_≡_, refl}
 use Prim.Native.Nat.{ℕ}
 use Prim.Native.String.{String}
-use mathlib.Core.Bool.{Bool, true, false}
+use mathlib.Core.Bool.{true, false}
 use mathlib.Core.List.{[], _∷_, _++_, map}
 use lib.Dec.{ltb}
-use lib.ListN.{length}
 use Rattle.meaning.specs.Lists.{pick}
 use Rattle.meaning.specs.Names.{bytes, Name, bytes-not-after, not-after, words}
 use Rattle.meaning.specs.Numbers.{memory-size, no-token-there, not-allowed, clashing, bad-renaming, bad-parameter, lent-short, bad-line, formal-absent, formal-twice, actual-absent, other-kind, other-type, formal-unpaired}

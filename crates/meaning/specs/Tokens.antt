@@ -1,7 +1,7 @@
 -- Tokens by place (document 01, "The text"; 02, request Two): layout and comments, identifiers and keywords, marks, `->`, `=`, implication,
 -- operators, or none.
 use Prim.Native.Nat.{ℕ, zero, suc, _+_, _-_}
-use mathlib.Core.Bool.{Bool, true, false, not, _&&_, _||_}
+use mathlib.Core.Bool.{Bool, false, not, _&&_, _||_}
 use mathlib.Core.List.{List, [], _∷_}
 use lib.Dec.{eqb, leb, ltb}
 use lib.ListN.{length, drop, getD}

@@ -2,7 +2,7 @@
 use Prim.Native.Nat.{ℕ, _+_}
 use mathlib.Core.Bool.{Bool, true, false, _&&_}
 use mathlib.Core.Option.{Option, none, some}
-use mathlib.Core.List.{List, [], _∷_, _++_, map}
+use mathlib.Core.List.{List, [], _∷_}
 use Rattle.meaning.specs.Lists.{pick, first, or-else, agree}
 use Rattle.meaning.specs.Names.{Name}
 use Rattle.meaning.specs.Numbers.{ill-typed}

@@ -1,11 +1,10 @@
 -- How numbers, origins, types and terms are written, and the order of a normal form that follows from it (document 01, "The listing").
 use Prim.Native.Nat.{ℕ, zero, suc, _+_, _/_, _%_}
-use mathlib.Core.Bool.{Bool, true, false, _&&_}
+use mathlib.Core.Bool.{Bool, _&&_}
 use mathlib.Core.List.{List, [], _∷_, _++_, map}
 use lib.Dec.{eqb, leb, ltb}
-use lib.ListN.{length}
 use Rattle.meaning.specs.Lists.{pick, before, sorted}
-use Rattle.meaning.specs.Names.{bytes, Name, same, bytes-not-after, not-after, by-name, by-bytes, by-two}
+use Rattle.meaning.specs.Names.{bytes, same, bytes-not-after, not-after, by-name, by-bytes, by-two}
 use Rattle.meaning.specs.Origins.{Section, export-section, hidden-section, parameter-section, Declared, declared-sort, declared-function, declared-variable, Origin, same-origin, Sort, visible-sort, hidden-sort, FunctionType, Head, visible-head, hidden-head, ResolvedTerm, var, app, ResolvedTerms, none-left, _and-then_, ResolvedSides, ResolvedEquation, Shape, sort-shape, function-shape, variable-shape, same-shape, Item}
 use Rattle.meaning.specs.Normal.{Slot, Visible, Hidden, Normal, sorts-among}
 

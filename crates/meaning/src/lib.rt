@@ -1,1 +1,2 @@
-// Document 01 as definitions: this crate has no code.
+// Document 01 as definitions; its code are the constants that they name.
+pub mod numbers;

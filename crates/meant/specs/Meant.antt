@@ -12,7 +12,7 @@ use Rattle.meaning.specs.Names.{Name}
 use Rattle.meaning.specs.Numbers.{text-size, over-size}
 use Rattle.meaning.specs.Tokens.{token-at}
 use Rattle.meaning.specs.Syntax.{Module}
-use Rattle.meaning.specs.Grammar.{State, Result, done, refused}
+use Rattle.meaning.specs.Grammar.{Result, done, refused}
 use Rattle.meaning.specs.Grammar
 use Rattle.entries.specs.declared.Place.{Place}
 use Rattle.entries.specs.declared.Reading.the-variants.{Done, Refused}

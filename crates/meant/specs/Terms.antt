@@ -13,7 +13,7 @@ use Rattle.meaning.specs.Laws.{by-cases}
 use Rattle.meaning.specs.Tokens.{token-at, ident, operator}
 use Rattle.meaning.specs.Names.{Name, byte, slice, prefix-name, infix-name, is-operator}
 use Rattle.meaning.specs.Numbers.{argument-limit, node-limit, over-size, name-size}
-use Rattle.meaning.specs.Syntax.{Term, node, terms, Operand, joined-left}
+use Rattle.meaning.specs.Syntax.{Term, node, terms, joined-left}
 use Rattle.meaning.specs.Grammar.{State, Parser, after, _>>=_, return, is, is-name, begins-term}
 use Rattle.meaning.specs.Grammar
 use Rattle.names.specs.Word.{prefix-form, infix-form, in-form}
@@ -23,9 +23,9 @@ use Rattle.tape.specs.Tape.{Entry, entry, spelled, alone-role, head-role, close
 use Rattle.tape.specs.Tape
 use Rattle.entries.specs.Model.{Writer, _>>_, onward, word-in, place}
 use Rattle.entries.specs.Model
-use Rattle.meant.specs.Matches.{Ready, Step, state, Meaning, Matches, both-done, both-refused, Reads, means, next-ready, and-then, and-thus}
+use Rattle.meant.specs.Matches.{Ready, Step, state, Matches, both-done, both-refused, Reads, means, next-ready, and-then, and-thus}
 use Rattle.meant.specs.Lines.{whether, weaker, so, spend, recast, counting, choice, by-next, either, ends, regroup, refuse-meant, unexpected-meant, stay-at, handed, last, closing, line, knowing, pass, after-after, after-pick}
-use Rattle.meant.specs.Steps.{Named, forward, ends-within, after-it, follows, filled, word-slice, word-lies, spelled-name, expect-meant, expect-more, mark-meant, name-at, operator-meant}
+use Rattle.meant.specs.Steps.{Named, ends-within, after-it, follows, filled, word-slice, word-lies, spelled-name, expect-meant, expect-more, mark-meant, name-at, operator-meant}
 use Rattle.meant.specs.Inserted.{inserted-step}
 use Rattle.meant.specs.Lists.{separated-by}
 

@@ -15,6 +15,7 @@ use Rattle.meaning.specs.Origins.{Shape, function-shape, Item, in-parameter}
 use Rattle.meaning.specs.Normal.{names-in, sort-names, is-called, move-shape, move-item}
 use Rattle.meaning.specs.Checks.{Check, _>>_, needs as refused-unless, each-beside}
 use Rattle.meaning.specs.Clauses.{kind-right, type-right, all-right, pair-right, pairs-right}
+use Rattle.meaning.specs.Numbers.{other-kind, other-type}
 use Rattle.names.specs.Word.{name-of}
 use Rattle.tables.specs.declared.Row.{Row}
 use Rattle.tables.specs.Entries.{word-at}
@@ -149,11 +150,11 @@ module _ (text tape w : List ℕ) (m : Mode) (actual : Form) where
         → leb (m .count) i ≡ all-fitting by-type
     none-left by-type i e = none-below text tape w (m .visible) (m .count) i _ e ∙ sym (none-misfit by-type (name-of text x) (name-of text y))
 
-    pub kinds-wrong : (b : Bool) → b ≡ false → b ≡ all-fitting false → Fitting (Stop 25 both)
+    pub kinds-wrong : (b : Bool) → b ≡ false → b ≡ all-fitting false → Fitting (Stop other-kind both)
     unfolding told culprit-of items-fit refused-unless _>>_ pick
     kinds-wrong b h e = rw (← e, h)
 
-    pub types-wrong : (b c : Bool) → b ≡ true → c ≡ false → b ≡ all-fitting false → c ≡ all-fitting true → Fitting (Stop 26 both)
+    pub types-wrong : (b c : Bool) → b ≡ true → c ≡ false → b ≡ all-fitting false → c ≡ all-fitting true → Fitting (Stop other-type both)
     unfolding told culprit-of items-fit refused-unless _>>_ pick
     types-wrong b c h q e f = rw (← e, h, ← f, q)
 

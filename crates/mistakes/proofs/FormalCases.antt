@@ -12,9 +12,10 @@ use Rattle.meaning.specs.Syntax.{Pair}
 use Rattle.meaning.specs.Origins.{in-parameter}
 use Rattle.meaning.specs.Checks.{unless}
 use Rattle.meaning.specs.Clauses.{paired, unpaired}
+use Rattle.meaning.specs.Numbers.{formal-unpaired}
 use Rattle.names.specs.Word.{name-of}
 use Rattle.tables.specs.declared.Row.{Row}
-use Rattle.tables.specs.Rows.{section-of, item-of, row-at}
+use Rattle.tables.specs.Rows.{section-of, item-of, row-at, row-size}
 use Rattle.forms.specs.declared.Verdict.the-variants.{Fine, Stop}
 use Rattle.forms.specs.Forms.{items-at}
 use Rattle.forms.specs.Verdicts.{told, lone-of}
@@ -59,12 +60,12 @@ module _ (text : List ℕ) (a : ℕ) (best : Found) where
     unfolding found lesser pick
     lesser-second q = rw (h, ← e, q)
 
-module _ (text tape w : List ℕ) (m : Mode) (k : ℕ) (best : Found) (x : Row) (e : x ≡ row-at w (m .visible + k * 16)) (b : Bool)
+module _ (text tape w : List ℕ) (m : Mode) (k : ℕ) (best : Found) (x : Row) (e : x ≡ row-at w (m .visible + k * row-size)) (b : Bool)
     (f : b ≡ is-unpaired (name-of text (m .parameter)) (pairs-at text tape (m .pairs)) (item-of text tape x)) where
   abbrev Least : Found → Type 0
   Least r =
       found text r
-      ≡ unpaired-from (name-of text (m .parameter)) (pairs-at text tape (m .pairs)) (item-of text tape (row-at w (m .visible + k * 16))) (found text best)
+      ≡ unpaired-from (name-of text (m .parameter)) (pairs-at text tape (m .pairs)) (item-of text tape (row-at w (m .visible + k * row-size))) (found text best)
 
   pub least-stays : b ≡ false → Least best
   unfolding unpaired-from pick
@@ -79,7 +80,7 @@ module _ (text tape w : List ℕ) (m : Mode) (k : ℕ) (best : Found) (x : Row) 
 pub record Lasting (text tape w : List ℕ) (m : Mode) (k : ℕ) (best : Found) : Type 0 where
   pub inside : k ≤ m .count
   pub least : found text best
-      ≡ unpaired-among (name-of text (m .parameter)) (pairs-at text tape (m .pairs)) (items-at text tape w (m .visible + k * 16) (m .count - k))
+      ≡ unpaired-among (name-of text (m .parameter)) (pairs-at text tape (m .pairs)) (items-at text tape w (m .visible + k * row-size) (m .count - k))
 
 module _ (text tape w : List ℕ) (m : Mode) where
   abbrev parameter : Name
@@ -93,13 +94,13 @@ module _ (text tape w : List ℕ) (m : Mode) where
   last-start = let z : m .count - m .count ≡ 0 = omega arith in record { inside = omega arith; least = rw z }
 
   pub last-again : (k : ℕ) (best r : Found) → 0 < k → Lasting text tape w m k best
-      → found text r ≡ unpaired-from parameter pairs (item-of text tape (row-at w (m .visible + (k - 1) * 16))) (found text best)
+      → found text r ≡ unpaired-from parameter pairs (item-of text tape (row-at w (m .visible + (k - 1) * row-size))) (found text best)
       → Lasting text tape w m (k - 1) r
   unfolding unpaired-among items-at
   last-again k best r h inv e =
       let inside = inv .inside in
       let s : m .count - (k - 1) ≡ suc (m .count - k) = omega arith in
-      let p : m .visible + (k - 1) * 16 + 16 ≡ m .visible + k * 16 = omega arith in
+      let p : m .visible + (k - 1) * row-size + row-size ≡ m .visible + k * row-size = omega arith in
       record { inside = omega arith; least = rw (s, p, ← inv .least) e }
 
   pub last-end : (k : ℕ) (best : Found) → k ≤ 0 → Lasting text tape w m k best
@@ -107,7 +108,7 @@ module _ (text tape w : List ℕ) (m : Mode) where
   unfolding formals-at
   last-end k best h inv =
       let s : m .count - k ≡ m .count = omega arith in
-      let p : m .visible + k * 16 ≡ m .visible = omega arith in
+      let p : m .visible + k * row-size ≡ m .visible = omega arith in
       inv .least
       ∙ ap₂ (λ (b n : ℕ). unpaired-among parameter pairs (items-at text tape w b n)) p s
       ∙ sym (unpaired-told parameter pairs (items-at text tape w (m .visible) (m .count)))
@@ -115,11 +116,11 @@ module _ (text tape w : List ℕ) (m : Mode) where
 -- ---- the verdict
 
 module _ (text : List ℕ) (asked : Option Name) (x : Found) (e : found text x ≡ asked) where
-  pub unpaired-stops : (v : ℕ) → x ≡ At v → told text (Stop 27 (record { name = v; actual = 0 })) ≡ unless 27 asked
+  pub unpaired-stops : (v : ℕ) → x ≡ At v → told text (Stop formal-unpaired (record { name = v; actual = 0 })) ≡ unless formal-unpaired asked
   unfolding told unless found
   unpaired-stops v h = rw (← e, h, lone-of text v)
 
-  pub unpaired-fine : x ≡ Nothing → told text Fine ≡ unless 27 asked
+  pub unpaired-fine : x ≡ Nothing → told text Fine ≡ unless formal-unpaired asked
   unfolding told unless found
   unpaired-fine h = rw (← e, h)
 

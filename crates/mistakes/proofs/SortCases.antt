@@ -12,7 +12,7 @@ use Rattle.meaning.specs.Origins.{same-origin, visible-sort, Item}
 use Rattle.meaning.specs.Normal.{names-in, sorts-among, sort-names, origin-of}
 use Rattle.meaning.specs.Clauses.{paired, same-origins, is-among, is-formal-sort, sort-right, sorts-right}
 use Rattle.names.specs.Word.{name-of}
-use Rattle.tables.specs.Rows.{origin-of as row-origin, sort-of, type-of, row-at}
+use Rattle.tables.specs.Rows.{origin-of as row-origin, sort-of, type-of, row-at, row-size}
 use Rattle.forms.specs.declared.Form.{Form}
 use Rattle.forms.specs.Forms.{items-at, visible-at}
 use Rattle.translation.specs.declared.Mode.{Mode}
@@ -33,7 +33,7 @@ module _ (text tape w : List ℕ) (b n c m a i j : ℕ) (e : i ≡ before (sort-
   asked = one-origin text tape w b n c m (name-of text a)
 
   pub origins-both : (r : Bool) → i < n → j < m
-      → r ≡ same-origin (row-origin text tape (row-at w (b + i * 16) .origin)) (row-origin text tape (row-at w (c + j * 16) .origin)) → r ≡ asked
+      → r ≡ same-origin (row-origin text tape (row-at w (b + i * row-size) .origin)) (row-origin text tape (row-at w (c + j * row-size) .origin)) → r ≡ asked
   unfolding one-origin same-origins
   origins-both r h l g = rw (origin-there text tape w b n a i e h, origin-there text tape w c m a j f l) g
 

@@ -15,9 +15,9 @@ use Rattle.meaning.specs.Origins.{is-function, Item, one-item, in-parameter}
 use Rattle.meaning.specs.Normal.{Visible, is-called, move-item, formals}
 use Rattle.meaning.specs.Checks.{fine}
 use Rattle.meaning.specs.Clauses.{new-sort, new-function, pairs-right, unpaired}
+use Rattle.laws.specs.Decides.{shapes-decided, items-decided}
 use Rattle.names.specs.Word.{name-of}
-use Rattle.tables.specs.Decides.{shapes-decided, items-decided}
-use Rattle.tables.specs.Rows.{item-of, row-at}
+use Rattle.tables.specs.Rows.{item-of, row-at, row-size}
 use Rattle.forms.specs.declared.Form.{Form}
 use Rattle.forms.specs.Forms.{items-at}
 use Rattle.forms.specs.FormLaws.{length-items, item-at}
@@ -65,8 +65,8 @@ module _ (text tape w : List ℕ) (m : Mode) (whole : Visible) (e : items-at tex
 -- row n of the form y has the name and the shape of the item i
 pub record NotedAs (text tape w : List ℕ) (y : Form) (i : Item) (n : ℕ) : Type 0 where
   pub inside : n < y .«visible_count»
-  pub name : item-of text tape (row-at w (y .visible + n * 16)) .name ≡ i .name
-  pub shape : item-of text tape (row-at w (y .visible + n * 16)) .shape ≡ i .shape
+  pub name : item-of text tape (row-at w (y .visible + n * row-size)) .name ≡ i .name
+  pub shape : item-of text tape (row-at w (y .visible + n * row-size)) .shape ≡ i .shape
 
 module _ (text tape w : List ℕ) (m : Mode) (k : ℕ) where
   abbrev item : Item
@@ -84,7 +84,8 @@ module _ (text tape w : List ℕ) (m : Mode) (k : ℕ) where
       let n = before sought items in
       let passes = first-passes sought item items there in
       let inside : n < y .«visible_count» = omega (arith, passes .0, length-items text tape w (y .visible) (y .«visible_count»)) in
-      let row : getD items n item ≡ item-of text tape (row-at w (y .visible + n * 16)) = item-at text tape w (y .visible) (y .«visible_count») n item inside in
+      let row : getD items n item ≡ item-of text tape (row-at w (y .visible + n * row-size)) =
+      item-at text tape w (y .visible) (y .«visible_count») n item inside in
       let parts = both-true _ _ (passes .1) in
       record {
         inside = inside;

@@ -13,7 +13,7 @@ use Rattle.meaning.specs.Normal.{Visible, names-in, is-called, move-type, move-
 use Rattle.meaning.specs.Checks.{fine}
 use Rattle.meaning.specs.Clauses.{paired, otherwise, renaming, new-sort, new-function, sorts-right, type-right, all-right, pairs-right, unpaired}
 use Rattle.meaning.specs.PairLaws.{RightPair, pairs-fine}
-use Rattle.tables.specs.Decides.{shapes-decided}
+use Rattle.laws.specs.Decides.{shapes-decided}
 use Rattle.clauses.specs.Joined.{both-true, every-of, any-middle}
 use Rattle.clauses.specs.Searches.{like}
 use Rattle.mistakes.specs.Unpaired.{is-none, same-other-way}

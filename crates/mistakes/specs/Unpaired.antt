@@ -8,7 +8,7 @@ use Rattle.meaning.specs.Names.{Name, same, lesser, least}
 use Rattle.meaning.specs.OrderLaws.{same-self, same-equal}
 use Rattle.meaning.specs.Syntax.{Pair}
 use Rattle.meaning.specs.Origins.{Item, in-parameter}
-use Rattle.meaning.specs.Normal.{Visible, names-in, is-called}
+use Rattle.meaning.specs.Normal.{names-in, is-called}
 use Rattle.meaning.specs.Clauses.{paired, unpaired}
 
 -- an item called a that stands in the parameter p

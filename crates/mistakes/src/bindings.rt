@@ -13,7 +13,9 @@ use clauses::searches::is_visible;
 use forms::Culprit;
 use forms::Form;
 use forms::Verdict;
+use meaning::numbers;
 use tables::Row;
+use tables::kinds;
 use tables::rows::read_row;
 use translation::Mode;
 use translation::rows::moved_row;
@@ -48,10 +50,10 @@ fn kind_right(
 {
     let b = actual.visible;
     let n = actual.visible_count;
-    if kind == 0 {
+    if kind == kinds::SORT {
         return has_sort(library, text, work, t, b, n, new);
     }
-    if kind == 1 {
+    if kind == kinds::VARIABLE {
         return true;
     }
     has_function(library, text, work, t, b, n, new)
@@ -94,7 +96,7 @@ fn type_right(
 {
     let kind = row.kind;
     let sorts = row.sorts;
-    if kind < 2 {
+    if kind < kinds::FUNCTION {
         return true;
     }
     if sorts_right(library, text, work, t, m, actual, kind, sorts) {
@@ -225,9 +227,9 @@ fn items_right(
         if all_right(library, text, work, t, m, actual, true, old, new) {
             return Verdict::Fine;
         }
-        return Verdict::Stop(26, both);
+        return Verdict::Stop(numbers::OTHER_TYPE, both);
     }
-    Verdict::Stop(25, both)
+    Verdict::Stop(numbers::OTHER_KIND, both)
 }
 
 // Pair k: 22 where no formal item has its old name, 23 where a pair before gives it, 24 where nothing visible has its new name; then 25, 26.
@@ -256,14 +258,14 @@ fn pair_right(
     };
     if find_formal(library, text, work, t, m, old) < n {
         if is_given(library, text, &work[0..t], pairs, k, old) {
-            return Verdict::Stop(23, both);
+            return Verdict::Stop(numbers::FORMAL_TWICE, both);
         }
         if is_visible(library, text, work, t, b, c, new) {
             return items_right(library, text, work, t, m, actual, old, new);
         }
-        return Verdict::Stop(24, both);
+        return Verdict::Stop(numbers::ACTUAL_ABSENT, both);
     }
-    Verdict::Stop(22, both)
+    Verdict::Stop(numbers::FORMAL_ABSENT, both)
 }
 
 // The pairs in text order, up to the first that is wrong.

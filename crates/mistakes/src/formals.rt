@@ -3,6 +3,7 @@ use clauses::Found;
 use clauses::pairs::paired_word;
 use forms::Culprit;
 use forms::Verdict;
+use meaning::numbers;
 use names::joint::not_after;
 use tables::Row;
 use tables::entries::same_word;
@@ -19,7 +20,7 @@ ghost use Rattle.meaning.specs.Checks.{unless};
 ghost use Rattle.meaning.specs.Clauses.{unpaired};
 ghost use Rattle.names.specs.Word.{name-of};
 ghost use Rattle.names.specs.Joint.{joint};
-ghost use Rattle.tables.specs.Rows.{item-of, row-at};
+ghost use Rattle.tables.specs.Rows.{item-of, row-at, row-size};
 ghost use Rattle.forms.specs.Memory.{part};
 ghost use Rattle.forms.specs.Forms.{items-at};
 ghost use Rattle.forms.specs.Verdicts.{told};
@@ -104,7 +105,7 @@ fn least_from(
     best: Found,
 ) -> Found
     requires { ⌜ t ≤ length (now work) ⌝ }
-    ensures { λ r. ⌜ found (joint (now (library .entry)) (now (text .entry))) r ≡ unpaired-from (name-of (joint (now (library .entry)) (now (text .entry))) (m .parameter)) (pairs-at (joint (now (library .entry)) (now (text .entry))) (part (now (work .entry)) 0 t) (m .pairs)) (item-of (joint (now (library .entry)) (now (text .entry))) (part (now (work .entry)) 0 t) (row-at (now (work .entry)) (m .visible + k * 16))) (found (joint (now (library .entry)) (now (text .entry))) best) ⌝ }
+    ensures { λ r. ⌜ found (joint (now (library .entry)) (now (text .entry))) r ≡ unpaired-from (name-of (joint (now (library .entry)) (now (text .entry))) (m .parameter)) (pairs-at (joint (now (library .entry)) (now (text .entry))) (part (now (work .entry)) 0 t) (m .pairs)) (item-of (joint (now (library .entry)) (now (text .entry))) (part (now (work .entry)) 0 t) (row-at (now (work .entry)) (m .visible + k * row-size))) (found (joint (now (library .entry)) (now (text .entry))) best) ⌝ }
 {
     let b = m.visible;
     let row = read_row(work, b, k);
@@ -136,7 +137,7 @@ pub fn unpaired(library: &[u8], text: &[u8], work: &[u32], t: usize, m: Mode) ->
 {
     let least = least_unpaired(library, text, work, t, m);
     match least {
-        Found::At(w) => Verdict::Stop(27, Culprit { name: w, actual: 0 }),
+        Found::At(w) => Verdict::Stop(numbers::FORMAL_UNPAIRED, Culprit { name: w, actual: 0 }),
         Found::Nothing => Verdict::Fine,
     }
 }

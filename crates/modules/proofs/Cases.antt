@@ -14,6 +14,7 @@ use Rattle.meaning.specs.Lists.{pick, before}
 use Rattle.meaning.specs.Names.{Name, same, member}
 use Rattle.meaning.specs.Checks.{_>>_}
 use Rattle.meaning.specs.Evaluate.{missing, too-late, names-right}
+use Rattle.meaning.specs.Numbers.{named-absent, named-late}
 use Rattle.names.specs.Word.{name-of}
 use Rattle.tables.specs.Entries.{role-at, word-at, name-at}
 use Rattle.forms.specs.declared.Culprit.{Culprit}
@@ -151,7 +152,7 @@ module _ (text tape : List ℕ) (h : Heads) (k w p count : ℕ) (c : count ≡ h
   unfolding declared
   number = length-names text tape (h .places) 0 (h .count) ∙ sym c
 
-  pub right-absent : count ≤ p → told text (Stop 7 (record { name = w; actual = 0 })) ≡ name-right (declared text tape h) k (name-of text w)
+  pub right-absent : count ≤ p → told text (Stop named-absent (record { name = w; actual = 0 })) ≡ name-right (declared text tape h) k (name-of text w)
   unfolding name-right names-right missing told pick not
   right-absent l = rw (lone-of text w, member-absent (name-of text w) (declared text tape h) (omega (arith, number)))
 
@@ -159,7 +160,7 @@ module _ (text tape : List ℕ) (h : Heads) (k w p count : ℕ) (c : count ≡ h
     there : member (name-of text w) (declared text tape h) ≡ true
     there = member-found (name-of text w) (declared text tape h) (omega (arith, number))
 
-    pub right-late : k ≤ p → told text (Stop 8 (record { name = w; actual = 0 })) ≡ name-right (declared text tape h) k (name-of text w)
+    pub right-late : k ≤ p → told text (Stop named-late (record { name = w; actual = 0 })) ≡ name-right (declared text tape h) k (name-of text w)
     unfolding name-right names-right missing too-late told pick not _&&_
     right-late m = rw (lone-of text w, there, member-late (name-of text w) (declared text tape h) k (omega arith))
 

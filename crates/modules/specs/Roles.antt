@@ -11,8 +11,8 @@ use Rattle.meaning.specs.Names.{Name}
 use Rattle.meaning.specs.Syntax.{Pair, Clause, renamed-by, bound-by, Import, Module}
 use Rattle.meaning.specs.Evaluate.{clause-names, import-names, named-by}
 use Rattle.meaning.specs.Reached.{module-names}
-use Rattle.tape.specs.Tape.{Entry, flat-signature, flat-parameter, flat-pair, flat-clause, flat-import, flat-group, flat-module, flat-modules}
-use Rattle.walks.specs.Flat.{All, behind-name, all-append, all-signature, all-parameters, all-groups, all-pairs, all-equations, all-behind}
+use Rattle.tape.specs.Roles.{All, behind-name, all-append, all-signature, all-parameters, all-groups, all-pairs, all-equations, all-behind}
+use Rattle.tape.specs.Tape.{Entry, flat-signature, flat-parameter, flat-pair, flat-clause, flat-import, flat-group, flat-module, flat-modules, module-role, export-sort, export-function, hidden-sort, hidden-function, import-role, actual-role}
 use Rattle.walks.specs.Flat.{names-with, names-append, names-each, names-none}
 use Rattle.modules.specs.Modules.{is-module, names-module}
 
@@ -21,7 +21,7 @@ use Rattle.modules.specs.Modules.{is-module, names-module}
 -- no other module begins in the body of one
 pub no-head-body : (m : Module) → names-with is-module (behind-name m) ≡ []
 unfolding is-module
-no-head-body m = names-none is-module (behind-name m) (all-behind (λ (r : ℕ). is-module r ≡ false) (λ r h. ne-eqb r 1 (λ e. omega arith)) m)
+no-head-body m = names-none is-module (behind-name m) (all-behind (λ (r : ℕ). is-module r ≡ false) (λ r h. ne-eqb r module-role (λ e. omega arith)) m)
 
 pub head-name : (m : Module) → names-with is-module (flat-module m) ≡ m .name ∷ []
 unfolding flat-module behind-name names-with is-module pick
@@ -38,9 +38,9 @@ head-names (m ∷ ms) = names-append is-module (flat-module m) (each flat-module
 abbrev Other : ℕ → Type 0
 Other r = names-module r ≡ false
 
-other : (r : ℕ) → (r ≡ 11 → ⊥) → (r ≡ 16 → ⊥) → Other r
+other : (r : ℕ) → (r ≡ import-role → ⊥) → (r ≡ actual-role → ⊥) → Other r
 unfolding names-module pick
-other r h l = rw (ne-eqb r 11 h) (ne-eqb r 16 l)
+other r h l = rw (ne-eqb r import-role h) (ne-eqb r actual-role l)
 
 skip-left : (es fs : List Entry) → All Other es → names-with names-module (es ++ fs) ≡ names-with names-module fs
 skip-left es fs h = rw (names-append names-module es fs, names-none names-module es h)
@@ -53,9 +53,9 @@ in-imports : (m : Module) → names-with names-module (behind-name m) ≡ names-
 unfolding behind-name names-module pick
 in-imports m =
     skip-left (each flat-parameter (m .parameters)) _ (all-parameters Other refl refl refl refl refl (m .parameters))
-    ∙ skip-left (flat-signature 5 6 (m .exports)) _ (all-signature Other 5 6 refl refl refl refl (m .exports))
+    ∙ skip-left (flat-signature export-sort export-function (m .exports)) _ (all-signature Other 5 6 refl refl refl refl (m .exports))
     ∙ skip-right (each flat-import (m .imports)) _
-    (all-append Other (flat-signature 7 8 (m .hidden)) _ (all-signature Other 7 8 refl refl refl refl (m .hidden))
+    (all-append Other (flat-signature hidden-sort hidden-function (m .hidden)) _ (all-signature Other 7 8 refl refl refl refl (m .hidden))
     (all-append Other (each flat-group (m .groups)) _ (all-groups Other refl refl (m .groups))
     (all-equations Other (λ r h. other r (λ e. omega arith) (λ e. omega arith)) (m .equations))))
 

@@ -2,8 +2,10 @@
 // A module's number is its place among the modules of the text, from 0.
 use forms::Culprit;
 use forms::Verdict;
+use meaning::numbers;
 use tables::entries::name_at;
 use tables::entries::role_at;
+use tape::roles;
 ghost use mathlib.Core.Path.{_≡_};
 ghost use mathlib.Core.List.{[], _∷_};
 ghost use lib.ListN.{getD, take};
@@ -26,17 +28,17 @@ pub struct Heads {
 fn is_module(role: u32) -> bool
     ensures { λ r. ⌜ r ≡ is-module role ⌝ }
 {
-    role == 1
+    role == roles::MODULE
 }
 
 // Is the name at an entry with the role that of a module which an import or a binding uses?
 pub fn names_module(role: u32) -> bool
     ensures { λ r. ⌜ r ≡ names-module role ⌝ }
 {
-    if role == 11 {
+    if role == roles::IMPORT {
         return true;
     }
-    role == 16
+    role == roles::ACTUAL
 }
 
 // The heads of the modules among the first n entries, up to 64.
@@ -119,10 +121,10 @@ fn name_right(library: &[u8], text: &[u8], tape: &[u32], h: Heads, k: u32, w: u3
     let count = h.count;
     let p = find_number(library, text, tape, h, w);
     if count <= p {
-        return Verdict::Stop(7, Culprit { name: w, actual: 0 });
+        return Verdict::Stop(numbers::NAMED_ABSENT, Culprit { name: w, actual: 0 });
     }
     if k <= p {
-        return Verdict::Stop(8, Culprit { name: w, actual: 0 });
+        return Verdict::Stop(numbers::NAMED_LATE, Culprit { name: w, actual: 0 });
     }
     Verdict::Fine
 }

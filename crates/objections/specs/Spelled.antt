@@ -13,8 +13,9 @@ use Rattle.meaning.specs.Names.{Name, same, member}
 use Rattle.meaning.specs.Syntax.{Module}
 use Rattle.meaning.specs.Evaluate.{named-by, missing, too-late}
 use Rattle.meaning.specs.Reached.{Placed, module-names}
-use Rattle.tape.specs.Tape.{Entry, entry, flat-signature, flat-parameter, flat-import, flat-group, flat-equation, flat-module, flat-modules, spelled, entries}
-use Rattle.walks.specs.Flat.{all-signature, all-parameters, each-import}
+use Rattle.tape.specs.Roles.{all-signature, all-parameters}
+use Rattle.tape.specs.Tape.{Entry, entry, flat-signature, flat-parameter, flat-import, flat-group, flat-equation, flat-module, flat-modules, spelled, entries, module-role, export-sort, export-function, hidden-sort, hidden-function}
+use Rattle.walks.specs.Flat.{each-import}
 use Rattle.tape_told.specs.Parts.{Passing, Ends}
 use Rattle.tape_told.specs.Told.{head-ends, exports-end, imports-end}
 use Rattle.tables.specs.Entries.{name-at}
@@ -102,7 +103,7 @@ module _ (text tape : List ℕ) (t : ℕ) (ms : List Module) (h : Heads) (s : Sp
   -- its name stands at its first
   pub name-spelled : name-at text tape (place h k) ≡ m .name
   unfolding entries-from flat-module spelled
-  name-spelled = rw begins (name-of-first _ _ (first-entries text tape from size (entry 1 (m .name) ∷ []) _ spelled-there))
+  name-spelled = rw begins (name-of-first _ _ (first-entries text tape from size (entry module-role (m .name) ∷ []) _ spelled-there))
 
   -- ---- its sections
 
@@ -131,20 +132,20 @@ module _ (text tape : List ℕ) (t : ℕ) (ms : List Module) (h : Heads) (s : Sp
         rw (number, less) (last-entries text tape start left xs ys q)
 
   abbrev after-imports : List Entry
-  after-imports = flat-signature 7 8 (m .hidden) ++ (each flat-group (m .groups) ++ each flat-equation (m .equations))
+  after-imports = flat-signature hidden-sort hidden-function (m .hidden) ++ (each flat-group (m .groups) ++ each flat-equation (m .equations))
 
   abbrev after-exports : List Entry
   after-exports = each flat-import (m .imports) ++ after-imports
 
   abbrev after-parameters : List Entry
-  after-parameters = flat-signature 5 6 (m .exports) ++ after-exports
+  after-parameters = flat-signature export-sort export-function (m .exports) ++ after-exports
 
   parameters-from : FromSection 0 (each flat-parameter (m .parameters) ++ after-parameters)
   unfolding section-start section-from body-start flat-module pick
   parameters-from =
       let some : from < from + size = omega arith in
       let less : from + size - (from + 1) ≡ size - 1 = omega arith in
-      rw (begins, ends, lt-ltb from (from + size) some, less) (last-entries text tape from size (entry 1 (m .name) ∷ []) _ spelled-there)
+      rw (begins, ends, lt-ltb from (from + size) some, less) (last-entries text tape from size (entry module-role (m .name) ∷ []) _ spelled-there)
 
   parameters-of : OfSection the-parameters (each flat-parameter (m .parameters))
   unfolding section-role declaring between pick
@@ -154,7 +155,7 @@ module _ (text tape : List ℕ) (t : ℕ) (ms : List Module) (h : Heads) (s : Sp
   unfolding section-role declaring between pick
   parameters-end = behind-section the-parameters after-parameters (head-ends (section-role the-parameters) m refl refl refl refl refl refl refl refl)
 
-  exports-of : OfSection the-exports (flat-signature 5 6 (m .exports))
+  exports-of : OfSection the-exports (flat-signature export-sort export-function (m .exports))
   unfolding section-role declaring between pick
   exports-of = all-signature (Passing (section-role the-exports)) 5 6 refl refl refl refl (m .exports)
 
@@ -174,13 +175,13 @@ module _ (text tape : List ℕ) (t : ℕ) (ms : List Module) (h : Heads) (s : Sp
   exports-from = section-on 0 (each flat-parameter (m .parameters)) after-parameters parameters-from parameters-of parameters-end
 
   imports-from : FromSection 2 after-exports
-  imports-from = section-on 1 (flat-signature 5 6 (m .exports)) after-exports exports-from exports-of exports-behind
+  imports-from = section-on 1 (flat-signature export-sort export-function (m .exports)) after-exports exports-from exports-of exports-behind
 
   pub parameters-spelled : section-entries text tape h k the-parameters ≡ each flat-parameter (m .parameters)
   parameters-spelled = section-is 0 (each flat-parameter (m .parameters)) after-parameters parameters-from parameters-of parameters-end
 
-  pub exports-spelled : section-entries text tape h k the-exports ≡ flat-signature 5 6 (m .exports)
-  exports-spelled = section-is 1 (flat-signature 5 6 (m .exports)) after-exports exports-from exports-of exports-behind
+  pub exports-spelled : section-entries text tape h k the-exports ≡ flat-signature export-sort export-function (m .exports)
+  exports-spelled = section-is 1 (flat-signature export-sort export-function (m .exports)) after-exports exports-from exports-of exports-behind
 
   pub imports-spelled : section-entries text tape h k the-imports ≡ each flat-import (m .imports)
   imports-spelled = section-is 2 (each flat-import (m .imports)) after-imports imports-from imports-of imports-behind

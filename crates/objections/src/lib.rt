@@ -3,6 +3,8 @@
 use alike::run_size;
 use alike::same_part;
 use alike::same_section;
+use alike::sections;
+use asking_again::reasons;
 use modules::Heads;
 use modules::find_number;
 use modules::name_of_module;
@@ -70,7 +72,7 @@ fn otherwise(
         return Objection::Nothing;
     }
     Objection::Against(Why {
-        reason: 3,
+        reason: reasons::REACHED_OTHERWISE,
         by: w,
         name: v,
         new_name: true,
@@ -122,7 +124,7 @@ fn itself(
         if same_module(library, text, tape, h, behind, other, more, g, k, n) {
             return Objection::Nothing;
         }
-        return changed(4, w);
+        return changed(reasons::ASKED_CHANGED, w);
     }
     Objection::Nothing
 }
@@ -206,16 +208,52 @@ fn shown(
     ensures { λ r. ⌜ told (joint (now (library .entry)) (now (text .entry))) (joint (now (behind .entry)) (now (other .entry))) r ≡ shown-at (joint (now (library .entry)) (now (text .entry))) (now (tape .entry)) h (joint (now (behind .entry)) (now (other .entry))) (now (more .entry)) g k n ⌝ }
 {
     let by = name_of_module(tape, h, k);
-    if same_there(library, text, tape, h, behind, other, more, g, k, n, 0) {
-        if same_there(library, text, tape, h, behind, other, more, g, k, n, 1) {
-            if same_there(library, text, tape, h, behind, other, more, g, k, n, 2) {
+    if same_there(
+        library,
+        text,
+        tape,
+        h,
+        behind,
+        other,
+        more,
+        g,
+        k,
+        n,
+        sections::PARAMETERS,
+    ) {
+        if same_there(
+            library,
+            text,
+            tape,
+            h,
+            behind,
+            other,
+            more,
+            g,
+            k,
+            n,
+            sections::EXPORTS,
+        ) {
+            if same_there(
+                library,
+                text,
+                tape,
+                h,
+                behind,
+                other,
+                more,
+                g,
+                k,
+                n,
+                sections::IMPORTS,
+            ) {
                 return Objection::Nothing;
             }
-            return changed(7, by);
+            return changed(reasons::IMPORTS_CHANGED, by);
         }
-        return changed(6, by);
+        return changed(reasons::EXPORTS_CHANGED, by);
     }
-    changed(5, by)
+    changed(reasons::PARAMETERS_CHANGED, by)
 }
 
 // ---- the names of modules that it uses
@@ -304,7 +342,7 @@ fn names(
                 j += 1;
             } else {
                 return Objection::Against(Why {
-                    reason: 8,
+                    reason: reasons::NAMED_OTHERWISE,
                     by,
                     name,
                     new_name: false,

@@ -15,7 +15,7 @@ use Rattle.meaning.specs.Lists.{sorted-onto}
 use Rattle.meaning.specs.Names.{Name, not-after}
 use Rattle.meaning.specs.OrderLaws.{names-ordered}
 use Rattle.names.specs.Word.{name-of}
-use Rattle.tables.specs.Rows.{words-from}
+use Rattle.tables.specs.Rows.{words-from, row-size}
 use Rattle.forms.specs.Memory.{Kept}
 use Rattle.forms.specs.FormLaws.{kept-all, kept-wider, kept-then}
 use Rattle.order.specs.Order.{name-in, upto, name-order, InOrder, Spot, Inserted, PutInOrder, NamesApart}
@@ -23,8 +23,8 @@ use Rattle.order.specs.Sorting.{lt-or-ge, yes-below, no-above, ordered-n
 
 -- ---- `name_in`
 
-module _ (i s : ℕ) (h : i < 2 ^ 32) (l : s ≤ 16) where
-  far : i * s ≤ i * 16
+module _ (i s : ℕ) (h : i < 2 ^ 32) (l : s ≤ row-size) where
+  far : i * s ≤ i * row-size
   far = mul-le-mul-left i l
 
   pub stride-fits : Fits w64 (i * s)

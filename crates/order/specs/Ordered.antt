@@ -9,8 +9,8 @@ use Rattle.meaning.specs.Origins.{Item}
 use Rattle.meaning.specs.Normal.{Slot}
 use Rattle.meaning.specs.OrderLaws.{sorted-map}
 use Rattle.names.specs.Word.{name-of}
-use Rattle.tables.specs.Rows.{words-from, row-at, item-of}
-use Rattle.forms.specs.Forms.{slot-at, slots-at, items-at}
+use Rattle.tables.specs.Rows.{words-from, row-at, item-of, row-size}
+use Rattle.forms.specs.Forms.{slot-at, slots-at, items-at, slot-size}
 use Rattle.forms.specs.FormLaws.{items-grow, slots-grow}
 use Rattle.order.specs.Order.{name-in, upto, name-order, InOrder}
 
@@ -43,37 +43,37 @@ module _ {A : Type 0} (at : ℕ → A) (table : ℕ → List A) (grows : (n : �
 
 -- the item of row k of the table at b
 abbrev pub row-item : List ℕ → List ℕ → List ℕ → ℕ → ℕ → Item
-row-item text tape w b k = item-of text tape (row-at w (b + k * 16))
+row-item text tape w b k = item-of text tape (row-at w (b + k * row-size))
 
 module _ (text tape w : List ℕ) (b : ℕ) where
-  pub row-called : (k : ℕ) → row-item text tape w b k .name ≡ name-in text w (b + 1) 16 k
+  pub row-called : (k : ℕ) → row-item text tape w b k .name ≡ name-in text w (b + 1) row-size k
   unfolding item-of row-at name-in
-  row-called k = let e : b + k * 16 + 1 ≡ b + 1 + k * 16 = omega arith in ap (λ (i : ℕ). name-of text (getD w i 0)) e
+  row-called k = let e : b + k * row-size + 1 ≡ b + 1 + k * row-size = omega arith in ap (λ (i : ℕ). name-of text (getD w i 0)) e
 
   pub items-upto : (n : ℕ) → map (row-item text tape w b) (upto n) ≡ items-at text tape w b n
   unfolding items-at
   items-upto n = table-upto (row-item text tape w b) (items-at text tape w b) (items-grow text tape w b) refl n
 
-  pub ordered-items : (p n : ℕ) → InOrder text w (b + 1) 16 p n
+  pub ordered-items : (p n : ℕ) → InOrder text w (b + 1) row-size p n
       → map (row-item text tape w b) (words-from w p n) ≡ by-name (λ (i : Item). i .name) (items-at text tape w b n)
   unfolding items-at
   ordered-items p n ord =
-      ordered-table (row-item text tape w b) (items-at text tape w b) (items-grow text tape w b) refl (λ (i : Item). i .name) text w (b + 1) 16 p n
+      ordered-table (row-item text tape w b) (items-at text tape w b) (items-grow text tape w b) refl (λ (i : Item). i .name) text w (b + 1) row-size p n
       row-called ord
 
 -- ---- parameters
 
 -- the k-th of the parameters at b
 abbrev pub row-slot : List ℕ → List ℕ → ℕ → ℕ → Slot
-row-slot text w b k = slot-at text w (b + k * 2)
+row-slot text w b k = slot-at text w (b + k * slot-size)
 
 module _ (text w : List ℕ) (b : ℕ) where
   pub slot-called : (k : ℕ) → row-slot text w b k .name ≡ name-in text w b 2 k
   unfolding slot-at name-in
   slot-called k = refl
 
-  pub ordered-slots : (p n : ℕ) → InOrder text w b 2 p n
+  pub ordered-slots : (p n : ℕ) → InOrder text w b slot-size p n
       → map (row-slot text w b) (words-from w p n) ≡ by-name (λ (q : Slot). q .name) (slots-at text w b n)
   unfolding slots-at
   ordered-slots p n ord =
-      ordered-table (row-slot text w b) (slots-at text w b) (slots-grow text w b) refl (λ (q : Slot). q .name) text w b 2 p n slot-called ord
+      ordered-table (row-slot text w b) (slots-at text w b) (slots-grow text w b) refl (λ (q : Slot). q .name) text w b slot-size p n slot-called ord

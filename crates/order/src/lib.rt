@@ -8,11 +8,12 @@ ghost use lib.ListN.{length, getD};
 ghost use Rattle.meaning.specs.Names.{not-after};
 ghost use Rattle.names.specs.Word.{name-of};
 ghost use Rattle.names.specs.Joint.{joint};
+ghost use Rattle.tables.specs.Rows.{row-size};
 ghost use Rattle.order.specs.Order.{name-in, InOrder, Spot, Inserted, PutInOrder, NamesApart};
 
 // The word of name i.
 pub fn name_in(w: &[u32], b: u32, s: u32, i: u32) -> u32
-    requires { ⌜ s ≤ 16 ⌝ }
+    requires { ⌜ s ≤ row-size ⌝ }
     ensures { λ r. ⌜ r ≡ getD (now (w .entry)) (b + i * s) 0 ⌝ }
 {
     word_at(w, b as usize + i as usize * s as usize)
@@ -46,7 +47,7 @@ fn comes_before(
     i: u32,
     x: u32,
 ) -> bool
-    requires { ⌜ s ≤ 16 ⌝ }
+    requires { ⌜ s ≤ row-size ⌝ }
     ensures { λ r. ⌜ r ≡ not-after (name-in (joint (now (library .entry)) (now (text .entry))) (now (w .entry)) b s (getD (now (w .entry)) (p + i) 0)) (name-of (joint (now (library .entry)) (now (text .entry))) x) ⌝ }
 {
     let k = number_in(w, p, i);
@@ -55,7 +56,7 @@ fn comes_before(
 
 // Where the name x belongs among the n names in order: behind all that are not after it.
 fn find_place(library: &[u8], text: &[u8], w: &[u32], b: u32, s: u32, p: u32, n: u32, x: u32) -> u32
-    requires { ⌜ s ≤ 16 ⌝ }
+    requires { ⌜ s ≤ row-size ⌝ }
     requires { ⌜ InOrder (joint (now library) (now text)) (now w) b s p n ⌝ }
     ensures { λ r. ⌜ Spot (joint (now (library .entry)) (now (text .entry))) (now (w .entry)) b s p n x r ⌝ }
 {
@@ -88,7 +89,7 @@ pub fn insert_word(w: &mut [u32], a: usize, e: usize, v: u32)
 
 // Name r put in its place among the r names before it.
 fn order_name(library: &[u8], text: &[u8], work: &mut [u32], b: u32, s: u32, p: u32, r: u32)
-    requires { ⌜ s ≤ 16 ⌝ }
+    requires { ⌜ s ≤ row-size ⌝ }
     requires { ⌜ p + r < length (now work) ⌝ }
     requires { ⌜ NamesApart b s p (r + 1) ⌝ }
     requires { ⌜ InOrder (joint (now library) (now text)) (now work) b s p r ⌝ }
@@ -103,7 +104,7 @@ fn order_name(library: &[u8], text: &[u8], work: &mut [u32], b: u32, s: u32, p: 
 
 // The numbers of n names in order, from p on.
 pub fn order_names(library: &[u8], text: &[u8], work: &mut [u32], b: u32, s: u32, n: u32, p: u32)
-    requires { ⌜ s ≤ 16 ⌝ }
+    requires { ⌜ s ≤ row-size ⌝ }
     requires { ⌜ p + n ≤ length (now work) ⌝ }
     requires { ⌜ NamesApart b s p n ⌝ }
     ensures { λ u. ⌜ PutInOrder (joint (now (library .entry)) (now (text .entry))) (now (work .entry)) (now (work .exit)) b s p n ⌝ }

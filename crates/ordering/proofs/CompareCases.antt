@@ -18,9 +18,9 @@ use Rattle.runs.specs.Orders.{compared, bytes-compared}
 use Rattle.tables.specs.declared.Section.{Section}
 use Rattle.tables.specs.declared.Section.the-variants as section
 use Rattle.tables.specs.declared.Row.{Row}
-use Rattle.tables.specs.Rows.{section-of, origin-of, type-of, sort-of, shape-of, item-of, row-at}
+use Rattle.tables.specs.Rows.{section-of, origin-of, type-of, sort-of, shape-of, item-of, row-at, row-size}
 use Rattle.forms.specs.declared.EquationRow.{EquationRow}
-use Rattle.forms.specs.Forms.{items-at, equation-row-at}
+use Rattle.forms.specs.Forms.{items-at, equation-row-at, equation-size}
 use Rattle.order.specs.Ordered.{row-item}
 use Rattle.ordering.specs.declared.Table.{Table}
 use Rattle.ordering.specs.declared.Table.the-variants.{Visible, Sorts, Hidden, Equations}
@@ -210,7 +210,7 @@ module _ (text w : List ℕ) (v n : ℕ) (a b : EquationRow) where
 
 -- ---- rows of a table
 
-module _ (text tape w : List ℕ) (base i j : ℕ) (a b : Row) (ea : a ≡ row-at w (base + i * 16)) (eb : b ≡ row-at w (base + j * 16)) where
+module _ (text tape w : List ℕ) (base i j : ℕ) (a b : Row) (ea : a ≡ row-at w (base + i * row-size)) (eb : b ≡ row-at w (base + j * row-size)) where
   pub visible-read : (r : Bool) → r ≡ visible-order (item-of text tape a) (item-of text tape b)
       → r ≡ visible-order (row-item text tape w base i) (row-item text tape w base j)
   visible-read r e = rw (ea, eb) at e
@@ -224,9 +224,11 @@ module _ (text tape w : List ℕ) (base i j : ℕ) (a b : Row) (ea : a ≡ row-a
       → r ≡ hidden-order sorts (row-item text tape w base i) (row-item text tape w base j)
   hidden-read sorts r e = rw (ea, eb) at e
 
-pub equations-read : (text w : List ℕ) (v n base i j : ℕ) (a b : EquationRow) → a ≡ equation-row-at w (base + i * 8) → b ≡ equation-row-at w (base + j * 8)
+pub equations-read : (text w : List ℕ) (v n base i j : ℕ) (a b : EquationRow) → a ≡ equation-row-at w (base + i * equation-size)
+    → b ≡ equation-row-at w (base + j * equation-size)
     → (r : Bool) → r ≡ place-order (row-place text w v n a) (row-place text w v n b)
-    → r ≡ place-order (row-place text w v n (equation-row-at w (base + i * 8))) (row-place text w v n (equation-row-at w (base + j * 8)))
+    → r ≡ place-order (row-place text w v n (equation-row-at w (base + i * equation-size)))
+    (row-place text w v n (equation-row-at w (base + j * equation-size)))
 equations-read text w v n base i j a b ea eb r e = rw (ea, eb) at e
 
 -- ---- whichever table it is
@@ -251,7 +253,7 @@ module _ (table : Table) where
     of-hidden b s n e h = rw e h
 
     pub of-equations : (v b n : ℕ) → table ≡ Equations v b n
-        → r ≡ place-order (row-place text w v n (equation-row-at w (b + i * 8))) (row-place text w v n (equation-row-at w (b + j * 8)))
+        → r ≡ place-order (row-place text w v n (equation-row-at w (b + i * equation-size))) (row-place text w v n (equation-row-at w (b + j * equation-size)))
         → r ≡ row-order text tape w table i j
     unfolding row-order
     of-equations v b n e h = rw e h

@@ -13,6 +13,7 @@ use mir.Syntax.{w64}
 use mir.Val.{Fits}
 use borrow.Author.Needs.{needs}
 use borrow.Author.Tests.{eqb-true, eqb-false}
+use Rattle.tables.specs.Rows.{row-size}
 use Rattle.forms.specs.Memory.{part, Kept}
 use Rattle.forms.specs.FormLaws.{Apart, kept-all, kept-same, words-from-same}
 use Rattle.frames.specs.Changes.{onward, wider, written, at-first, at-second, onward-two, wider-two}
@@ -28,8 +29,8 @@ word-put w u a b v e h = h ∙ ap (set w b) e
 
 -- ---- `copy_row`
 
-module _ (r s : ℕ) (h : r < 2 ^ 32) (l : s ≤ 16) where
-  far : r * s ≤ r * 16
+module _ (r s : ℕ) (h : r < 2 ^ 32) (l : s ≤ row-size) where
+  far : r * s ≤ r * row-size
   far = mul-le-mul-left r l
 
   pub stride-fits : Fits w64 (r * s)
@@ -41,7 +42,7 @@ module _ (r s : ℕ) (h : r < 2 ^ 32) (l : s ≤ 16) where
   pub word-fits : (b j : ℕ) → b < 2 ^ 32 → j < s → Fits w64 (b + r * s + j)
   word-fits b j k m = record { fits = omega (arith, far) }
 
-pub room-width : (size a b s : ℕ) → RowRoom size a b s → s ≤ 16
+pub room-width : (size a b s : ℕ) → RowRoom size a b s → s ≤ row-size
 room-width size a b s h = h .width
 
 -- the first j words of the row are copied
@@ -256,11 +257,11 @@ module _ (text : List ℕ) (t : ℕ) (table : Table) (from n order to s m : ℕ)
 -- ---- `put_table`
 
 module _ (size t from n order to notes : ℕ) (room : NotedRoom size t from n order to notes) where
-  pub noted-sorting : SortRoom size t from n order to 16
+  pub noted-sorting : SortRoom size t from n order to row-size
   noted-sorting = room .sorting
 
 module _ (text : List ℕ) (t : ℕ) (table : Table) (from n order to notes m : ℕ) (w u : List ℕ) (room : NotedRoom (length w) t from n order to notes)
-    (sorted : TableSorted text t table from n order to 16 m w u) where
+    (sorted : TableSorted text t table from n order to row-size m w u) where
   pub noted-notes : NoteRoom (length u) order m notes n
   noted-notes = record { room = omega (arith, room .before, room .sorting .table, sorted .kept .size); table = room .before }
 
@@ -274,9 +275,9 @@ module _ (text : List ℕ) (t : ℕ) (table : Table) (from n order to notes m : 
           few = a .few;
           numbers = words-from-same u w′ order m (λ i h l. behind i h) ∙ a .numbers;
           rows = λ i j h l.
-              let g : i * 16 + 16 ≤ n * 16 = omega (arith, a .few) in
-              put .kept .below (to + i * 16 + j) (omega (arith, room .target)) ∙ a .rows i j h l
-              ∙ ap (λ (x : ℕ). getD w (from + x * 16 + j) 0) (sym (number i));
+              let g : i * row-size + row-size ≤ n * row-size = omega (arith, a .few) in
+              put .kept .below (to + i * row-size + j) (omega (arith, room .target)) ∙ a .rows i j h l
+              ∙ ap (λ (x : ℕ). getD w (from + x * row-size + j) 0) (sym (number i));
           below = λ i h. rw (number i) (a .below i h);
         };
         noted = λ i h.

@@ -7,8 +7,9 @@ use native.Mathlib.Omega.{arith}
 use lib.ListN.{length}
 use borrow.Author.Needs.{needs}
 use Rattle.meaning.specs.Written.{visible-order, hidden-order}
+use Rattle.tables.specs.Rows.{row-size}
 use Rattle.forms.specs.Memory.{part}
-use Rattle.forms.specs.Forms.{items-at}
+use Rattle.forms.specs.Forms.{items-at, equation-size, slot-size}
 use Rattle.forms.specs.declared.Form.{Form}
 use Rattle.joining.specs.Joined.{copied}
 use Rattle.frames.specs.Changes.{apart-in}
@@ -21,10 +22,10 @@ use Rattle.ordering.specs.Keeps.{keeps-all}
 
 -- ---- `put_parameters`
 
-pub parameters-table : (size from n order to : ℕ) → SortRoom size 0 from n order to 2 → order + n ≤ size
+pub parameters-table : (size from n order to : ℕ) → SortRoom size 0 from n order to slot-size → order + n ≤ size
 parameters-table size from n order to room = room .table
 
-pub parameters-apart : (size from n order to : ℕ) → SortRoom size 0 from n order to 2 → NamesApart from 2 order n
+pub parameters-apart : (size from n order to : ℕ) → SortRoom size 0 from n order to slot-size → NamesApart from slot-size order n
 parameters-apart size from n order to room i h = inl (omega (arith, room .source))
 
 -- ---- `put_visible`, `put_hidden`
@@ -38,11 +39,11 @@ pub hidden-room : (w u : List ℕ) (t from n order to notes : ℕ) → length u 
     → NotedRoom (length u) t from n order to notes
 hidden-room w u t from n order to notes e room = subst (λ (size : ℕ). NotedRoom size t from n order to notes) (sym e) room
 
-module _ (text : List ℕ) (t from n order to notes c : ℕ) (w u : List ℕ) (sorts : TableSorted text t (Sorts from) from n order to 16 c w u) where
+module _ (text : List ℕ) (t from n order to notes c : ℕ) (w u : List ℕ) (sorts : TableSorted text t (Sorts from) from n order to row-size c w u) where
   pub hidden-few : n ≤ 1073741824 → Small (Hidden from to c)
   hidden-few h = omega (arith, sorts .arranged .few)
 
-pub sorting-room : (size t from n order to notes : ℕ) → NotedRoom size t from n order to notes → SortRoom size t from n order to 16
+pub sorting-room : (size t from n order to notes : ℕ) → NotedRoom size t from n order to notes → SortRoom size t from n order to row-size
 sorting-room size t from n order to notes room = room .sorting
 
 -- ---- `keep_items`, `keep_equations`
@@ -88,7 +89,7 @@ module _ (size t : ℕ) (f k : Form) (p order : ℕ) (room : KeepRoom size t f k
     before = omega (arith, room .notes);
   }
 
-  equations-here : SortRoom size t (f .equations) (f .«equation_count») order (k .equations) 8
+  equations-here : SortRoom size t (f .equations) (f .«equation_count») order (k .equations) equation-size
   equations-here = record {
     width = omega arith;
     tape = omega (arith, room .tape, room .parameters, room .visible, room .hidden, room .equations, room .nodes, room .notes);
@@ -123,17 +124,17 @@ module _ (w u : List ℕ) (t : ℕ) (f k : Form) (p order : ℕ) (room : KeepRoo
   keep-hidden u′ h d q = subst (λ (size : ℕ). NotedRoom size t (f .hidden) (f .«hidden_count») order (k .hidden) h) (sym d)
       (hidden-here (length u) t f k p order still h q)
 
-  pub keep-equations : SortRoom (length u) t (f .equations) (f .«equation_count») order (k .equations) 8
+  pub keep-equations : SortRoom (length u) t (f .equations) (f .«equation_count») order (k .equations) equation-size
   keep-equations = equations-here (length u) t f k p order still
 
 pub equations-kept : (text : List ℕ) (t : ℕ) (f k : Form) (p order c h : ℕ) (w u w′ : List ℕ) → h ≡ p + f .«visible_count»
     → u ≡ copied w p h (f .nodes + 0) (k .nodes + 0) (f .«node_count»)
-    → TableSorted text t (Equations (k .visible) (f .equations) (k .nodes)) (f .equations) (f .«equation_count») order (k .equations) 8 c u w′
+    → TableSorted text t (Equations (k .visible) (f .equations) (k .nodes)) (f .equations) (f .«equation_count») order (k .equations) equation-size c u w′
     → EquationsKept text t f k p order w w′
 equations-kept text t f k p order c h w u w′ eh eu sorted = record {
   count = c;
   sorted = subst (λ (x : List ℕ). TableSorted text t (Equations (k .visible) (f .equations) (k .nodes)) (f .equations) (f .«equation_count») order
-      (k .equations) 8 c x w′)
+      (k .equations) equation-size c x w′)
       (eu ∙ ap (λ (n : ℕ). copied w p n (f .nodes + 0) (k .nodes + 0) (f .«node_count»)) eh) sorted;
 }
 

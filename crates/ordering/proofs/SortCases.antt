@@ -8,7 +8,7 @@ use lib.Dec.{eqb}
 use lib.ListN.{length, getD}
 use borrow.Author.Needs.{needs}
 use Rattle.meaning.specs.Lists.{keep, sorted-onto}
-use Rattle.tables.specs.Rows.{words-from}
+use Rattle.tables.specs.Rows.{words-from, row-size}
 use Rattle.forms.specs.Memory.{part, Kept}
 use Rattle.forms.specs.FormLaws.{kept-all, kept-wider, kept-then}
 use Rattle.order.specs.Order.{upto}
@@ -25,7 +25,7 @@ module _ (w : List ℕ) (table : Table) (i : ℕ) where
   unfolding is-listed
   listed-visible b e = rw e
 
-  pub listed-sorts : (b v : ℕ) → table ≡ Sorts b → v ≡ getD w (b + i * 16 + 2) 0 → eqb v 0 ≡ is-listed w table i
+  pub listed-sorts : (b v : ℕ) → table ≡ Sorts b → v ≡ getD w (b + i * row-size + 2) 0 → eqb v 0 ≡ is-listed w table i
   unfolding is-listed
   listed-sorts b v e h = rw (e, h)
 

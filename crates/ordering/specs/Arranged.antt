@@ -15,7 +15,7 @@ use Rattle.meaning.specs.Origins.{is-sort, sort-shape, function-shape, variable
 use Rattle.meaning.specs.Normal.{sorts-among}
 use Rattle.meaning.specs.Written.{origin-text, visible-order, hidden-order}
 use Rattle.meaning.specs.OrderLaws.{sorted-map, sorted-length, sorted-rearranged, rearranged-member}
-use Rattle.tables.specs.Rows.{word-section, words-from, sort-of, type-of, shape-of, row-at, item-of}
+use Rattle.tables.specs.Rows.{word-section, words-from, sort-of, type-of, shape-of, row-at, item-of, row-size}
 use Rattle.forms.specs.Memory.{part}
 use Rattle.forms.specs.Forms.{items-at}
 use Rattle.forms.specs.FormLaws.{items-same, length-items}
@@ -33,7 +33,7 @@ use Rattle.ordering.specs.Copying.{Arranged}
 pub low-word : (w : List ℕ) (p i : ℕ) → i < p → getD (part w 0 p) i 0 ≡ getD w i 0
 low-word w p i h = getD-take (p - 0) (drop 0 w) i 0 (omega arith) ∙ getD-drop 0 w i 0 ∙ ap (λ (k : ℕ). getD w k 0) (let e : 0 + i ≡ i = omega arith in e)
 
-pub low-items : (text tape w : List ℕ) (p b n : ℕ) → b + n * 16 ≤ p → items-at text tape (part w 0 p) b n ≡ items-at text tape w b n
+pub low-items : (text tape w : List ℕ) (p b n : ℕ) → b + n * row-size ≤ p → items-at text tape (part w 0 p) b n ≡ items-at text tape w b n
 low-items text tape w p b n h = items-same w (part w 0 p) text tape b n (λ i l m. low-word w p i (omega arith))
 
 -- ---- rows by their numbers
@@ -56,7 +56,7 @@ words-moved w u b c (suc n) h =
     let q : b + suc j ≡ suc b + j = omega arith in
     ap (λ (i : ℕ). getD u i 0) p ∙ h (suc j) (omega arith) ∙ ap (λ (i : ℕ). getD w i 0) q))
 
-row-moved : (w u : List ℕ) (b c : ℕ) → ((j : ℕ) → j < 16 → getD u (c + j) 0 ≡ getD w (b + j) 0) → row-at u c ≡ row-at w b
+row-moved : (w u : List ℕ) (b c : ℕ) → ((j : ℕ) → j < row-size → getD u (c + j) 0 ≡ getD w (b + j) 0) → row-at u c ≡ row-at w b
 unfolding row-at
 row-moved w u b c h =
     let first = first-word w u b c (h 0 (omega arith)) in
@@ -92,11 +92,12 @@ module _ {A : Type 0} (s : ℕ) (old new : ℕ → A) (table : ℕ → ℕ → L
       ap new a ∙ h (suc i) (omega arith) ∙ ap (λ (k : ℕ). old (from + getD v k 0 * s)) b))
 
 items-by-number : (text tape w w′ : List ℕ) (from to p m : ℕ)
-    → ((i : ℕ) → i < m → row-at w′ (to + i * 16) ≡ row-at w (from + getD w′ (p + i) 0 * 16))
+    → ((i : ℕ) → i < m → row-at w′ (to + i * row-size) ≡ row-at w (from + getD w′ (p + i) 0 * row-size))
     → items-at text tape w′ to m ≡ map (row-item text tape w from) (words-from w′ p m)
 unfolding items-at
 items-by-number text tape w w′ from to p m h =
-    by-number 16 (λ b. item-of text tape (row-at w b)) (λ b. item-of text tape (row-at w′ b)) (items-at text tape w′) (λ b. refl) (λ b n. refl) w′ from to p m
+    by-number row-size (λ b. item-of text tape (row-at w b)) (λ b. item-of text tape (row-at w′ b)) (items-at text tape w′) (λ b. refl)
+    (λ b n. refl) w′ from to p m
     (λ i l. ap (item-of text tape) (h i l))
 
 words-length : (w : List ℕ) (p m : ℕ) → length (words-from w p m) ≡ m
@@ -173,21 +174,21 @@ module _ (text : List ℕ) (t : ℕ) (table : Table) (from n order to s m : ℕ)
 
 -- ---- an arranged table of items
 
-module _ (text : List ℕ) (t : ℕ) (table : Table) (from n order to m : ℕ) (w w′ : List ℕ) (source : from + n * 16 ≤ order)
-    (a : Arranged text t table from n order to 16 m w w′) where
+module _ (text : List ℕ) (t : ℕ) (table : Table) (from n order to m : ℕ) (w w′ : List ℕ) (source : from + n * row-size ≤ order)
+    (a : Arranged text t table from n order to row-size m w w′) where
   abbrev tape : List ℕ
   tape = part w 0 t
 
   abbrev low : List ℕ
   low = part w 0 order
 
-  pub row-copied : (i : ℕ) → i < m → row-at w′ (to + i * 16) ≡ row-at low (from + getD w′ (order + i) 0 * 16)
+  pub row-copied : (i : ℕ) → i < m → row-at w′ (to + i * row-size) ≡ row-at low (from + getD w′ (order + i) 0 * row-size)
   row-copied i h =
       let l = a .below i h in
-      shifted (to + i * 16) (from + getD w′ (order + i) 0 * 16) (λ j k.
-      a .rows i j h k ∙ sym (low-word w order (from + getD w′ (order + i) 0 * 16 + j) (omega arith)))
+      shifted (to + i * row-size) (from + getD w′ (order + i) 0 * row-size) (λ j k.
+      a .rows i j h k ∙ sym (low-word w order (from + getD w′ (order + i) 0 * row-size + j) (omega arith)))
     where
-      shifted : (b c : ℕ) → ((j : ℕ) → j < 16 → getD w′ (b + j) 0 ≡ getD low (c + j) 0) → row-at w′ b ≡ row-at low c
+      shifted : (b c : ℕ) → ((j : ℕ) → j < row-size → getD w′ (b + j) 0 ≡ getD low (c + j) 0) → row-at w′ b ≡ row-at low c
       shifted b c g = row-moved low w′ c b g
 
   numbered : items-at text tape w′ to m ≡ map (row-item text tape low from) (row-numbers text tape low table n)
@@ -198,39 +199,40 @@ module _ (text : List ℕ) (t : ℕ) (table : Table) (from n order to m : ℕ) (
     -- the items in order
     pub items-arranged : items-at text tape w′ to n ≡ sorted le (items-at text tape w from n)
     items-arranged =
-        ap (items-at text tape w′ to) (sym (all-arranged text t table from n order to 16 m w w′ a every))
+        ap (items-at text tape w′ to) (sym (all-arranged text t table from n order to row-size m w w′ a every))
         ∙ items-by-number text tape low w′ from to order m row-copied
-        ∙ ap (map (row-item text tape low from)) (all-numbers text t table from n order to 16 m w w′ a every)
+        ∙ ap (map (row-item text tape low from)) (all-numbers text t table from n order to row-size m w w′ a every)
         ∙ sorted-map (row-item text tape low from) (row-order text tape low table) le by [] (upto n)
         ∙ ap (sorted le) (items-upto text tape low from n ∙ low-items text tape w order from n source)
 
 -- ---- visible items, hidden sorts, hidden items
 
-module _ (text : List ℕ) (t from n order to m : ℕ) (w w′ : List ℕ) (source : from + n * 16 ≤ order) where
-  pub visible-arranged : Arranged text t (Visible from) from n order to 16 m w w′
+module _ (text : List ℕ) (t from n order to m : ℕ) (w w′ : List ℕ) (source : from + n * row-size ≤ order) where
+  pub visible-arranged : Arranged text t (Visible from) from n order to row-size m w w′
       → items-at text (part w 0 t) w′ to n ≡ sorted visible-order (items-at text (part w 0 t) w from n)
   unfolding row-order is-listed
   visible-arranged a = items-arranged text t (Visible from) from n order to m w w′ source a visible-order (λ i j. refl) (λ i. refl)
 
-  pub hidden-arranged : (b c : ℕ) → Arranged text t (Hidden from b c) from n order to 16 m w w′
+  pub hidden-arranged : (b c : ℕ) → Arranged text t (Hidden from b c) from n order to row-size m w w′
       → items-at text (part w 0 t) w′ to n ≡ sorted (hidden-order (items-at text (part w 0 t) (part w 0 order) b c)) (items-at text (part w 0 t) w from n)
   unfolding row-order is-listed
   hidden-arranged b c a =
       items-arranged text t (Hidden from b c) from n order to m w w′ source a (hidden-order (items-at text (part w 0 t) (part w 0 order) b c)) (λ i j. refl)
       (λ i. refl)
 
-  is-sort-row : (tape u : List ℕ) (i : ℕ) → eqb (getD u (from + i * 16 + 2) 0) 0 ≡ is-sort (row-item text tape u from i .shape)
+  is-sort-row : (tape u : List ℕ) (i : ℕ) → eqb (getD u (from + i * row-size + 2) 0) 0 ≡ is-sort (row-item text tape u from i .shape)
   unfolding item-of shape-of row-at is-sort pick
   is-sort-row tape u i =
-      go (eqb (getD u (from + i * 16 + 2) 0) 0) (eqb (getD u (from + i * 16 + 2) 0) 1)
-      (sort-of text tape (getD (row-at u (from + i * 16) .sorts) 8 0)) (type-of text tape (getD u (from + i * 16 + 2) 0 - 2) (row-at u (from + i * 16) .sorts))
+      go (eqb (getD u (from + i * row-size + 2) 0) 0) (eqb (getD u (from + i * row-size + 2) 0) 1)
+      (sort-of text tape (getD (row-at u (from + i * row-size) .sorts) 8 0))
+      (type-of text tape (getD u (from + i * row-size + 2) 0 - 2) (row-at u (from + i * row-size) .sorts))
     where
       go : (p q : Bool) (s : Sort) (f : FunctionType) → p ≡ is-sort (pick p sort-shape (pick q (variable-shape s) (function-shape f)))
       go true q s f = refl
       go false true s f = refl
       go false false s f = refl
 
-  pub sorts-arranged : Arranged text t (Sorts from) from n order to 16 m w w′
+  pub sorts-arranged : Arranged text t (Sorts from) from n order to row-size m w w′
       → items-at text (part w 0 t) w′ to m ≡ by-bytes (λ (i : Item). origin-text (i .origin)) (sorts-among (items-at text (part w 0 t) w from n))
   unfolding row-order row-numbers is-listed sorts-among
   sorts-arranged a =
@@ -238,7 +240,7 @@ module _ (text : List ℕ) (t from n order to m : ℕ) (w w′ : List ℕ) (sour
       let low = part w 0 order in
       let item = row-item text tape low from in
       let le : Item → Item → Bool = λ x y. bytes-not-after (origin-text (x .origin)) (origin-text (y .origin)) in
-      let chosen : ℕ → Bool = λ i. eqb (getD low (from + i * 16 + 2) 0) 0 in
+      let chosen : ℕ → Bool = λ i. eqb (getD low (from + i * row-size + 2) 0) 0 in
       numbered text t (Sorts from) from n order to m w w′ source a
       ∙ sorted-map item (λ i j. le (item i) (item j)) le (λ i j. refl) [] (keep chosen (upto n))
       ∙ ap (sorted le)

@@ -8,7 +8,7 @@ use native.Mathlib.Omega.{arith}
 use lib.ListN.{getD}
 use Rattle.meaning.specs.Lists.{pick, keep}
 use Rattle.meaning.specs.OrderLaws.{Every, sorted-rearranged, rearranged-every}
-use Rattle.tables.specs.Rows.{words-from}
+use Rattle.tables.specs.Rows.{words-from, row-size}
 use Rattle.forms.specs.Memory.{part, Kept, KeptTwo}
 use Rattle.forms.specs.FormLaws.{Apart}
 use Rattle.order.specs.Order.{upto}
@@ -21,7 +21,7 @@ use Rattle.ordering.specs.Tables.{row-numbers, InRows}
 
 -- the row at b has room, and lies apart from the row at a
 pub record RowRoom (size a b s : ℕ) : Type 0 where
-  pub width : s ≤ 16
+  pub width : s ≤ row-size
   pub room : b + s ≤ size
   pub apart : Apart b (b + s) a (a + s)
 
@@ -37,7 +37,7 @@ pub record Numbers (w : List ℕ) (p m n : ℕ) : Type 0 where
 
 -- m rows at `to` have room, and lie apart from the n rows at `from` and from the order table
 pub record CopyRoom (size from n order m to s : ℕ) : Type 0 where
-  pub width : s ≤ 16
+  pub width : s ≤ row-size
   pub room : to + m * s ≤ size
   pub apart : Apart to (to + m * s) from (from + n * s)
   pub table : Apart to (to + m * s) order (order + m)
@@ -80,7 +80,7 @@ pub record NotesPut (order m notes n : ℕ) (w w′ : List ℕ) : Type 0 where
 
 -- rows from `from` and rows to `to` stand in front of the order table, and apart
 pub record SortRoom (size t from n order to s : ℕ) : Type 0 where
-  pub width : s ≤ 16
+  pub width : s ≤ row-size
   pub tape : t ≤ order
   pub table : order + n ≤ size
   pub source : from + n * s ≤ order
@@ -100,15 +100,15 @@ pub record TableSorted (text : List ℕ) (t : ℕ) (table : Table) (from n order
 
 -- items in order, with notes, which stand in front of the order table and behind both tables
 pub record NotedRoom (size t from n order to notes : ℕ) : Type 0 where
-  pub sorting : SortRoom size t from n order to 16
-  pub source : from + n * 16 ≤ notes
-  pub target : to + n * 16 ≤ notes
+  pub sorting : SortRoom size t from n order to row-size
+  pub source : from + n * row-size ≤ notes
+  pub target : to + n * row-size ≤ notes
   pub before : notes + n ≤ order
 
 pub record TableNoted (text : List ℕ) (t : ℕ) (table : Table) (from n order to notes m : ℕ) (w w′ : List ℕ) : Type 0 where
-  pub arranged : Arranged text t table from n order to 16 m w w′
+  pub arranged : Arranged text t table from n order to row-size m w w′
   pub noted : (i : ℕ) → i < m → PlaceNoted w′ w′ order m notes (getD w′ (order + i) 0)
-  pub kept : KeptTwo to (to + n * 16) notes (order + n) w w′
+  pub kept : KeptTwo to (to + n * row-size) notes (order + n) w w′
 
 -- ---- the numbers of an order table are numbers of rows
 

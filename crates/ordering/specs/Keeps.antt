@@ -17,12 +17,12 @@ use Rattle.meaning.specs.Written.{origin-text, equation-text, equation-order, v
 use Rattle.meaning.specs.Checks.{equation-nodes}
 use Rattle.meaning.specs.OrderLaws.{Every, Rearranged, placed-rearranged, rearranged-every, sorted-rearranged, sorted-length, sorted-map, pairwise-rearranged}
 use Rattle.meaning.specs.ListingOrder.{Place, place-order}
-use Rattle.tables.specs.Rows.{words-from, item-of}
+use Rattle.tables.specs.Rows.{words-from, item-of, row-size}
 use Rattle.forms.specs.declared.Form.{Form}
 use Rattle.forms.specs.declared.EquationRow.{EquationRow}
 use Rattle.forms.specs.Memory.{part, Same, Kept, KeptTwo}
-use Rattle.forms.specs.Forms.{slots-at, items-at, visible-at, equation-row-at, EquationStands, EquationsStand, Pointing, Stands}
-use Rattle.forms.specs.FormLaws.{Apart, slots-same, items-same, row-same, equation-row-same, kept-same}
+use Rattle.forms.specs.Forms.{slots-at, items-at, visible-at, equation-row-at, EquationStands, EquationsStand, Pointing, Stands, equation-size}
+use Rattle.forms.specs.FormLaws.{Apart, slots-same, items-same, equation-row-same, kept-same}
 use Rattle.forms.specs.Frames.{points-at, Stays, points-stay}
 use Rattle.frames.specs.Changes.{wider, apart-in, at-first, onward-two, wider-two, tape-kept-two}
 use Rattle.order.specs.Order.{upto}
@@ -40,6 +40,7 @@ use Rattle.ordering.specs.Arranged.{low-word, first-word, all-numbers}
 use Rattle.ordering.specs.Kept.{ItemNoted, sorts-in-order, KeepRoom, scratch-end, order-place, ItemsKept, EquationsKept, renumbered, source-stays}
 use Rattle.ordering.specs.Nodes.{kept-form, Distinct, pointing-kept, equation-kept, line-kept}
 use Rattle.ordering.specs.Lines.{line-short}
+use Rattle.tables.specs.RowLaws.{row-same}
 
 -- ---- lists
 
@@ -86,23 +87,24 @@ blank =
     record { module-number = 0; position = 0; tag = []; conclusion = s; conditions = [] }
 
 row-stands : (text tape w : List ℕ) (f : Form) (b : ℕ) (es : List ResolvedEquation) (i : ℕ) → EquationsStand text tape w f b es → i < length es
-    → EquationStands text tape w f (equation-row-at w (b + i * 8)) (getD es i blank)
+    → EquationStands text tape w f (equation-row-at w (b + i * equation-size)) (getD es i blank)
 row-stands text tape w f b [] i s h = absurd (omega arith)
-row-stands text tape w f b (e ∷ es) zero s h = let z : b + 0 * 8 ≡ b = omega arith in rw z (s .0)
+row-stands text tape w f b (e ∷ es) zero s h = let z : b + 0 * equation-size ≡ b = omega arith in rw z (s .0)
 row-stands text tape w f b (e ∷ es) (suc i) s h =
-    let z : b + suc i * 8 ≡ b + 8 + i * 8 = omega arith in rw z (row-stands text tape w f (b + 8) es i (s .1) (omega arith))
+    let z : b + suc i * equation-size ≡ b + equation-size + i * equation-size = omega arith in
+    rw z (row-stands text tape w f (b + equation-size) es i (s .1) (omega arith))
 
 rows-stand : (text tape w : List ℕ) (f : Form) (eq : ℕ → ResolvedEquation) (b o c : ℕ)
-    → ((i : ℕ) → i < c → EquationStands text tape w f (equation-row-at w (b + i * 8)) (eq (getD w (o + i) 0)))
+    → ((i : ℕ) → i < c → EquationStands text tape w f (equation-row-at w (b + i * equation-size)) (eq (getD w (o + i) 0)))
     → EquationsStand text tape w f b (map eq (words-from w o c))
 unfolding words-from
 rows-stand text tape w f eq b o zero h = tt
 rows-stand text tape w f eq b o (suc c) h =
-    let z : b + 0 * 8 ≡ b = omega arith in
+    let z : b + 0 * equation-size ≡ b = omega arith in
     let y : o + 0 ≡ o = add-zero o in (
       rw (z, y) at (h 0 (omega arith)),
-      rows-stand text tape w f eq (b + 8) (suc o) c (λ i l.
-          let p : b + suc i * 8 ≡ b + 8 + i * 8 = omega arith in
+      rows-stand text tape w f eq (b + equation-size) (suc o) c (λ i l.
+          let p : b + suc i * equation-size ≡ b + equation-size + i * equation-size = omega arith in
           let q : o + suc i ≡ suc o + i = omega arith in
           rw (p, q) at (h (suc i) (omega arith))),
     )
@@ -122,7 +124,7 @@ equation-row-moved w u b c h =
 
 -- ---- notes that stay
 
-noted-stays : (text : List ℕ) (t from n to notes : ℕ) (w u z : List ℕ) → Same to (to + n * 16) u z → Same notes (notes + n) u z → (r : ℕ) → r < n
+noted-stays : (text : List ℕ) (t from n to notes : ℕ) (w u z : List ℕ) → Same to (to + n * row-size) u z → Same notes (notes + n) u z → (r : ℕ) → r < n
     → ItemNoted text t from n to notes w u r → ItemNoted text t from n to notes w z r
 noted-stays text t from n to notes w u z table noting r h p =
     let x = getD u (notes + r) 0 in
@@ -131,7 +133,7 @@ noted-stays text t from n to notes w u z table noting r h p =
     record {
       inside = omega (arith, note);
       same = ap (row-item text (part w 0 t) z to) note
-          ∙ ap (item-of text (part w 0 t)) (row-same u z (to + x * 16) (λ i a b. table i (omega arith) (omega arith))) ∙ p .same;
+          ∙ ap (item-of text (part w 0 t)) (row-same u z (to + x * row-size) (λ i a b. table i (omega arith) (omega arith))) ∙ p .same;
     }
 
 -- ---- the form
@@ -161,8 +163,8 @@ module _ (text : List ℕ) (t : ℕ) (f k : Form) (p order : ℕ) (w u w′ : Li
   source-stay : Stays w u f
   source-stay = record {
     size = items .kept .size;
-    visible = source-stays room (items .kept) (f .visible) (f .visible + f .«visible_count» * 16) (room .outside .visible) (room .visible-before);
-    hidden = source-stays room (items .kept) (f .hidden) (f .hidden + f .«hidden_count» * 16) (room .outside .hidden) (room .hidden-before);
+    visible = source-stays room (items .kept) (f .visible) (f .visible + f .«visible_count» * row-size) (room .outside .visible) (room .visible-before);
+    hidden = source-stays room (items .kept) (f .hidden) (f .hidden + f .«hidden_count» * row-size) (room .outside .hidden) (room .hidden-before);
     nodes = source-stays room (items .kept) (f .nodes) (f .nodes + f .«node_count») (room .outside .nodes) (room .nodes-before);
   }
 
@@ -197,12 +199,12 @@ module _ (text : List ℕ) (t : ℕ) (f k : Form) (p order : ℕ) (w u w′ : Li
       from-items i h (inl q) = near i h (inl q) ∙ copy-stays .below i (omega (arith, room .equations))
       from-items i h (inr q) = near i h (inr (omega arith)) ∙ copy-stays .above i (omega arith)
 
-      visible-table : Same (k .visible) (k .visible + f .«visible_count» * 16) u z
+      visible-table : Same (k .visible) (k .visible + f .«visible_count» * row-size) u z
       visible-table i h l =
           from-items i (omega (arith, room .visible, room .hidden, room .equations, room .nodes, room .notes))
           (inl (omega (arith, room .visible, room .hidden)))
 
-      hidden-table : Same (k .hidden) (k .hidden + f .«hidden_count» * 16) u z
+      hidden-table : Same (k .hidden) (k .hidden + f .«hidden_count» * row-size) u z
       hidden-table i h l = from-items i (omega (arith, room .hidden, room .equations, room .nodes, room .notes)) (inl (omega (arith, room .hidden)))
 
       visible-noting : Same p (p + f .«visible_count») u z
@@ -234,7 +236,8 @@ module _ (text : List ℕ) (t : ℕ) (f k : Form) (p order : ℕ) (w u w′ : Li
           let b : f .nodes + 0 + i ≡ f .nodes + i = omega arith in
           let v = getD w (f .nodes + i) 0 in
           let source : getD u (f .nodes + i) 0 ≡ v =
-          source-stays room (items .kept) (f .nodes) (f .nodes + f .«node_count») (room .outside .nodes) (room .nodes-before) (f .nodes + i) (omega arith) (omega arith) in
+          source-stays room (items .kept) (f .nodes) (f .nodes + f .«node_count») (room .outside .nodes) (room .nodes-before)
+          (f .nodes + i) (omega arith) (omega arith) in
           near (k .nodes + i) (omega (arith, room .nodes, room .notes)) (inr (omega arith))
           ∙ ap (λ (j : ℕ). getD x j 0) a
           ∙ word-copied u p hidden-notes (f .nodes + 0) (f .nodes + 0 + f .«node_count») (k .nodes + 0) (k .nodes + 0 + f .«node_count») steady u
@@ -294,7 +297,7 @@ module _ (text : List ℕ) (t : ℕ) (f k : Form) (p order : ℕ) (w u w′ : Li
     equation i = getD es i blank
 
     abbrev row : ℕ → EquationRow
-    row i = equation-row-at w (f .equations + i * 8)
+    row i = equation-row-at w (f .equations + i * equation-size)
 
     abbrev table : Table
     table = Equations (k .visible) (f .equations) (k .nodes)
@@ -305,19 +308,20 @@ module _ (text : List ℕ) (t : ℕ) (f k : Form) (p order : ℕ) (w u w′ : Li
     small-at : (i : ℕ) → i < count → equation-nodes (equation i) ≤ node-limit
     small-at i h = every-place (λ (e : ResolvedEquation). equation-nodes e ≤ node-limit) es blank i (stands .small) (omega (arith, stands .equation-count))
 
-    row-copied-at : (i : ℕ) → i < count → equation-row-at x (f .equations + i * 8) ≡ row i
+    row-copied-at : (i : ℕ) → i < count → equation-row-at x (f .equations + i * equation-size) ≡ row i
     row-copied-at i h =
-        equation-row-same w x (f .equations + i * 8) (λ j l m.
-        source-copied (f .equations) (f .equations + count * 8) (room .outside .equations) (room .equations-before) j (omega arith) (omega arith))
+        equation-row-same w x (f .equations + i * equation-size) (λ j l m.
+        source-copied (f .equations) (f .equations + count * equation-size) (room .outside .equations) (room .equations-before) j (omega arith) (omega arith))
 
-    row-low : (i : ℕ) → i < count → equation-row-at low (f .equations + i * 8) ≡ row i
+    row-low : (i : ℕ) → i < count → equation-row-at low (f .equations + i * equation-size) ≡ row i
     row-low i h =
-        equation-row-same x low (f .equations + i * 8) (λ j l m. low-word x order j (omega (arith, room .equations-before, room .notes))) ∙ row-copied-at i h
+        equation-row-same x low (f .equations + i * equation-size) (λ j l m. low-word x order j (omega (arith, room .equations-before, room .notes)))
+        ∙ row-copied-at i h
 
     place-of : ResolvedEquation → Place
     place-of e = record { module-number = e .module-number; position = e .position; text = equation-text ordered e }
 
-    placed : (i : ℕ) → i < count → row-place text low (k .visible) (k .nodes) (equation-row-at low (f .equations + i * 8)) ≡ place-of (equation i)
+    placed : (i : ℕ) → i < count → row-place text low (k .visible) (k .nodes) (equation-row-at low (f .equations + i * equation-size)) ≡ place-of (equation i)
     unfolding row-place place-of
     placed i h =
         let s = stands-at i h in
@@ -335,7 +339,7 @@ module _ (text : List ℕ) (t : ℕ) (f k : Form) (p order : ℕ) (w u w′ : Li
     all-equations : map equation (words-from w′ order (equations .count)) ≡ sorted (equation-order ordered) es
     all-equations =
         ap (map equation)
-        (all-numbers text t table (f .equations) count order (k .equations) 8 (equations .count) x w′ (equations .sorted .arranged) every-row
+        (all-numbers text t table (f .equations) count order (k .equations) equation-size (equations .count) x w′ (equations .sorted .arranged) every-row
         ∙ sorted-alike (λ i. i < count) (row-order text (part x 0 t) low table) (λ i j. equation-order ordered (equation i) (equation j)) compared-alike []
         (upto count) tt (below-upto count))
         ∙ sorted-map equation (λ i j. equation-order ordered (equation i) (equation j)) (equation-order ordered) (λ a b. refl) [] (upto count)
@@ -349,8 +353,8 @@ module _ (text : List ℕ) (t : ℕ) (f k : Form) (p order : ℕ) (w u w′ : Li
         (rows-stand text tape w′ (kept-form f k) equation (k .equations) order (equations .count) (λ i h.
         let o = getD w′ (order + i) 0 in
         let l : o < count = a .below i h in
-        let moved : equation-row-at w′ (k .equations + i * 8) ≡ row o =
-        equation-row-moved x w′ (f .equations + o * 8) (k .equations + i * 8) (λ j m. a .rows i j h m) ∙ row-copied-at o l in
+        let moved : equation-row-at w′ (k .equations + i * equation-size) ≡ row o =
+        equation-row-moved x w′ (f .equations + o * equation-size) (k .equations + i * equation-size) (λ j m. a .rows i j h m) ∙ row-copied-at o l in
         subst (λ (r : EquationRow). EquationStands text tape w′ (kept-form f k) r (equation o)) (sym moved)
         (equation-there w′ end-long end-near (row o) (equation o) (stands-at o l))))
 

@@ -12,11 +12,11 @@ use Rattle.meaning.specs.Origins.{Item}
 use Rattle.meaning.specs.Normal.{Slot, sorts-among}
 use Rattle.meaning.specs.Written.{origin-text, visible-order, hidden-order}
 use Rattle.names.specs.Word.{name-of}
-use Rattle.tables.specs.Rows.{item-of, row-at}
+use Rattle.tables.specs.Rows.{item-of, row-at, row-size}
 use Rattle.forms.specs.declared.Form.{Form}
 use Rattle.forms.specs.Memory.{part, Same, KeptTwo}
-use Rattle.forms.specs.Forms.{slot-at, slots-at, items-at}
-use Rattle.forms.specs.FormLaws.{Apart, kept-two-same, slots-same, items-same, row-same}
+use Rattle.forms.specs.Forms.{slot-at, slots-at, items-at, equation-size, slot-size}
+use Rattle.forms.specs.FormLaws.{Apart, kept-two-same, slots-same, items-same}
 use Rattle.forms.specs.Blocks.{Outside}
 use Rattle.frames.specs.Changes.{apart-in, at-first, at-second, onward-two, wider-two, tape-kept-two}
 use Rattle.order.specs.Order.{PutInOrder}
@@ -28,6 +28,7 @@ use Rattle.ordering.specs.declared.Table.the-variants.{Visible, Sorts, H
 use Rattle.ordering.specs.Orders.{is-listed}
 use Rattle.ordering.specs.Copying.{Numbers, CopyRoom, RowsCopied, SortRoom, TableSorted, NotedRoom, TableNoted}
 use Rattle.ordering.specs.Arranged.{low-word, low-items, first-word, by-number, row-copied, each-number, visible-arranged, hidden-arranged, sorts-arranged}
+use Rattle.tables.specs.RowLaws.{row-same}
 
 -- ---- parameters
 
@@ -39,16 +40,16 @@ slot-moved text w u b c h =
 
 pub record ParametersPut (text : List ℕ) (from n order to : ℕ) (w w′ : List ℕ) : Type 0 where
   pub slots : slots-at text w′ to n ≡ by-name (λ (q : Slot). q .name) (slots-at text w from n)
-  pub kept : KeptTwo to (to + n * 2) order (order + n) w w′
+  pub kept : KeptTwo to (to + n * slot-size) order (order + n) w w′
 
-module _ (text : List ℕ) (from n order to : ℕ) (w u : List ℕ) (room : SortRoom (length w) 0 from n order to 2)
-    (ordered : PutInOrder text w u from 2 order n) where
+module _ (text : List ℕ) (from n order to : ℕ) (w u : List ℕ) (room : SortRoom (length w) 0 from n order to slot-size)
+    (ordered : PutInOrder text w u from slot-size order n) where
   parameter-numbers : Numbers u order n n
   parameter-numbers = record {
-    below = λ i h. every-word (λ k. k < n) u order n i (rw (ordered .ordered .words) (below-order text u from 2 n)) h;
+    below = λ i h. every-word (λ k. k < n) u order n i (rw (ordered .ordered .words) (below-order text u from slot-size n)) h;
   }
 
-  pub parameters-room : CopyRoom (length u) from n order n to 2
+  pub parameters-room : CopyRoom (length u) from n order n to slot-size
   parameters-room = record {
     width = room .width;
     room = omega (arith, room .target, room .table, ordered .kept .size);
@@ -56,11 +57,11 @@ module _ (text : List ℕ) (from n order to : ℕ) (w u : List ℕ) (room : Sort
     table = inr (omega (arith, room .target));
   }
 
-  pub parameters-put : (w′ : List ℕ) → RowsCopied from n order n to 2 u w′ → ParametersPut text from n order to w w′
+  pub parameters-put : (w′ : List ℕ) → RowsCopied from n order n to slot-size u w′ → ParametersPut text from n order to w w′
   unfolding slots-at
   parameters-put w′ copied = record {
-    slots = by-number 2 (slot-at text u) (slot-at text w′) (slots-at text w′) (λ b. refl) (λ b m. refl) u from to order n (λ i h.
-        slot-moved text u w′ (from + getD u (order + i) 0 * 2) (to + i * 2) (λ j l. copied .rows i j h (parameter-numbers .below i h) l))
+    slots = by-number slot-size (slot-at text u) (slot-at text w′) (slots-at text w′) (λ b. refl) (λ b m. refl) u from to order n (λ i h.
+        slot-moved text u w′ (from + getD u (order + i) 0 * slot-size) (to + i * slot-size) (λ j l. copied .rows i j h (parameter-numbers .below i h) l))
         ∙ ordered-slots text u from order n (ordered .ordered)
         ∙ ap (by-name (λ (q : Slot). q .name)) (slots-same w u text from n (λ i h l. ordered .kept .below i (omega (arith, room .source))));
     kept = onward-two (at-second (ordered .kept)) (at-first (copied .kept));
@@ -76,31 +77,31 @@ pub record ItemNoted (text : List ℕ) (t from n to notes : ℕ) (w w′ : List 
 pub record ItemsPut (text : List ℕ) (t : ℕ) (le : Item → Item → Bool) (from n order to notes : ℕ) (w w′ : List ℕ) : Type 0 where
   pub items : items-at text (part w 0 t) w′ to n ≡ sorted le (items-at text (part w 0 t) w from n)
   pub noted : (r : ℕ) → r < n → ItemNoted text t from n to notes w w′ r
-  pub kept : KeptTwo to (to + n * 16) notes (order + n) w w′
+  pub kept : KeptTwo to (to + n * row-size) notes (order + n) w w′
 
 -- the hidden sorts of hidden items in order
 unfoldable pub sorts-in-order : List Item → List Item
 sorts-in-order is = by-bytes (λ (i : Item). origin-text (i .origin)) (sorts-among is)
 
 -- the notes of an arranged table
-module _ (text : List ℕ) (t : ℕ) (table : Table) (from n order to notes m : ℕ) (w w′ : List ℕ) (source : from + n * 16 ≤ order)
+module _ (text : List ℕ) (t : ℕ) (table : Table) (from n order to notes m : ℕ) (w w′ : List ℕ) (source : from + n * row-size ≤ order)
     (put : TableNoted text t table from n order to notes m w w′) (every : (i : ℕ) → is-listed (part w 0 order) table i ≡ true) where
   items-noted : (r : ℕ) → r < n → ItemNoted text t from n to notes w w′ r
   items-noted r h =
-      each-number text t table from n order to 16 m w w′ (put .arranged) every r h (λ i l e.
+      each-number text t table from n order to row-size m w w′ (put .arranged) every r h (λ i l e.
       let p = put .noted i l in
       let note : getD w′ (notes + r) 0 ≡ getD w′ (notes + getD w′ (order + i) 0) 0 = ap (λ (x : ℕ). getD w′ (notes + x) 0) (sym e) in
       let x = getD w′ (notes + r) 0 in
       let few : m ≤ n = put .arranged .few in
       let inside : x < m = omega (arith, note, p .inside) in
       let there : getD w′ (order + x) 0 ≡ r = ap (λ (k : ℕ). getD w′ (order + k) 0) note ∙ p .there ∙ e in
-      let row : row-at w′ (to + x * 16) ≡ row-at w (from + r * 16) =
+      let row : row-at w′ (to + x * row-size) ≡ row-at w (from + r * row-size) =
       row-copied text t table from n order to m w w′ source (put .arranged) x inside
-      ∙ ap (λ (k : ℕ). row-at (part w 0 order) (from + k * 16)) there
-      ∙ row-same w (part w 0 order) (from + r * 16) (λ k a b. low-word w order k (omega arith)) in
+      ∙ ap (λ (k : ℕ). row-at (part w 0 order) (from + k * row-size)) there
+      ∙ row-same w (part w 0 order) (from + r * row-size) (λ k a b. low-word w order k (omega arith)) in
       record { inside = omega arith; same = ap (item-of text (part w 0 t)) row })
 
-module _ (text : List ℕ) (t from n order to notes m : ℕ) (w w′ : List ℕ) (source : from + n * 16 ≤ order) where
+module _ (text : List ℕ) (t from n order to notes m : ℕ) (w w′ : List ℕ) (source : from + n * row-size ≤ order) where
   pub visible-put : TableNoted text t (Visible from) from n order to notes m w w′ → ItemsPut text t visible-order from n order to notes w w′
   unfolding is-listed
   visible-put put = record {
@@ -120,22 +121,22 @@ module _ (text : List ℕ) (t from n order to notes m : ℕ) (w w′ : List ℕ)
 
 -- the sorts in order first, then all items by them
 pub sorts-then-items : (text : List ℕ) (t from n order to notes c m : ℕ) (w u w′ : List ℕ) → NotedRoom (length w) t from n order to notes → t ≤ to
-    → TableSorted text t (Sorts from) from n order to 16 c w u → TableNoted text t (Hidden from to c) from n order to notes m u w′
+    → TableSorted text t (Sorts from) from n order to row-size c w u → TableNoted text t (Hidden from to c) from n order to notes m u w′
     → ItemsPut text t (hidden-order (sorts-in-order (items-at text (part w 0 t) w from n))) from n order to notes w w′
 unfolding sorts-in-order
 sorts-then-items text t from n order to notes c m w u w′ room ht sorts put =
-    let source : from + n * 16 ≤ order = room .sorting .source in
+    let source : from + n * row-size ≤ order = room .sorting .source in
     let few : c ≤ n = sorts .arranged .few in
-    let target : to + n * 16 ≤ order = room .sorting .target in
+    let target : to + n * row-size ≤ order = room .sorting .target in
     let tapes = tape-kept-two ht (room .sorting .tape) (sorts .kept) in
-    let stays = kept-two-same to (to + n * 16) order (order + n) from (from + n * 16) w u (room .sorting .apart) (inl source) (sorts .kept) in
+    let stays = kept-two-same to (to + n * row-size) order (order + n) from (from + n * row-size) w u (room .sorting .apart) (inl source) (sorts .kept) in
     let items : items-at text (part w 0 t) u from n ≡ items-at text (part w 0 t) w from n = items-same w u text (part w 0 t) from n stays in
     let ordered : items-at text (part w 0 t) (part u 0 order) to c ≡ by-bytes (λ (i : Item). origin-text (i .origin))
     (sorts-among (items-at text (part w 0 t) w from n)) =
     low-items text (part w 0 t) u order to c (omega arith) ∙ sorts-arranged text t from n order to c w u source (sorts .arranged) in
     let hidden = hidden-put text t from n order to notes m u w′ source to c put in
     let row : (r : ℕ) → r < n → row-item text (part w 0 t) u from r ≡ row-item text (part w 0 t) w from r =
-    λ r h. ap (item-of text (part w 0 t)) (row-same w u (from + r * 16) (λ i a b. stays i (omega arith) (omega arith))) in
+    λ r h. ap (item-of text (part w 0 t)) (row-same w u (from + r * row-size) (λ i a b. stays i (omega arith) (omega arith))) in
     record {
       items = ap (λ (tape : List ℕ). items-at text tape w′ to n) (sym tapes) ∙ hidden .items
           ∙ ap (λ (tape : List ℕ). sorted (hidden-order (items-at text tape (part u 0 order) to c)) (items-at text tape u from n)) tapes
@@ -153,7 +154,7 @@ sorts-then-items text t from n order to notes c m w u w′ room ht sorts put =
 -- a part copied between memories that agree with w and w′ on what it reads and on what it writes
 module _ (text : List ℕ) (t : ℕ) (le : Item → Item → Bool) (from n order to notes : ℕ) (w u u′ w′ : List ℕ)
     (put : ItemsPut text t le from n order to notes u u′)
-    (tapes : part u 0 t ≡ part w 0 t) (source : Same from (from + n * 16) w u) (target : Same to (to + n * 16) u′ w′)
+    (tapes : part u 0 t ≡ part w 0 t) (source : Same from (from + n * row-size) w u) (target : Same to (to + n * row-size) u′ w′)
     (noting : Same notes (notes + n) u′ w′) where
   pub moved-items : items-at text (part w 0 t) w′ to n ≡ sorted le (items-at text (part w 0 t) w from n)
   moved-items =
@@ -167,9 +168,9 @@ module _ (text : List ℕ) (t : ℕ) (le : Item → Item → Bool) (from n order
       let note : getD w′ (notes + r) 0 ≡ x = noting (notes + r) (omega arith) (omega arith) in
       let inside : x < n = p .inside in
       let there : row-item text (part w 0 t) w′ to x ≡ row-item text (part w 0 t) u′ to x =
-      ap (item-of text (part w 0 t)) (row-same u′ w′ (to + x * 16) (λ i a b. target i (omega arith) (omega arith))) in
+      ap (item-of text (part w 0 t)) (row-same u′ w′ (to + x * row-size) (λ i a b. target i (omega arith) (omega arith))) in
       let here : row-item text (part w 0 t) u from r ≡ row-item text (part w 0 t) w from r =
-      ap (item-of text (part w 0 t)) (row-same w u (from + r * 16) (λ i a b. source i (omega arith) (omega arith))) in
+      ap (item-of text (part w 0 t)) (row-same w u (from + r * row-size) (λ i a b. source i (omega arith) (omega arith))) in
       record {
         inside = omega (arith, note);
         same = ap (row-item text (part w 0 t) w′ to) note ∙ there ∙ ap (λ (tape : List ℕ). row-item text tape u′ to x) (sym tapes) ∙ p .same
@@ -181,16 +182,16 @@ module _ (text : List ℕ) (t : ℕ) (le : Item → Item → Bool) (from n order
 -- the places of k lie behind the tape, in order, with room for what f has, and apart from f; notes and order table behind all
 pub record KeepRoom (size t : ℕ) (f k : Form) (p order : ℕ) : Type 0 where
   pub tape : t ≤ k .parameters
-  pub parameters : k .parameters + f .«parameter_count» * 2 ≤ k .visible
-  pub visible : k .visible + f .«visible_count» * 16 ≤ k .hidden
-  pub hidden : k .hidden + f .«hidden_count» * 16 ≤ k .equations
-  pub equations : k .equations + f .«equation_count» * 8 ≤ k .nodes
+  pub parameters : k .parameters + f .«parameter_count» * slot-size ≤ k .visible
+  pub visible : k .visible + f .«visible_count» * row-size ≤ k .hidden
+  pub hidden : k .hidden + f .«hidden_count» * row-size ≤ k .equations
+  pub equations : k .equations + f .«equation_count» * equation-size ≤ k .nodes
   pub nodes : k .nodes + f .«node_count» ≤ p
   pub outside : Outside (k .parameters) (k .nodes + f .«node_count») f
-  pub parameters-before : f .parameters + f .«parameter_count» * 2 ≤ p
-  pub visible-before : f .visible + f .«visible_count» * 16 ≤ p
-  pub hidden-before : f .hidden + f .«hidden_count» * 16 ≤ p
-  pub equations-before : f .equations + f .«equation_count» * 8 ≤ p
+  pub parameters-before : f .parameters + f .«parameter_count» * slot-size ≤ p
+  pub visible-before : f .visible + f .«visible_count» * row-size ≤ p
+  pub hidden-before : f .hidden + f .«hidden_count» * row-size ≤ p
+  pub equations-before : f .equations + f .«equation_count» * equation-size ≤ p
   pub nodes-before : f .nodes + f .«node_count» ≤ p
   pub notes : p + (f .«visible_count» + f .«hidden_count») ≤ order
   pub room : order + (f .«parameter_count» + f .«visible_count» + f .«hidden_count» + f .«equation_count») ≤ size
@@ -244,12 +245,12 @@ module _ (text : List ℕ) (t : ℕ) (f k : Form) (p order : ℕ) (w u₁ u₂ w
       let ends : k .hidden ≤ p = omega (arith, room .hidden, room .equations, room .nodes) in
       let tapes₁ = tape-stays room first in
       let tapes₂ = tape-stays room both in
-      let hidden-source = source-stays room both (f .hidden) (f .hidden + f .«hidden_count» * 16) (room .outside .hidden) (room .hidden-before) in
-      let visible-source = source-stays room first (f .visible) (f .visible + f .«visible_count» * 16) (room .outside .visible) (room .visible-before) in
-      let parameters-stay : Same (k .parameters) (k .parameters + f .«parameter_count» * 2) u₁ w′ =
+      let hidden-source = source-stays room both (f .hidden) (f .hidden + f .«hidden_count» * row-size) (room .outside .hidden) (room .hidden-before) in
+      let visible-source = source-stays room first (f .visible) (f .visible + f .«visible_count» * row-size) (room .outside .visible) (room .visible-before) in
+      let parameters-stay : Same (k .parameters) (k .parameters + f .«parameter_count» * slot-size) u₁ w′ =
       λ i h l. hidden .kept .kept i (inl (omega (arith, room .parameters, room .visible))) (inl (omega (arith, room .parameters, room .visible)))
       ∙ visible .kept .kept i (inl (omega (arith, room .parameters))) (inl (omega (arith, room .parameters, room .visible))) in
-      let visible-stay : Same (k .visible) (k .visible + f .«visible_count» * 16) u₂ w′ =
+      let visible-stay : Same (k .visible) (k .visible + f .«visible_count» * row-size) u₂ w′ =
       λ i h l. hidden .kept .kept i (inl (omega (arith, room .visible))) (inl (omega (arith, room .visible))) in
       let notes-stay : Same p (p + f .«visible_count») u₂ w′ =
       λ i h l. hidden .kept .kept i (inr (omega (arith, room .hidden, room .equations, room .nodes))) (inl (omega arith)) in
@@ -280,5 +281,6 @@ renumbered f k p w = copied w p (p + f .«visible_count») (f .nodes + 0) (k .no
 
 pub record EquationsKept (text : List ℕ) (t : ℕ) (f k : Form) (p order : ℕ) (w w′ : List ℕ) : Type 0 where
   pub count : ℕ
-  pub sorted : TableSorted text t (Equations (k .visible) (f .equations) (k .nodes)) (f .equations) (f .«equation_count») order (k .equations) 8 count
+  pub sorted : TableSorted text t (Equations (k .visible) (f .equations) (k .nodes)) (f .equations) (f .«equation_count») order
+      (k .equations) equation-size count
       (renumbered f k p w) w′

@@ -10,8 +10,8 @@ use borrow.Author.Tests.{eqb-true, eqb-false}
 use Rattle.meaning.specs.Origins.{same-origin, same-shape, Shape, sort-shape, function-shape, variable-shape, is-sort, is-function, Item, ResolvedEquation}
 use Rattle.meaning.specs.Written.{equation-text}
 use Rattle.meaning.specs.OrderLaws.{Every, Pairwise}
-use Rattle.tables.specs.Rows.{item-of, row-at}
-use Rattle.tables.specs.Decides.{origins-decided, shapes-decided}
+use Rattle.laws.specs.Decides.{origins-decided, shapes-decided}
+use Rattle.tables.specs.Rows.{item-of, row-at, row-size}
 use Rattle.forms.specs.declared.Form.{Form}
 use Rattle.forms.specs.declared.EquationRow.{EquationRow}
 use Rattle.forms.specs.Memory.{part}
@@ -134,9 +134,9 @@ not-alike a b h = go (same-origin (a .origin) (b .origin)) (same-shape (a .shape
 every-item : (P : Item → Type 0) (text tape w : List ℕ) (b n i : ℕ) → Every P (items-at text tape w b n) → i < n → P (row-item text tape w b i)
 unfolding items-at
 every-item P text tape w b zero i h l = absurd (omega arith)
-every-item P text tape w b (suc n) zero h l = let z : b + 0 * 16 ≡ b = omega arith in rw z (h .0)
+every-item P text tape w b (suc n) zero h l = let z : b + 0 * row-size ≡ b = omega arith in rw z (h .0)
 every-item P text tape w b (suc n) (suc i) h l =
-    let z : b + suc i * 16 ≡ b + 16 + i * 16 = omega arith in rw z (every-item P text tape w (b + 16) n i (h .1) (omega arith))
+    let z : b + suc i * row-size ≡ b + row-size + i * row-size = omega arith in rw z (every-item P text tape w (b + row-size) n i (h .1) (omega arith))
 
 pair-item : (R : Item → Item → Type 0) (text tape w : List ℕ) (b n i j : ℕ) → Pairwise R (items-at text tape w b n) → i < j → j < n
     → R (row-item text tape w b i) (row-item text tape w b j)
@@ -144,13 +144,13 @@ unfolding items-at
 pair-item R text tape w b zero i j h l m = absurd (omega arith)
 pair-item R text tape w b (suc n) i zero h l m = absurd (omega arith)
 pair-item R text tape w b (suc n) zero (suc j) h l m =
-    let z : b + 0 * 16 ≡ b = omega arith in
-    let y : b + suc j * 16 ≡ b + 16 + j * 16 = omega arith in
-    rw (z, y) (every-item (R (item-of text tape (row-at w b))) text tape w (b + 16) n j (h .0) (omega arith))
+    let z : b + 0 * row-size ≡ b = omega arith in
+    let y : b + suc j * row-size ≡ b + row-size + j * row-size = omega arith in
+    rw (z, y) (every-item (R (item-of text tape (row-at w b))) text tape w (b + row-size) n j (h .0) (omega arith))
 pair-item R text tape w b (suc n) (suc i) (suc j) h l m =
-    let z : b + suc i * 16 ≡ b + 16 + i * 16 = omega arith in
-    let y : b + suc j * 16 ≡ b + 16 + j * 16 = omega arith in
-    rw (z, y) (pair-item R text tape w (b + 16) n i j (h .1) (omega arith) (omega arith))
+    let z : b + suc i * row-size ≡ b + row-size + i * row-size = omega arith in
+    let y : b + suc j * row-size ≡ b + row-size + j * row-size = omega arith in
+    rw (z, y) (pair-item R text tape w (b + row-size) n i j (h .1) (omega arith) (omega arith))
 
 module _ (text tape z : List ℕ) (g : Form) (distinct : Distinct (items-at text tape z (g .hidden) (g .«hidden_count»))) (v : ℕ)
     (points : Points text tape z g v) where

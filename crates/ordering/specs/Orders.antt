@@ -13,11 +13,11 @@ use Rattle.meaning.specs.OrderLaws.{IsOrder, order-of, bytes-ordered}
 use Rattle.meaning.specs.ListingOrder.{visible-ordered, hidden-ordered, Place, place-order, place-ordered}
 use Rattle.runs.specs.Orders.{bytes-compared}
 use Rattle.tables.specs.declared.Row.{Row}
-use Rattle.tables.specs.Rows.{origin-of, shape-of}
+use Rattle.tables.specs.Rows.{origin-of, shape-of, row-size}
 use Rattle.tables.specs.declared.Section.{Section}
 use Rattle.tables.specs.declared.Section.the-variants as section
 use Rattle.forms.specs.declared.EquationRow.{EquationRow}
-use Rattle.forms.specs.Forms.{items-at, equation-row-at}
+use Rattle.forms.specs.Forms.{items-at, equation-row-at, equation-size}
 use Rattle.order.specs.Ordered.{row-item}
 use Rattle.printing.specs.Terms.{equation-at}
 use Rattle.ordering.specs.declared.Part.{Part}
@@ -102,12 +102,12 @@ row-order text tape w (Visible b) i j = visible-order (row-item text tape w b i)
 row-order text tape w (Sorts b) i j = bytes-not-after (origin-text (row-item text tape w b i .origin)) (origin-text (row-item text tape w b j .origin))
 row-order text tape w (Hidden b s n) i j = hidden-order (items-at text tape w s n) (row-item text tape w b i) (row-item text tape w b j)
 row-order text tape w (Equations v b a) i j =
-    place-order (row-place text w v a (equation-row-at w (b + i * 8))) (row-place text w v a (equation-row-at w (b + j * 8)))
+    place-order (row-place text w v a (equation-row-at w (b + i * equation-size))) (row-place text w v a (equation-row-at w (b + j * equation-size)))
 
 -- which rows are put in order
 unfoldable pub is-listed : List ℕ → Table → ℕ → Bool
 is-listed w (Visible b) i = true
-is-listed w (Sorts b) i = eqb (getD w (b + i * 16 + 2) 0) 0
+is-listed w (Sorts b) i = eqb (getD w (b + i * row-size + 2) 0) 0
 is-listed w (Hidden b s n) i = true
 is-listed w (Equations v b a) i = true
 
@@ -116,4 +116,4 @@ unfolding row-order
 rows-ordered text tape w (Visible b) = order-of visible-ordered (row-item text tape w b)
 rows-ordered text tape w (Sorts b) = order-of bytes-ordered (λ (i : ℕ). origin-text (row-item text tape w b i .origin))
 rows-ordered text tape w (Hidden b s n) = order-of (hidden-ordered (items-at text tape w s n)) (row-item text tape w b)
-rows-ordered text tape w (Equations v b a) = order-of place-ordered (λ (i : ℕ). row-place text w v a (equation-row-at w (b + i * 8)))
+rows-ordered text tape w (Equations v b a) = order-of place-ordered (λ (i : ℕ). row-place text w v a (equation-row-at w (b + i * equation-size)))

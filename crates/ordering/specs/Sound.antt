@@ -5,7 +5,7 @@ use mathlib.Core.List.{List, [], _∷_}
 use Rattle.meaning.specs.Names.{Name}
 use Rattle.meaning.specs.Origins.{hidden-section, Origin, Item, one-item}
 use Rattle.meaning.specs.OrderLaws.{Every, Pairwise}
-use Rattle.tables.specs.Decides.{items-decided}
+use Rattle.laws.specs.Decides.{items-decided}
 use Rattle.ordering.specs.Nodes.{Distinct}
 
 -- they stand in the hidden section, are called what they were declared as, and no two are one

@@ -4,10 +4,11 @@ use super::texts::compare_origins;
 use super::texts::line_not_after;
 use super::texts::type_not_after;
 use forms::EquationRow;
-use joining::equations::read_equation;
+use forms::equations::read_equation;
 use names::joint::compare;
 use tables::Row;
 use tables::Section;
+use tables::kinds;
 use tables::rows::read_row;
 ghost use mathlib.Core.Path.{_≡_};
 ghost use Prim.Native.Nat.{_+_, _*_, _^_, _<_};
@@ -16,7 +17,7 @@ ghost use Rattle.meaning.specs.Written.{origin-text, visible-order, hidden-orde
 ghost use Rattle.meaning.specs.ListingOrder.{place-order};
 ghost use Rattle.names.specs.Joint.{joint};
 ghost use Rattle.tables.specs.Rows.{origin-of, item-of};
-ghost use Rattle.forms.specs.Forms.{items-at, equation-row-at};
+ghost use Rattle.forms.specs.Forms.{items-at, equation-row-at, equation-size};
 ghost use Rattle.order.specs.Ordered.{row-item};
 ghost use Rattle.ordering.specs.Orders.{standing-word, kind-rank, by-name-then-type, by-kind-then-name, by-origin-then-type, row-place, by-position-then-line, Small, row-order};
 
@@ -35,10 +36,10 @@ fn standing_word(s: Section) -> u32
 fn rank_of(kind: u32) -> u32
     ensures { λ r. ⌜ r ≡ kind-rank kind ⌝ }
 {
-    if kind == 0 {
+    if kind == kinds::SORT {
         return 0;
     }
-    if kind == 1 {
+    if kind == kinds::VARIABLE {
         return 2;
     }
     1
@@ -239,7 +240,7 @@ fn equation_rows(
     i: u32,
     j: u32,
 ) -> bool
-    ensures { λ r. ⌜ r ≡ place-order (row-place (joint (now (library .entry)) (now (text .entry))) (now (work .entry)) visible nodes (equation-row-at (now (work .entry)) (base + i * 8))) (row-place (joint (now (library .entry)) (now (text .entry))) (now (work .entry)) visible nodes (equation-row-at (now (work .entry)) (base + j * 8))) ⌝ }
+    ensures { λ r. ⌜ r ≡ place-order (row-place (joint (now (library .entry)) (now (text .entry))) (now (work .entry)) visible nodes (equation-row-at (now (work .entry)) (base + i * equation-size))) (row-place (joint (now (library .entry)) (now (text .entry))) (now (work .entry)) visible nodes (equation-row-at (now (work .entry)) (base + j * equation-size))) ⌝ }
 {
     let a = read_equation(work, base, i);
     let b = read_equation(work, base, j);

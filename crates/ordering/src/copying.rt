@@ -2,6 +2,7 @@
 use super::Table;
 use super::sorting::order_rows;
 use order::number_in;
+use tables::ROW_SIZE;
 use tables::entries::put_word;
 use tables::entries::word_at;
 ghost use mathlib.Core.Path.{_≡_};
@@ -131,7 +132,7 @@ pub fn put_table(
     requires { ⌜ Small table ⌝ }
     ensures { λ m. ⌜ TableNoted (joint (now (library .entry)) (now (text .entry))) t table from n order to notes m (now (work .entry)) (now (work .exit)) ⌝ }
 {
-    let m = sort_rows(library, text, work, t, table, from, n, order, to, 16);
+    let m = sort_rows(library, text, work, t, table, from, n, order, to, ROW_SIZE);
     note_rows(work, order, m, notes, n);
     m
 }

@@ -4,16 +4,19 @@ use super::Table;
 use super::copying::copy_rows;
 use super::copying::put_table;
 use super::copying::sort_rows;
+use forms::EQUATION_SIZE;
 use forms::Form;
+use forms::SLOT_SIZE;
 use joining::nodes::copy_nodes;
 use order::order_names;
+use tables::ROW_SIZE;
 ghost use mathlib.Core.Path.{_≡_};
 ghost use Prim.Native.Nat.{_+_, _*_, _≤_, _<_};
 ghost use lib.ListN.{length};
 ghost use Rattle.meaning.specs.Written.{visible-order, hidden-order};
 ghost use Rattle.names.specs.Joint.{joint};
 ghost use Rattle.forms.specs.Memory.{part};
-ghost use Rattle.forms.specs.Forms.{items-at};
+ghost use Rattle.forms.specs.Forms.{items-at, slot-size};
 ghost use Rattle.ordering.specs.Copying.{SortRoom, NotedRoom};
 ghost use Rattle.ordering.specs.Kept.{ParametersPut, ItemsPut, sorts-in-order, KeepRoom, order-place, ItemsKept, EquationsKept};
 ghost use Rattle.ordering.specs.Nodes.{kept-form};
@@ -29,11 +32,11 @@ fn put_parameters(
     order: u32,
     to: u32,
 )
-    requires { ⌜ SortRoom (length (now work)) 0 from n order to 2 ⌝ }
+    requires { ⌜ SortRoom (length (now work)) 0 from n order to slot-size ⌝ }
     ensures { λ u. ⌜ ParametersPut (joint (now (library .entry)) (now (text .entry))) from n order to (now (work .entry)) (now (work .exit)) ⌝ }
 {
-    order_names(library, text, work, from, 2, n, order);
-    copy_rows(work, from, n, order, n, to, 2);
+    order_names(library, text, work, from, SLOT_SIZE, n, order);
+    copy_rows(work, from, n, order, n, to, SLOT_SIZE);
 }
 
 // n visible items at `from`, in order, to `to`.
@@ -92,7 +95,7 @@ fn put_hidden(
         n,
         order,
         to,
-        16,
+        ROW_SIZE,
     );
     put_table(
         library,
@@ -186,7 +189,7 @@ fn keep_equations(
         n,
         order,
         k.equations,
-        8,
+        EQUATION_SIZE,
     );
 }
 

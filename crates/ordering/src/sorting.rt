@@ -5,7 +5,9 @@ use super::comparing::row_not_after;
 use order::insert_word;
 use order::middle;
 use order::number_in;
+use tables::ROW_STEP;
 use tables::entries::word_at;
+use tables::kinds;
 ghost use mathlib.Core.Path.{_≡_};
 ghost use Prim.Native.Nat.{_+_, _≤_, _<_};
 ghost use lib.ListN.{length, getD};
@@ -20,7 +22,7 @@ fn is_listed(work: &[u32], table: Table, i: u32) -> bool
 {
     match table {
         Table::Visible(_) => true,
-        Table::Sorts(b) => word_at(work, b as usize + i as usize * 16 + 2) == 0,
+        Table::Sorts(b) => word_at(work, b as usize + i as usize * ROW_STEP + 2) == kinds::SORT,
         Table::Hidden(_, _, _) => true,
         Table::Equations(_, _, _) => true,
     }

@@ -10,7 +10,7 @@ use lib.ListN.{length}
 use Rattle.meaning.specs.Lists.{pick, any, before, union}
 use Rattle.meaning.specs.Origins.{Item, one-item}
 use Rattle.tables.specs.declared.Row.{Row}
-use Rattle.tables.specs.Rows.{item-of}
+use Rattle.tables.specs.Rows.{item-of, row-size}
 use Rattle.forms.specs.Memory.{part, Same, Kept}
 use Rattle.forms.specs.Forms.{items-at}
 use Rattle.forms.specs.FormLaws.{kept-all, kept-wider, kept-then, kept-same, tape-same, length-items}
@@ -62,7 +62,7 @@ pub record Joining (text : List ℕ) (t : ℕ) (own : Own) (base n : ℕ) (w₀ 
   pub roomy : Roomy t own false base n w₀
   pub begun : n ≤ k
   pub left : k + own-count (part w₀ 0 t) false i (own .end - i) ≤ n + own-count (part w₀ 0 t) false (own .from) (own .end - own .from)
-  pub kept : Kept (base + n * 16) (base + (n + own-count (part w₀ 0 t) false (own .from) (own .end - own .from)) * 16) w₀ w
+  pub kept : Kept (base + n * row-size) (base + (n + own-count (part w₀ 0 t) false (own .from) (own .end - own .from)) * row-size) w₀ w
   pub so-far :
       union one-item (items-at text (part w₀ 0 t) w base k) (own-items text (part w₀ 0 t) w₀ own false i (own .end - i))
       ≡ union one-item (items-at text (part w₀ 0 t) w₀ base n) (own-items text (part w₀ 0 t) w₀ own false (own .from) (own .end - own .from))
@@ -123,9 +123,9 @@ module _ (text : List ℕ) (t : ℕ) (own : Own) (base n : ℕ) (w₀ w : List �
       joining-on w′ r p =
           let c = counted in
           let more = own-items text (part w₀ 0 t) w₀ own false (i + 1) (own .end - (i + 1)) in
-          let end = base + (n + own-count (part w₀ 0 t) false (own .from) (own .end - own .from)) * 16 in
-          let stays : Same (own .rows) (own .rows + own .count * 16) w₀ w =
-          kept-same (base + n * 16) end (own .rows) (own .rows + own .count * 16) w₀ w (g .roomy .apart) (g .kept) in
+          let end = base + (n + own-count (part w₀ 0 t) false (own .from) (own .end - own .from)) * row-size in
+          let stays : Same (own .rows) (own .rows + own .count * row-size) w₀ w =
+          kept-same (base + n * row-size) end (own .rows) (own .rows + own .count * row-size) w₀ w (g .roomy .apart) (g .kept) in
           let here : own-item text (part w₀ 0 t) w own i ≡ own-item text (part w₀ 0 t) w₀ own i = item-same text (part w₀ 0 t) w₀ w own stays i in
           let all : items-at text (part w₀ 0 t) w′ base r ≡ union one-item (items-at text (part w₀ 0 t) w base k) (own-item text (part w₀ 0 t) w₀ own i ∷ []) =
           rw here at (rw same-tape at (p .items)) in
@@ -137,8 +137,9 @@ module _ (text : List ℕ) (t : ℕ) (own : Own) (base n : ℕ) (w₀ w : List �
             roomy = g .roomy;
             begun = omega (arith, g .begun, p .grows);
             left = omega (arith, c, p .few);
-            kept = kept-then (base + n * 16) end w₀ w w′ (g .kept)
-                (kept-wider (base + k * 16) (base + k * 16 + 16) (base + n * 16) end w w′ (omega (arith, g .begun)) (omega (arith, c)) (p .kept));
+            kept = kept-then (base + n * row-size) end w₀ w w′ (g .kept)
+                (kept-wider (base + k * row-size) (base + k * row-size + row-size) (base + n * row-size) end w w′ (omega (arith, g .begun)) (omega (arith, c))
+                (p .kept));
             so-far =
                 ap (λ (x : List Item). union one-item x more) all
                 ∙ union-then one-item (items-at text (part w₀ 0 t) w base k) (own-item text (part w₀ 0 t) w₀ own i ∷ []) more

@@ -14,7 +14,7 @@ use lib.Seq.{getD-set-same, getD-set-other}
 use Rattle.meaning.specs.Lists.{pick}
 use Rattle.tables.specs.Entries.{role-at, word-at, home-at}
 use Rattle.forms.specs.Memory.{part, Kept}
-use Rattle.forms.specs.Forms.{slot-at, slots-at}
+use Rattle.forms.specs.Forms.{slot-at, slots-at, slot-size}
 use Rattle.forms.specs.FormLaws.{kept-all, kept-wider, kept-then, kept-set, kept-same, slots-same, slots-grow, tape-same}
 use Rattle.declarations.specs.Sorts.{Ready}
 use Rattle.declarations.specs.declared.Own.{Own}
@@ -23,12 +23,12 @@ use Rattle.own.specs.Parameters.{declared-slot, declared-slots, SlotPut,
 pub slot-put : (t place i x y : ℕ) (w w₁ w′ : List ℕ) → x ≡ word-at (part w 0 t) i → y ≡ home-at (part w 0 t) i → w₁ ≡ set w place x
     → w′ ≡ set w₁ (place + 1) y → SlotPut t place i w w′
 slot-put t place i x y w w₁ w′ e f p q =
-    let first = kept-wider place (place + 1) place (place + 2) w w₁ (omega arith) (omega arith) (rw p (kept-set w place x)) in
-    let second = kept-wider (place + 1) (place + 1 + 1) place (place + 2) w₁ w′ (omega arith) (omega arith) (rw q (kept-set w₁ (place + 1) y)) in
+    let first = kept-wider place (place + 1) place (place + slot-size) w w₁ (omega arith) (omega arith) (rw p (kept-set w place x)) in
+    let second = kept-wider (place + 1) (place + 1 + 1) place (place + slot-size) w₁ w′ (omega arith) (omega arith) (rw q (kept-set w₁ (place + 1) y)) in
     record {
       name = λ h. rw (q, getD-set-other w₁ (place + 1) place y 0 (omega arith), p, getD-set-same w place x 0 h) e;
       home = λ h. rw (q, getD-set-same w₁ (place + 1) y 0 (omega (arith, first .size))) f;
-      kept = kept-then place (place + 2) w w₁ w′ first second;
+      kept = kept-then place (place + slot-size) w w₁ w′ first second;
     }
 
 -- the parameters declared before i are those from n up to k
@@ -38,7 +38,7 @@ pub record Naming (t from end base n : ℕ) (w₀ w : List ℕ) (k i : ℕ) : Ty
   pub room : SlotsRoom (length w₀) t from end base n
   pub begun : n ≤ k
   pub left : k + (end - i) ≤ n + (end - from)
-  pub kept : Kept (base + n * 2) (base + k * 2) w₀ w
+  pub kept : Kept (base + n * slot-size) (base + k * slot-size) w₀ w
   pub so-far :
       (text : List ℕ) → slots-at text w base k ++ declared-slots text (part w₀ 0 t) i (end - i)
       ≡ slots-at text w₀ base n ++ declared-slots text (part w₀ 0 t) (from) (end - from)
@@ -90,15 +90,16 @@ module _ (t from end base n : ℕ) (w₀ w : List ℕ) (k i : ℕ) (g : Naming t
     pub naming-fits : Fits w32 (k + 1)
     naming-fits = omega (arith, g .left, g .small, g .room .few)
 
-    pub naming-put : x ≡ 2 → (w′ : List ℕ) → SlotPut t (base + k * 2) i w w′ → Naming t from end base n w₀ w′ (k + 1) (i + 1)
+    pub naming-put : x ≡ 2 → (w′ : List ℕ) → SlotPut t (base + k * slot-size) i w w′ → Naming t from end base n w₀ w′ (k + 1) (i + 1)
     unfolding declared-slots declared-slot slot-at pick
     naming-put q w′ p =
-        let inside : base + k * 2 + 1 < length w = omega (arith, g .left, g .room .room, g .kept .size) in
+        let inside : base + k * slot-size + 1 < length w = omega (arith, g .left, g .room .room, g .kept .size) in
         let name = rw same-tape at (p .name (omega arith)) in
         let home = rw same-tape at (p .home inside) in
         let all : (text : List ℕ) → slots-at text w′ base (k + 1) ≡ slots-at text w base k ++ (declared-slot text (part w₀ 0 t) i ∷ []) = λ text.
         let front : slots-at text w′ base k ≡ slots-at text w base k =
-        slots-same w w′ text base k (kept-same (base + k * 2) (base + k * 2 + 2) base (base + k * 2) w w′ (inl (omega arith)) (p .kept)) in
+        slots-same w w′ text base k (kept-same (base + k * slot-size) (base + k * slot-size + slot-size) base (base + k * slot-size) w w′ (inl (omega arith))
+        (p .kept)) in
         rw (add-one k, slots-grow text w′ base k, front, name, home) in
         let old : (text : List ℕ) → slots-at text w base k ++ (declared-slot text (part w₀ 0 t) i ∷ declared-slots text (part w₀ 0 t) (i + 1) (end - (i + 1)))
         ≡ slots-at text w₀ base n ++ declared-slots text (part w₀ 0 t) (from) (end - from) = λ text.
@@ -109,9 +110,11 @@ module _ (t from end base n : ℕ) (w₀ w : List ℕ) (k i : ℕ) (g : Naming t
           room = g .room;
           begun = omega (arith, g .begun);
           left = omega (arith, g .left);
-          kept = kept-then (base + n * 2) (base + (k + 1) * 2) w₀ w w′
-              (kept-wider (base + n * 2) (base + k * 2) (base + n * 2) (base + (k + 1) * 2) w₀ w (omega arith) (omega arith) (g .kept))
-              (kept-wider (base + k * 2) (base + k * 2 + 2) (base + n * 2) (base + (k + 1) * 2) w w′ (omega (arith, g .begun)) (omega arith) (p .kept));
+          kept = kept-then (base + n * slot-size) (base + (k + 1) * slot-size) w₀ w w′
+              (kept-wider (base + n * slot-size) (base + k * slot-size) (base + n * slot-size) (base + (k + 1) * slot-size) w₀ w (omega arith) (omega arith)
+              (g .kept))
+              (kept-wider (base + k * slot-size) (base + k * slot-size + slot-size) (base + n * slot-size) (base + (k + 1) * slot-size) w w′
+              (omega (arith, g .begun)) (omega arith) (p .kept));
           so-far = λ text. rw (all text, append-assoc) (old text);
         }
 

@@ -9,6 +9,7 @@ use Rattle.meaning.specs.Normal.{Visible}
 use Rattle.meaning.specs.Checks.{_>>_, consistent}
 use Rattle.meaning.specs.Own.{own-hidden-items}
 use Rattle.meaning.specs.Evaluate.{seen-sorts, joined-visible}
+use Rattle.tables.specs.Rows.{row-size}
 use Rattle.forms.specs.declared.Culprit.{Culprit}
 use Rattle.forms.specs.declared.Verdict.{Verdict}
 use Rattle.forms.specs.declared.Verdict.the-variants.{Fine, Stop}
@@ -26,7 +27,8 @@ use Rattle.own.specs.JoinLaws.{own-stands-kept, declarations-told}
 -- ---- 13, and then 12
 
 module _ (text tape w : List ℕ) (own : Own) (visible hidden : ℕ) (r : Verdict) where
-  pub variables-so : told text r ≡ walked (variable-at text tape w (with-rows own visible) (own .rows + visible * 16) hidden) (own .from) (own .end - own .from)
+  pub variables-so : told text r
+      ≡ walked (variable-at text tape w (with-rows own visible) (own .rows + visible * row-size) hidden) (own .from) (own .end - own .from)
       → told text r ≡ variables-by text tape w own visible hidden
   unfolding variables-by
   variables-so e = e

@@ -13,8 +13,9 @@ use Rattle.meaning.specs.Origins.{Item}
 use Rattle.meaning.specs.Normal.{Visible}
 use Rattle.meaning.specs.Own.{own-hidden-items}
 use Rattle.meaning.specs.Evaluate.{seen-sorts, joined-visible}
+use Rattle.tables.specs.Rows.{row-size}
 use Rattle.forms.specs.Memory.{part, Same, Kept, KeptTwo}
-use Rattle.forms.specs.Forms.{slots-at, items-at}
+use Rattle.forms.specs.Forms.{slots-at, items-at, slot-size}
 use Rattle.forms.specs.FormLaws.{kept-wider, kept-then, kept-same, kept-is-two, kept-two-swap, kept-two-then, slots-same}
 use Rattle.forms.specs.FormLaws.{items-split}
 use Rattle.declarations.specs.Sorts.{Ready}
@@ -34,7 +35,7 @@ module _ (text : List ℕ) (t : ℕ) (own : Own) (q n : ℕ) (w : List ℕ) (rea
 
   module _ (w₁ : List ℕ) (r : ℕ) (named : SlotsAppended t (own .from) (own .end) q n w w₁ r) where
     tape₁ : part w₁ 0 t ≡ part w 0 t
-    tape₁ = tape-kept text w w₁ t (q + n * 2) (q + r * 2) (named .kept) (room .behind-names)
+    tape₁ = tape-kept text w w₁ t (q + n * slot-size) (q + r * slot-size) (named .kept) (room .behind-names)
 
     pub whole-ready : Ready w₁ t own
     whole-ready = record { tape = omega (arith, named .kept .size, ready .tape); small = ready .small }
@@ -51,7 +52,7 @@ module _ (text : List ℕ) (t : ℕ) (own : Own) (q n : ℕ) (w : List ℕ) (rea
 
     module _ (w₂ : List ℕ) (s : ℕ) (joined : Joined text t own (own .rows) (own .count) w₁ w₂ s) where
       tape₂ : part w₂ 0 t ≡ part w₁ 0 t
-      tape₂ = tape-kept text w₁ w₂ t (own .rows + own .count * 16) _ (joined .kept) (room .behind-rows)
+      tape₂ = tape-kept text w₁ w₂ t (own .rows + own .count * row-size) _ (joined .kept) (room .behind-rows)
 
       few₂ : s ≤ own .count + own-count (part w₂ 0 t) false (own .from) size
       few₂ = rw tape₂ (joined .few)
@@ -76,46 +77,49 @@ module _ (text : List ℕ) (t : ℕ) (own : Own) (q n : ℕ) (w : List ℕ) (rea
 
         -- what joining and appending change
         abbrev low : ℕ
-        low = own .rows + own .count * 16
+        low = own .rows + own .count * row-size
 
         abbrev high : ℕ
-        high = own .rows + (own .count + size) * 16
+        high = own .rows + (own .count + size) * row-size
 
-        behind₃ : t ≤ own .rows + s * 16
+        behind₃ : t ≤ own .rows + s * row-size
         behind₃ = omega (arith, room .behind-rows, joined .grows)
 
         visible-kept : Kept low high w₁ w₂
         visible-kept =
-            kept-wider low (own .rows + (own .count + own-count (part w₁ 0 t) false (own .from) size) * 16) low high w₁ w₂ (omega arith)
+            kept-wider low (own .rows + (own .count + own-count (part w₁ 0 t) false (own .from) size) * row-size) low high w₁ w₂ (omega arith)
             (omega (arith, count-short (part w₁ 0 t) false (own .from) size)) (joined .kept)
 
         hidden-kept : Kept low high w₂ w₃
         hidden-kept =
-            kept-wider (own .rows + s * 16) (own .rows + u * 16) low high w₂ w₃ (omega (arith, joined .grows)) (omega (arith, few₃)) (appended .kept)
+            kept-wider (own .rows + s * row-size) (own .rows + u * row-size) low high w₂ w₃ (omega (arith, joined .grows)) (omega (arith, few₃))
+            (appended .kept)
 
         rows-kept : Kept low high w₁ w₃
         rows-kept = kept-then low high w₁ w₂ w₃ visible-kept hidden-kept
 
-        names-two : KeptTwo (q + n * 2) (q + (n + size) * 2) low high w w₁
+        names-two : KeptTwo (q + n * slot-size) (q + (n + size) * slot-size) low high w w₁
         names-two =
-            kept-is-two (q + n * 2) (q + (n + size) * 2) low high w w₁
-            (kept-wider (q + n * 2) (q + r * 2) (q + n * 2) (q + (n + size) * 2) w w₁ (omega arith) (omega (arith, named .few)) (named .kept))
+            kept-is-two (q + n * slot-size) (q + (n + size) * slot-size) low high w w₁
+            (kept-wider (q + n * slot-size) (q + r * slot-size) (q + n * slot-size) (q + (n + size) * slot-size) w w₁ (omega arith) (omega (arith, named .few))
+            (named .kept))
 
-        all-kept : KeptTwo (q + n * 2) (q + (n + size) * 2) low high w w₃
+        all-kept : KeptTwo (q + n * slot-size) (q + (n + size) * slot-size) low high w w₃
         all-kept =
-            kept-two-then (q + n * 2) (q + (n + size) * 2) low high w w₁ w₃ names-two
-            (kept-two-swap low high (q + n * 2) (q + (n + size) * 2) w₁ w₃ (kept-is-two low high (q + n * 2) (q + (n + size) * 2) w₁ w₃ rows-kept))
+            kept-two-then (q + n * slot-size) (q + (n + size) * slot-size) low high w w₁ w₃ names-two
+            (kept-two-swap low high (q + n * slot-size) (q + (n + size) * slot-size) w₁ w₃
+            (kept-is-two low high (q + n * slot-size) (q + (n + size) * slot-size) w₁ w₃ rows-kept))
 
-        names-stay : Same q (q + r * 2) w₁ w₃
+        names-stay : Same q (q + r * slot-size) w₁ w₃
         names-stay =
-            kept-same low high q (q + r * 2) w₁ w₃
+            kept-same low high q (q + r * slot-size) w₁ w₃
             (⊎-elim (λ x. inr (omega arith)) (λ x. inl (omega (arith, named .few))) (room .apart)) rows-kept
 
         module _ (m : Module) (v : Visible) (stands : Stands text (part w 0 t) w own m v) (imported : slots-at text w q n ≡ v .parameters)
             (few : FewInputs m) where
           stands₁ : Stands text (part w₁ 0 t) w₁ own m v
           stands₁ =
-              stands-kept text w w₁ t (q + n * 2) (q + r * 2) (named .kept) (room .behind-names) own m v
+              stands-kept text w w₁ t (q + n * slot-size) (q + r * slot-size) (named .kept) (room .behind-names) own m v
               (⊎-elim (λ x. inl (omega arith)) (λ x. inr (omega (arith, named .few))) (room .apart)) stands
 
           stands₂ : Stands text (part w₂ 0 t) w₂ own m v
@@ -125,7 +129,7 @@ module _ (text : List ℕ) (t : ℕ) (own : Own) (q n : ℕ) (w : List ℕ) (rea
           stands₃ = stands-kept text w₂ w₃ t low high hidden-kept (room .behind-rows) own m v (inl (omega arith)) stands₂
 
           front : items-at text (part w₃ 0 t) w₃ (own .rows) s ≡ items-at text (part w₂ 0 t) w₂ (own .rows) s
-          front = items-kept text w₂ w₃ t (own .rows + s * 16) (own .rows + u * 16) (appended .kept) behind₃ (own .rows) s (inl (omega arith))
+          front = items-kept text w₂ w₃ t (own .rows + s * row-size) (own .rows + u * row-size) (appended .kept) behind₃ (own .rows) s (inl (omega arith))
 
           tape₃ : part w₃ 0 t ≡ part w₂ 0 t
           tape₃ = tape-kept text w₂ w₃ t low high hidden-kept (room .behind-rows)
@@ -134,11 +138,11 @@ module _ (text : List ℕ) (t : ℕ) (own : Own) (q n : ℕ) (w : List ℕ) (rea
           visible-there = front ∙ rw tape₂ (visible-joined text t own w₁ m v stands₁ w₂ s few joined)
 
           -- the rows behind the visible ones
-          hidden-there : items-at text (part w₃ 0 t) w₃ (own .rows + s * 16) (u - s) ≡ own-hidden-items m (seen-sorts m v)
+          hidden-there : items-at text (part w₃ 0 t) w₃ (own .rows + s * row-size) (u - s) ≡ own-hidden-items m (seen-sorts m v)
           hidden-there =
               let z : s + (u - s) ≡ u = omega (arith, appended .count) in
               let xs = items-at text (part w₃ 0 t) w₃ (own .rows) s in
-              let ys = items-at text (part w₃ 0 t) w₃ (own .rows + s * 16) (u - s) in
+              let ys = items-at text (part w₃ 0 t) w₃ (own .rows + s * row-size) (u - s) in
               let split : items-at text (part w₃ 0 t) w₃ (own .rows) u ≡ xs ++ ys = rw z at (items-split text (part w₃ 0 t) w₃ (own .rows) s (u - s)) in
               let added : items-at text (part w₃ 0 t) w₃ (own .rows) u ≡ xs ++ own-items text (part w₂ 0 t) w₂ own true (own .from) size =
               ap (λ (x : List ℕ). items-at text x w₃ (own .rows) u) tape₃

@@ -6,6 +6,7 @@ use Rattle.meaning.specs.Syntax.{Module}
 use Rattle.meaning.specs.Normal.{Visible}
 use Rattle.meaning.specs.Checks.{Check, _>>_}
 use Rattle.meaning.specs.Evaluate.{seen-sorts, joined-visible, own-checks}
+use Rattle.tables.specs.Rows.{row-size}
 use Rattle.forms.specs.declared.Verdict.{Verdict}
 use Rattle.forms.specs.Memory.{part, Kept}
 use Rattle.forms.specs.Verdicts.{told}
@@ -24,19 +25,19 @@ with-rows own n = record { from = own .from; end = own .end; rows = own .rows; c
 module _ (text tape w : List ℕ) (own : Own) (visible hidden : ℕ) where
   unfoldable pub variables-by : Check
   variables-by =
-      walked (variable-at text tape w (with-rows own visible) (own .rows + visible * 16) hidden) (own .from) (own .end - own .from)
+      walked (variable-at text tape w (with-rows own visible) (own .rows + visible * row-size) hidden) (own .from) (own .end - own .from)
 
   unfoldable pub declarations-by : Check
   declarations-by = walked (available-at text tape w own) (own .from) (own .end - own .from) >> variables-by
 
 -- the rows behind n rows have a place
 pub record RowsSmall (own : Own) (n : ℕ) : Type 0 where
-  pub place : own .rows + n * 16 ≤ 2147483648
+  pub place : own .rows + n * row-size ≤ 2147483648
 
 -- the imported rows are among the visible ones, and the order table lies behind the tape, apart from names and rows
 pub record CheckRoom (size t : ℕ) (own : Own) (q : ℕ) (r : OwnRows) (p : ℕ) : Type 0 where
   pub imported : own .count ≤ r .«visible_count»
-  pub place : own .rows + (r .«visible_count» + r .«hidden_count») * 16 ≤ 2147483648
+  pub place : own .rows + (r .«visible_count» + r .«hidden_count») * row-size ≤ 2147483648
   pub laid : Laid size t q (r .«parameter_count») (own .rows) (r .«visible_count» + r .«hidden_count») p
 
 pub record OwnChecked (text : List ℕ) (t : ℕ) (own : Own) (q : ℕ) (r : OwnRows) (p : ℕ) (w w′ : List ℕ) (d : Verdict) : Type 0 where

@@ -11,8 +11,9 @@ use Rattle.meaning.specs.Normal.{Slot, Visible}
 use Rattle.meaning.specs.Checks.{Check, _>>_, consistent}
 use Rattle.meaning.specs.Own.{own-visible, own-hidden-items}
 use Rattle.meaning.specs.Evaluate.{seen-sorts, joined-visible, own-checks}
+use Rattle.tables.specs.Rows.{row-size}
 use Rattle.forms.specs.Memory.{part, Kept}
-use Rattle.forms.specs.Forms.{slots-at, items-at}
+use Rattle.forms.specs.Forms.{slots-at, items-at, slot-size}
 use Rattle.forms.specs.FormLaws.{Apart, kept-same, tape-same, items-same, slots-same}
 use Rattle.declarations.specs.DeclarationLaws.{Stands}
 use Rattle.declarations.specs.ItemLaws.{FewInputs, visible-items}
@@ -32,27 +33,27 @@ module _ (text w w′ : List ℕ) (t a e : ℕ) (k : Kept a e w w′) (behind : 
   pub tape-kept : part w′ 0 t ≡ part w 0 t
   tape-kept = tape-same w w′ t (k .size) (λ i h l. k .below i (omega arith))
 
-  pub items-kept : (b c : ℕ) → Apart a e b (b + c * 16) → items-at text (part w′ 0 t) w′ b c ≡ items-at text (part w 0 t) w b c
-  items-kept b c h = rw tape-kept (items-same w w′ text (part w 0 t) b c (kept-same a e b (b + c * 16) w w′ h k))
+  pub items-kept : (b c : ℕ) → Apart a e b (b + c * row-size) → items-at text (part w′ 0 t) w′ b c ≡ items-at text (part w 0 t) w b c
+  items-kept b c h = rw tape-kept (items-same w w′ text (part w 0 t) b c (kept-same a e b (b + c * row-size) w w′ h k))
 
-  pub stands-kept : (own : Own) (m : Module) (v : Visible) → Apart a e (own .rows) (own .rows + own .count * 16)
+  pub stands-kept : (own : Own) (m : Module) (v : Visible) → Apart a e (own .rows) (own .rows + own .count * row-size)
       → Stands text (part w 0 t) w own m v → Stands text (part w′ 0 t) w′ own m v
   stands-kept own m v h s =
-      rw tape-kept (stands-same text (part w 0 t) w w′ own (kept-same a e (own .rows) (own .rows + own .count * 16) w w′ h k) m v s)
+      rw tape-kept (stands-same text (part w 0 t) w w′ own (kept-same a e (own .rows) (own .rows + own .count * row-size) w w′ h k) m v s)
 
   pub own-stands-kept : (own : Own) (q : ℕ) (r : OwnRows) (m : Module) (v : Visible) → own .count ≤ r .«visible_count»
-      → Apart a e q (q + r .«parameter_count» * 2) → Apart a e (own .rows) (own .rows + (r .«visible_count» + r .«hidden_count») * 16)
+      → Apart a e q (q + r .«parameter_count» * slot-size) → Apart a e (own .rows) (own .rows + (r .«visible_count» + r .«hidden_count») * row-size)
       → OwnStands text (part w 0 t) w own q r m v → OwnStands text (part w′ 0 t) w′ own q r m v
   own-stands-kept own q r m v few apart-names apart-rows s = record {
-    imported = stands-kept own m v (narrower (own .rows) (own .count * 16) (omega arith) (omega (arith, few))) (s .imported);
-    parameters = slots-same w w′ text q (r .«parameter_count») (kept-same a e q (q + r .«parameter_count» * 2) w w′ apart-names k) ∙ s .parameters;
-    visible = items-kept (own .rows) (r .«visible_count») (narrower (own .rows) (r .«visible_count» * 16) (omega arith) (omega arith)) ∙ s .visible;
-    hidden = items-kept (own .rows + r .«visible_count» * 16) (r .«hidden_count»)
-        (narrower (own .rows + r .«visible_count» * 16) (r .«hidden_count» * 16) (omega arith) (omega arith))
+    imported = stands-kept own m v (narrower (own .rows) (own .count * row-size) (omega arith) (omega (arith, few))) (s .imported);
+    parameters = slots-same w w′ text q (r .«parameter_count») (kept-same a e q (q + r .«parameter_count» * slot-size) w w′ apart-names k) ∙ s .parameters;
+    visible = items-kept (own .rows) (r .«visible_count») (narrower (own .rows) (r .«visible_count» * row-size) (omega arith) (omega arith)) ∙ s .visible;
+    hidden = items-kept (own .rows + r .«visible_count» * row-size) (r .«hidden_count»)
+        (narrower (own .rows + r .«visible_count» * row-size) (r .«hidden_count» * row-size) (omega arith) (omega arith))
         ∙ s .hidden;
   }
     where
-      narrower : (b n : ℕ) → own .rows ≤ b → b + n ≤ own .rows + (r .«visible_count» + r .«hidden_count») * 16 → Apart a e b (b + n)
+      narrower : (b n : ℕ) → own .rows ≤ b → b + n ≤ own .rows + (r .«visible_count» + r .«hidden_count») * row-size → Apart a e b (b + n)
       narrower b n h l = ⊎-elim (λ x. inl (omega arith)) (λ x. inr (omega arith)) apart-rows
 
 -- ---- the meaning
@@ -80,5 +81,5 @@ declarations-told text tape w own q r m v few s c e =
     let st : Stands text tape w all m (joined-visible m v) = record { end = s .imported .end; entries = s .imported .entries; rows = s .visible } in
     ap₂ (λ (x y : Check). x >> y) e
     (ap₂ (λ (x y : Check). x >> y) (available-told text tape w own m v (s .imported) few)
-    (variables-told text tape w all m (joined-visible m v) st (own .rows + r .«visible_count» * 16) (r .«hidden_count»)
+    (variables-told text tape w all m (joined-visible m v) st (own .rows + r .«visible_count» * row-size) (r .«hidden_count»)
     (own-hidden-items m (seen-sorts m v)) (s .hidden)))

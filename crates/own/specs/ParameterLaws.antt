@@ -13,10 +13,11 @@ use Rattle.meaning.specs.Syntax.{Parameter, Module}
 use Rattle.meaning.specs.Normal.{Slot, Visible}
 use Rattle.meaning.specs.Own.{own-slot}
 use Rattle.meaning.specs.Evaluate.{seen-sorts}
+use Rattle.tape.specs.Roles.{behind-parameters, all-signature, all-behind-parameters}
 use Rattle.names.specs.Word.{name-of}
-use Rattle.tape.specs.Tape.{Entry, flat-signature, flat-parameter, flat-module}
+use Rattle.tape.specs.Tape.{Entry, flat-signature, flat-parameter, flat-module, parameter-sort, parameter-function}
 use Rattle.tables.specs.Entries.{home-at}
-use Rattle.walks.specs.Flat.{behind-parameters, all-signature, all-behind-parameters, names-with, names-append, names-none}
+use Rattle.walks.specs.Flat.{names-with, names-append, names-none}
 use Rattle.declarations.specs.Spelled.{Spells, is-role, home-there}
 use Rattle.declarations.specs.DeclarationLaws.{Stands}
 use Rattle.declarations.specs.declared.Own.{Own}
@@ -47,7 +48,8 @@ names-parameters (p ∷ ps) =
     names-append (is-role 2) (flat-parameter p) (each flat-parameter ps)
     ∙ ap₂ (λ (x y : List Name). x ++ y)
     (ap (λ (x : List Name). p .name ∷ x)
-    (names-none (is-role 2) (flat-signature 3 4 (p .signature)) (all-signature (λ (r : ℕ). is-role 2 r ≡ false) 3 4 refl refl refl refl (p .signature))))
+    (names-none (is-role 2) (flat-signature parameter-sort parameter-function (p .signature))
+    (all-signature (λ (r : ℕ). is-role 2 r ≡ false) 3 4 refl refl refl refl (p .signature))))
     (names-parameters ps)
 
 names-module : (m : Module) → names-with (is-role 2) (flat-module m) ≡ map (λ (p : Parameter). p .name) (m .parameters)

@@ -10,7 +10,7 @@ use Rattle.names.specs.Word.{name-of}
 use Rattle.tape.specs.Tape.{parameter-role}
 use Rattle.tables.specs.Entries.{role-at, word-at, name-at, home-at}
 use Rattle.forms.specs.Memory.{part, Kept}
-use Rattle.forms.specs.Forms.{slots-at}
+use Rattle.forms.specs.Forms.{slots-at, slot-size}
 
 -- the parameter that is declared at i
 unfoldable pub declared-slot : List ℕ → List ℕ → ℕ → Slot
@@ -28,17 +28,17 @@ declared-slots text tape i (suc c) =
 pub record SlotPut (t place i : ℕ) (w w′ : List ℕ) : Type 0 where
   pub name : place < length w → getD w′ place 0 ≡ word-at (part w 0 t) i
   pub home : place + 1 < length w → getD w′ (place + 1) 0 ≡ home-at (part w 0 t) i
-  pub kept : Kept place (place + 2) w w′
+  pub kept : Kept place (place + slot-size) w w′
 
 -- behind the tape and the n parameters at base there is room for one for each entry
 pub record SlotsRoom (size t from end base n : ℕ) : Type 0 where
   pub few : n ≤ 1073741824
-  pub behind : t ≤ base + n * 2
-  pub room : base + (n + (end - from)) * 2 ≤ size
+  pub behind : t ≤ base + n * slot-size
+  pub room : base + (n + (end - from)) * slot-size ≤ size
 
 -- the module's parameters are those from n up to r at base, and all else stays
 pub record SlotsAppended (t from end base n : ℕ) (w w′ : List ℕ) (r : ℕ) : Type 0 where
-  pub kept : Kept (base + n * 2) (base + r * 2) w w′
+  pub kept : Kept (base + n * slot-size) (base + r * slot-size) w w′
   pub grows : n ≤ r
   pub few : r ≤ n + (end - from)
   pub slots :

@@ -5,6 +5,7 @@ use declarations::Own;
 use declarations::checks::available;
 use declarations::checks::variables_right;
 use forms::Verdict;
+use tables::ROW_SIZE;
 ghost use mathlib.Core.Path.{_≡_};
 ghost use lib.ListN.{length};
 ghost use Rattle.names.specs.Joint.{joint};
@@ -36,7 +37,15 @@ fn check_variables(
         rows,
         count: visible,
     };
-    variables_right(library, text, work, t, all, rows + visible * 16, hidden)
+    variables_right(
+        library,
+        text,
+        work,
+        t,
+        all,
+        rows + visible * ROW_SIZE,
+        hidden,
+    )
 }
 
 // 13, and then 12.

@@ -1,9 +1,11 @@
 // A module's own parameters, each with the module's name, behind those that it imports.
 use declarations::Own;
+use forms::SLOT_STEP;
 use tables::entries::home_at;
 use tables::entries::name_at;
 use tables::entries::put_word;
 use tables::entries::role_at;
+use tape::roles;
 ghost use Prim.Native.Nat.{_^_, _≤_, _<_};
 ghost use lib.ListN.{length};
 ghost use Rattle.declarations.specs.Sorts.{Ready};
@@ -31,8 +33,8 @@ pub fn own_parameters(work: &mut [u32], t: usize, own: Own, base: u32, n: u32) -
     let mut k = n;
     let mut i = own.from;
     while i < end {
-        if role_at(&work[0..t], i as usize) == 2 {
-            put_parameter(work, t, base as usize + k as usize * 2, i);
+        if role_at(&work[0..t], i as usize) == roles::PARAMETER {
+            put_parameter(work, t, base as usize + k as usize * SLOT_STEP, i);
             k += 1;
             i += 1;
         } else {

@@ -3,6 +3,8 @@ use mathlib.Core.Path.{_≡_}
 use mathlib.Core.List.{List}
 use Prim.Native.Nat.{ℕ, _-_}
 use borrow.Author.Needs.{needs}
+use Rattle.meaning.specs.Numbers.{ill-typed}
+use Rattle.tape.specs.Tape.{tag-role}
 use Rattle.tables.specs.Entries.{next-with}
 use Rattle.forms.specs.declared.Form.{Form}
 use Rattle.forms.specs.declared.Made.{Made}
@@ -15,7 +17,7 @@ use Rattle.typing.specs.Typed.{known-in, module-in, with-equations, own-made}
 use Rattle.own_equations.specs.Own.{owned, own-at}
 
 module _ (f : Form) (r : Equated) where
-  pub made-refused : (tag : ℕ) → r ≡ Stop tag → Refused 17 (record { name = tag; actual = 0 }) ≡ own-made f r
+  pub made-refused : (tag : ℕ) → r ≡ Stop tag → Refused ill-typed (record { name = tag; actual = 0 }) ≡ own-made f r
   unfolding own-made
   made-refused tag e = rw e
 
@@ -24,7 +26,7 @@ module _ (f : Form) (r : Equated) where
   made-done count free nodes e s = rw (e, ← s)
 
 pub own-done : (text : List ℕ) (t : ℕ) (f : Form) (home from end : ℕ) (w u : List ℕ) (i : ℕ) (r : Equated) (q : Made)
-    → i ≡ next-with 19 (part w 0 t) from (end - from) → told r u ≡ equations-from text (known-in t f) (module-in f home end) t 0 i (f .nodes) w
+    → i ≡ next-with tag-role (part w 0 t) from (end - from) → told r u ≡ equations-from text (known-in t f) (module-in f home end) t 0 i (f .nodes) w
     → q ≡ own-made f r → owned q u ≡ own-at text t f home from end w
 unfolding own-at
 own-done text t f home from end w u i r q e h g = rw (← e, ← h, g)

@@ -7,15 +7,16 @@ use borrow.Author.Tests.{ne-eqb}
 use lib.ListN.{length, length-append}
 use Rattle.meaning.specs.Lists.{pick, each}
 use Rattle.meaning.specs.Syntax.{Equation, Module}
+use Rattle.tape.specs.Roles.{All, all-append, all-signature, all-parameters, all-imports, all-groups}
 use Rattle.tape.specs.Tape.{Entry, entry, module-role, export-sort, export-function, hidden-sort, hidden-function, tag-role, condition-role, conclusion-role, flat-signature, flat-parameter, flat-import, flat-group, flat-term, flat-sides, flat-equation, flat-module, flat-modules, entries}
 use Rattle.tables.specs.Entries.{next-with}
-use Rattle.walks.specs.Flat.{All, all-append, all-signature, all-parameters, all-imports, all-groups}
+use Rattle.forms.specs.Forms.{equation-size}
 use Rattle.declarations.specs.Spelled.{Spells, spells-front, spells-behind, entries-spelled}
 use Rattle.typing.specs.declared.Known.{Known}
 use Rattle.typing.specs.Typing.{tape-in}
-use Rattle.typing.specs.Meant as typer
 use Rattle.typing.specs.Meant.{begins}
 use Rattle.walks.specs.Lists.{each-append}
+use Rattle.typing.specs.Meant as typer
 
 -- a module's entries in front of its equations
 unfoldable pub in-front : Module → List Entry
@@ -35,10 +36,11 @@ unfolding in-front
 front-low m = (
   omega arith,
   all-append P (each flat-parameter (m .parameters)) _ (all-parameters P (omega arith) (omega arith) (omega arith) (omega arith) (omega arith) (m .parameters))
-      (all-append P (flat-signature 5 6 (m .exports)) _ (all-signature P 5 6 (omega arith) (omega arith) (omega arith) (omega arith) (m .exports))
+      (all-append P (flat-signature export-sort export-function (m .exports)) _
+      (all-signature P export-sort export-function (omega arith) (omega arith) (omega arith) (omega arith) (m .exports))
       (all-append P (each flat-import (m .imports)) _ (all-imports P (λ r h l. omega arith) (m .imports))
-      (all-append P (flat-signature 7 8 (m .hidden)) (each flat-group (m .groups))
-      (all-signature P 7 8 (omega arith) (omega arith) (omega arith) (omega arith) (m .hidden))
+      (all-append P (flat-signature hidden-sort hidden-function (m .hidden)) (each flat-group (m .groups))
+      (all-signature P hidden-sort hidden-function (omega arith) (omega arith) (omega arith) (omega arith) (m .hidden))
       (all-groups P (omega arith) (omega arith) (m .groups))))),
 )
   where
@@ -57,9 +59,9 @@ module-spelled text tape n xs ys m e =
 
 -- ---- an equation has four entries at the least: its tag, two terms, and what they are
 
-equation-size : (e : Equation) → 4 ≤ length (flat-equation e)
+equation-entries : (e : Equation) → 4 ≤ length (flat-equation e)
 unfolding flat-equation flat-sides
-equation-size e =
+equation-entries e =
     let l = begins (e .conclusion .left) in
     let r = begins (e .conclusion .right) in
     let a = each (flat-sides condition-role) (e .before) in
@@ -73,11 +75,11 @@ equation-size e =
 pub equations-size : (es : List Equation) → 4 * length es ≤ length (each flat-equation es)
 unfolding each
 equations-size [] = omega arith
-equations-size (e ∷ es) = omega (arith, equation-size e, equations-size es, length-append (flat-equation e) (each flat-equation es))
+equations-size (e ∷ es) = omega (arith, equation-entries e, equations-size es, length-append (flat-equation e) (each flat-equation es))
 
 pub record EquationsRoom (m : Module) (i end : ℕ) : Type 0 where
   pub entries : length (each flat-equation (m .equations)) ≡ end - i
-  pub rows : length (m .equations) * 8 ≤ 2 * (end - i)
+  pub rows : length (m .equations) * equation-size ≤ 2 * (end - i)
 
 -- ---- on the tape
 

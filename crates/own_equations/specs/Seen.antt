@@ -17,7 +17,7 @@ use Rattle.laws.specs.EveryLaws.{every-all, every-union}
 use Rattle.laws.specs.Outcomes.{Gives}
 use Rattle.laws.specs.OwnItems.{section-made, visible-every}
 use Rattle.laws.specs.Walk.{AnyName, any-imports, EnvironmentOf, imported-gives, Evaluates, module-gives}
-use Rattle.laws.specs.Piecewise.{AllVisible, visible-keep, visible-evaluates}
+use Rattle.laws.specs.Piecewise.{AllVisible, visible-evaluates}
 use Rattle.typing.specs.Meant.{visibly}
 use Rattle.typing.specs.Typed.{Seen}
 

@@ -2,7 +2,9 @@
 use forms::Culprit;
 use forms::Form;
 use forms::Made;
+use meaning::numbers;
 use tables::entries::next_with;
+use tape::roles;
 use typing::Equated;
 use typing::Known;
 use typing::Module;
@@ -57,7 +59,7 @@ fn made_of(f: Form, r: Equated) -> Made
 {
     match r {
         Equated::Stop(tag) => Made::Refused(
-            17,
+            numbers::ILL_TYPED,
             Culprit {
                 name: tag,
                 actual: 0,
@@ -96,7 +98,7 @@ pub fn type_own(
     requires { ⌜ (t ≤ length (now work)) × (t ≤ 65536) × (end ≤ t) × (f .«visible_count» + f .«hidden_count» ≤ 65536) ⌝ }
     ensures { λ r. ⌜ owned r (now (work .exit)) ≡ own-at (joint (now (library .entry)) (now (text .entry))) t f home from end (now (work .entry)) ⌝ }
 {
-    let i = next_with(&work[0..t], 19, from, end);
+    let i = next_with(&work[0..t], roles::TAG, from, end);
     let r = type_placed(library, text, work, t, f, home, i, end);
     made_of(f, r)
 }

@@ -112,7 +112,7 @@ pub fn put_name(
 }
 
 // The digits of n, `size` of them at most.
-fn put_digits(out: &mut [u8], at: usize, limit: usize, n: u32, size: usize) -> usize
+pub fn put_digits(out: &mut [u8], at: usize, limit: usize, n: usize, size: usize) -> usize
     ensures { λ r. ⌜ pen r (now (out .exit)) ≡ written limit (digits size n) (pen at (now (out .entry))) ⌝ }
 {
     if size == 0 {
@@ -129,7 +129,7 @@ fn put_digits(out: &mut [u8], at: usize, limit: usize, n: u32, size: usize) -> u
 pub fn put_number(out: &mut [u8], at: usize, limit: usize, n: u32) -> usize
     ensures { λ r. ⌜ pen r (now (out .exit)) ≡ written limit (decimal n) (pen at (now (out .entry))) ⌝ }
 {
-    put_digits(out, at, limit, n, 10)
+    put_digits(out, at, limit, n as usize, 10)
 }
 
 // The number of a hidden item.

@@ -6,10 +6,10 @@ use Prim.Native.Nat.{ℕ, zero, suc, _+_, _-_, _*_, _/_, _%_, _<_, _≤_, min}
 use native.Mathlib.Omega.{arith}
 use native.Mathlib.Numerals.{add-one}
 use borrow.Author.Needs.{needs}
-use borrow.Author.Tests.{eq-eqb, ne-eqb, leb-true, leb-false}
-use lib.Dec.{eqb, leb}
+use borrow.Author.Tests.{eq-eqb, ne-eqb}
+use lib.Dec.{eqb}
 use lib.ListN.{length, getD, take, drop, List·getD-eq-default}
-use lib.Seq.{drop-cons, take-all}
+use lib.Seq.{drop-cons}
 use Rattle.meaning.specs.Lists.{pick, before}
 use Rattle.meaning.specs.Names.{Name, same, bytes}
 use Rattle.meaning.specs.Origins.{Declared, declared-sort, declared-function, declared-variable, same-section, same-declared, same-origin, hidden-section, Item, Sort}
@@ -21,7 +21,8 @@ use Rattle.tables.specs.declared.Origin.{Origin}
 use Rattle.tables.specs.declared.Row.{Row}
 use Rattle.tables.specs.Entries.{role-at, name-at, names-from, home-at, is-function-role, arity-at, sort-place, declared-at}
 use Rattle.tables.specs.Kinds.{kind-at}
-use Rattle.tables.specs.Rows.{section-of, origin-of, hidden-origin, sort-of, type-of, shape-of, item-of, row-at}
+use Rattle.tables.specs.Rows.{section-of, origin-of, hidden-origin, sort-of, type-of, shape-of, item-of, row-at, row-size}
+use Rattle.tables.specs.RowLaws.{take-nine}
 use Rattle.forms.specs.Forms.{items-at}
 use Rattle.pen.specs.Pen.{Pen, pen, written, rows-text, rows-texts}
 use Rattle.pen.proofs.Laws.{then}
@@ -97,33 +98,33 @@ row-told text tape w b d row r e h = rw (← e) h
 
 pub record Numbering (text tape w : List ℕ) (b n d i : ℕ) : Type 0 where
   pub within : i ≤ n
-  pub comes : sort-number text tape w b n d ≡ i + sort-number text tape w (b + i * 16) (n - i) d
+  pub comes : sort-number text tape w b n d ≡ i + sort-number text tape w (b + i * row-size) (n - i) d
 
 module _ (text tape w : List ℕ) (b n d : ℕ) where
   pub number-start : Numbering text tape w b n d 0
   number-start =
-      let z : b ≡ b + 0 * 16 = omega arith in
+      let z : b ≡ b + 0 * row-size = omega arith in
       let m : n ≡ n - 0 = omega arith in
-      let e : sort-number text tape w (b + 0 * 16) (n - 0) d ≡ 0 + sort-number text tape w (b + 0 * 16) (n - 0) d = omega arith in
+      let e : sort-number text tape w (b + 0 * row-size) (n - 0) d ≡ 0 + sort-number text tape w (b + 0 * row-size) (n - 0) d = omega arith in
       record { within = omega arith; comes = ap₂ (λ (x y : ℕ). sort-number text tape w x y d) z m ∙ e }
 
   module _ (i : ℕ) where
-    none-left : n ≤ i → sort-number text tape w (b + i * 16) (n - i) d ≡ 1
+    none-left : n ≤ i → sort-number text tape w (b + i * row-size) (n - i) d ≡ 1
     unfolding sort-number items-at before
     none-left h = let z : n - i ≡ 0 = omega arith in rw z
 
-    module _ (h : i < n) (r : Bool) (f : r ≡ same-origin (hidden-origin text tape d) (item-of text tape (row-at w (b + i * 16)) .origin)) where
+    module _ (h : i < n) (r : Bool) (f : r ≡ same-origin (hidden-origin text tape d) (item-of text tape (row-at w (b + i * row-size)) .origin)) where
       left : n - i ≡ suc (n - (i + 1))
       left = omega arith
 
-      next : b + i * 16 + 16 ≡ b + (i + 1) * 16
+      next : b + i * row-size + row-size ≡ b + (i + 1) * row-size
       next = omega arith
 
-      here : r ≡ true → sort-number text tape w (b + i * 16) (n - i) d ≡ 1
+      here : r ≡ true → sort-number text tape w (b + i * row-size) (n - i) d ≡ 1
       unfolding sort-number items-at before pick
       here e = rw (left, ← f, e)
 
-      further : r ≡ false → sort-number text tape w (b + i * 16) (n - i) d ≡ suc (sort-number text tape w (b + (i + 1) * 16) (n - (i + 1)) d)
+      further : r ≡ false → sort-number text tape w (b + i * row-size) (n - i) d ≡ suc (sort-number text tape w (b + (i + 1) * row-size) (n - (i + 1)) d)
       unfolding sort-number items-at before pick
       further e = rw (left, ← f, e, next) (omega arith)
 
@@ -131,7 +132,7 @@ module _ (text tape w : List ℕ) (b n d : ℕ) where
     pub number-end : n ≤ i → i + 1 ≡ sort-number text tape w b n d
     number-end h = sym (v .comes ∙ ap (λ (m : ℕ). i + m) (none-left i h))
 
-    module _ (h : i < n) (r : Bool) (f : r ≡ same-origin (hidden-origin text tape d) (item-of text tape (row-at w (b + i * 16)) .origin)) where
+    module _ (h : i < n) (r : Bool) (f : r ≡ same-origin (hidden-origin text tape d) (item-of text tape (row-at w (b + i * row-size)) .origin)) where
       pub number-found : r ≡ true → i + 1 ≡ sort-number text tape w b n d
       number-found e = sym (v .comes ∙ ap (λ (m : ℕ). i + m) (here i h r f e))
 
@@ -139,16 +140,6 @@ module _ (text tape w : List ℕ) (b n d : ℕ) where
       number-again e = record { within = omega arith; comes = omega (arith, v .comes, further i h r f e) }
 
 -- ---- sorts with a mark between
-
--- past the nine there is nothing to take
-take-nine : (n : ℕ) (xs : List ℕ) → length xs ≡ 9 → take (min n 9) xs ≡ take n xs
-take-nine n xs l = go (leb n 9) refl
-  where
-    go : (b : Bool) → leb n 9 ≡ b → take (min n 9) xs ≡ take n xs
-    go true e = let h : min n 9 ≡ n = omega (arith, leb-true n 9 e) in ap (λ (k : ℕ). take k xs) h
-    go false e =
-        let g = leb-false n 9 e in
-        take-all (min n 9) xs (omega arith) ∙ sym (take-all n xs (omega arith))
 
 sorts-rows : (f : Sort → List ℕ) (g : ℕ → Sort) (xs : List ℕ) (i m : ℕ) → i + m ≤ length xs
     → map f (map g (take m (drop i xs))) ≡ rows-texts (λ (j : ℕ). f (g (getD xs j 0))) i m

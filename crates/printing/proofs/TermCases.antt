@@ -11,6 +11,7 @@ use Rattle.meaning.specs.Lists.{pick}
 use Rattle.meaning.specs.Names.{bytes}
 use Rattle.meaning.specs.Written.{numbered}
 use Rattle.names.specs.Word.{name-of}
+use Rattle.tables.specs.Rows.{row-size}
 use Rattle.forms.specs.declared.EquationRow.{EquationRow}
 use Rattle.pen.specs.Pen.{Pen, pen, written}
 use Rattle.pen.proofs.Laws.{then}
@@ -18,12 +19,13 @@ use Rattle.printing.specs.declared.Printed.{Printed}
 use Rattle.printing.specs.Terms.{Spelt, node-text, item-at, opened, listed, term-by, term-at, sides-at, when-at, rule-at, equation-at, Shown}
 
 -- past the end is no name
-pub name-none : (w : List ℕ) (b r : ℕ) → length w ≤ b → 0 ≡ getD w (b + r * 16 + 1) 0
-name-none w b r h = sym (List·getD-eq-default w 0 {n = b + r * 16 + 1} (omega arith))
+pub name-none : (w : List ℕ) (b r : ℕ) → length w ≤ b → 0 ≡ getD w (b + r * row-size + 1) 0
+name-none w b r h = sym (List·getD-eq-default w 0 {n = b + r * row-size + 1} (omega arith))
 
 -- the item at a node
 module _ (l : ℕ) (text w : List ℕ) (b v : ℕ) (p q : Pen) where
-  pub item-visible : (n : ℕ) → v / 16 % 2 ≡ 0 → n ≡ getD w (b + v / 32 * 16 + 1) 0 → q ≡ written l (name-of text n) p → q ≡ written l (node-text text w b v) p
+  pub item-visible : (n : ℕ) → v / 16 % 2 ≡ 0 → n ≡ getD w (b + v / 32 * row-size + 1) 0 → q ≡ written l (name-of text n) p
+      → q ≡ written l (node-text text w b v) p
   unfolding node-text pick
   item-visible n z e f = rw (eq-eqb (v / 16 % 2) 0 z, ← e) f
 

@@ -10,27 +10,27 @@ use borrow.Author.Tests.{eq-eqb, ne-eqb}
 use Rattle.meaning.specs.Lists.{pick, before}
 use Rattle.meaning.specs.Origins.{same-origin, Sort, FunctionType, visible-head, hidden-head, function-shape, variable-shape, same-shape, Item}
 use Rattle.meaning.specs.Written.{numbered, head-text, variable-text}
-use Rattle.tables.specs.Rows.{item-of, row-at}
-use Rattle.tables.specs.Decides.{origins-decided, shapes-decided}
+use Rattle.laws.specs.Decides.{origins-decided, shapes-decided}
+use Rattle.tables.specs.Rows.{item-of, row-at, row-size}
 use Rattle.forms.specs.Forms.{items-at, function-node, variable-node, node-row, node-shape, node-of, node-in}
 use Rattle.printing.specs.Terms.{node-text}
 use Rattle.printing.specs.Meant.{head-of-node, arguments-of, Told}
 
 -- the first row that passes a test
-before-row : (p : Item → Bool) (text tape w : List ℕ) (h n r : ℕ) → r < n → ((j : ℕ) → j < r → p (item-of text tape (row-at w (h + j * 16))) ≡ false)
-    → p (item-of text tape (row-at w (h + r * 16))) ≡ true → before p (items-at text tape w h n) ≡ r
+before-row : (p : Item → Bool) (text tape w : List ℕ) (h n r : ℕ) → r < n → ((j : ℕ) → j < r → p (item-of text tape (row-at w (h + j * row-size))) ≡ false)
+    → p (item-of text tape (row-at w (h + r * row-size))) ≡ true → before p (items-at text tape w h n) ≡ r
 unfolding before items-at pick
 before-row p text tape w h zero r l f t = absurd (not-suc-le-zero l)
 before-row p text tape w h (suc n) zero l f t =
-    let z : h + 0 * 16 ≡ h = omega arith in
+    let z : h + 0 * row-size ≡ h = omega arith in
     rw (ap (λ (c : ℕ). p (item-of text tape (row-at w c))) (sym z) ∙ t)
 before-row p text tape w h (suc n) (suc r) l f t =
-    let z : h + 0 * 16 ≡ h = omega arith in
+    let z : h + 0 * row-size ≡ h = omega arith in
     let first = ap (λ (c : ℕ). p (item-of text tape (row-at w c))) (sym z) ∙ f 0 (omega arith) in
-    let s : h + suc r * 16 ≡ h + 16 + r * 16 = omega arith in
+    let s : h + suc r * row-size ≡ h + row-size + r * row-size = omega arith in
     rw first
-    (ap suc (before-row p text tape w (h + 16) n r (omega arith)
-    (λ j m. let e : h + 16 + j * 16 ≡ h + suc j * 16 = omega arith in rw e (f (suc j) (omega arith)))
+    (ap suc (before-row p text tape w (h + row-size) n r (omega arith)
+    (λ j m. let e : h + row-size + j * row-size ≡ h + suc j * row-size = omega arith in rw e (f (suc j) (omega arith)))
     (ap (λ (c : ℕ). p (item-of text tape (row-at w c))) (sym s) ∙ t)))
 
 -- equal origin and shape
@@ -39,10 +39,10 @@ alike a x = same-origin (a .origin) (x .origin) && same-shape (a .shape) (x .sha
 
 module _ (text tape w : List ℕ) (b h n v : ℕ) where
   abbrev above : Item
-  above = item-of text tape (row-at w (b + v / 32 * 16))
+  above = item-of text tape (row-at w (b + v / 32 * row-size))
 
   abbrev below : Item
-  below = item-of text tape (row-at w (h + v / 32 * 16))
+  below = item-of text tape (row-at w (h + v / 32 * row-size))
 
   abbrev hidden : List Item
   hidden = items-at text tape w h n
@@ -61,7 +61,8 @@ module _ (text tape w : List ℕ) (b h n v : ℕ) where
     visible-told =
         record { head = visible-name ∙ sym (ap (head-of-node hidden) visible-node); arguments = sym (ap arguments-of visible-node) }
 
-  module _ (z : v / 16 % 2 ≡ 0 → ⊥) (l : v / 32 < n) (distinct : (j : ℕ) → j < v / 32 → alike below (item-of text tape (row-at w (h + j * 16))) ≡ false) where
+  module _ (z : v / 16 % 2 ≡ 0 → ⊥) (l : v / 32 < n)
+      (distinct : (j : ℕ) → j < v / 32 → alike below (item-of text tape (row-at w (h + j * row-size))) ≡ false) where
     itself : alike below below ≡ true
     unfolding alike
     itself = rw (origins-decided .self (below .origin), shapes-decided .self (below .shape))

@@ -9,6 +9,7 @@ use Rattle.meaning.specs.Lists.{pick}
 use Rattle.meaning.specs.Names.{bytes}
 use Rattle.meaning.specs.Written.{numbered}
 use Rattle.names.specs.Word.{name-of}
+use Rattle.tables.specs.Rows.{row-size}
 use Rattle.forms.specs.declared.EquationRow.{EquationRow}
 use Rattle.pen.specs.Pen.{pen, written}
 use Rattle.printing.specs.declared.Printed.{Printed}
@@ -16,7 +17,7 @@ use Rattle.printing.specs.declared.Printed.{Printed}
 -- a visible item is written by its name, a hidden one by its number
 unfoldable pub node-text : List ℕ → List ℕ → ℕ → ℕ → List ℕ
 node-text text w b v =
-    let name = name-of text (getD w (b + v / 32 * 16 + 1) 0) in let number = numbered (v / 32 + 1) in pick (eqb (v / 16 % 2) 0) name number
+    let name = name-of text (getD w (b + v / 32 * row-size + 1) 0) in let number = numbered (v / 32 + 1) in pick (eqb (v / 16 % 2) 0) name number
 
 -- bytes, and the node that comes after those they are of
 pub record Spelt : Type 0 where

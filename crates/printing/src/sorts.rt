@@ -7,12 +7,14 @@ use tables::entries::home_at;
 use tables::entries::kind_at;
 use tables::entries::same_name_at;
 use tables::entries::same_word;
+use tables::kinds;
 use tables::rows::read_row;
 use tables::sections::same_section;
+use tables::sorts::inputs_of;
 ghost use mathlib.Core.Path.{_≡_};
 ghost use mathlib.Core.Bool.{_&&_};
 ghost use mathlib.Core.List.{map};
-ghost use Prim.Native.Nat.{_+_, _-_, _*_, _^_, _<_, min};
+ghost use Prim.Native.Nat.{_+_, _-_, _*_, _^_, _<_};
 ghost use lib.ListN.{getD, take};
 ghost use Rattle.meaning.specs.Names.{same, bytes};
 ghost use Rattle.meaning.specs.Origins.{same-section, same-origin, hidden-section};
@@ -20,7 +22,7 @@ ghost use Rattle.meaning.specs.Written.{between-marks, sort-text, function-type
 ghost use Rattle.names.specs.Word.{name-of};
 ghost use Rattle.names.specs.Joint.{joint};
 ghost use Rattle.tables.specs.Entries.{home-at};
-ghost use Rattle.tables.specs.Rows.{section-of, origin-of, hidden-origin, sort-of, type-of, shape-of, item-of, row-at};
+ghost use Rattle.tables.specs.Rows.{section-of, origin-of, hidden-origin, sort-of, type-of, shape-of, item-of, row-at, row-size};
 ghost use Rattle.forms.specs.Forms.{items-at};
 ghost use Rattle.pen.specs.Pen.{pen, written, rows-text};
 ghost use Rattle.printing.specs.Sorts.{sort-number, marked-sort};
@@ -43,7 +45,7 @@ fn is_hidden_sort(library: &[u8], text: &[u8], tape: &[u32], d: u32, o: Origin) 
     ensures { λ r. ⌜ r ≡ same-origin (hidden-origin (joint (now (library .entry)) (now (text .entry))) (now (tape .entry)) d) (origin-of (joint (now (library .entry)) (now (text .entry))) (now (tape .entry)) o) ⌝ }
 {
     let e = o.place;
-    if kind_at(tape, e) == 0 {
+    if kind_at(tape, e) == kinds::SORT {
         if same_name_at(library, text, tape, d as usize, e as usize) {
             return is_hidden_there(library, text, tape, d, o);
         }
@@ -62,7 +64,7 @@ fn is_sort_row(
     i: u32,
     d: u32,
 ) -> bool
-    ensures { λ r. ⌜ r ≡ same-origin (hidden-origin (joint (now (library .entry)) (now (text .entry))) (now (tape .entry)) d) (item-of (joint (now (library .entry)) (now (text .entry))) (now (tape .entry)) (row-at (now (work .entry)) (base + i * 16)) .origin) ⌝ }
+    ensures { λ r. ⌜ r ≡ same-origin (hidden-origin (joint (now (library .entry)) (now (text .entry))) (now (tape .entry)) d) (item-of (joint (now (library .entry)) (now (text .entry))) (now (tape .entry)) (row-at (now (work .entry)) (base + i * row-size)) .origin) ⌝ }
 {
     let row = read_row(work, base, i);
     let o = row.origin;
@@ -185,19 +187,6 @@ fn put_others(
     to
 }
 
-// How many of a row's nine sorts are a function's inputs.
-fn inputs_of(kind: u32) -> usize
-    ensures { λ r. ⌜ r ≡ min (kind - 2) 9 ⌝ }
-{
-    if kind < 2 {
-        return 0;
-    }
-    if 11 < kind {
-        return 9;
-    }
-    (kind - 2) as usize
-}
-
 // The inputs of a function of the kind, with a mark between.
 fn put_sorts(
     out: &mut [u8],
@@ -310,10 +299,10 @@ pub fn put_shape(
 {
     let kind = row.kind;
     let sorts = row.sorts;
-    if kind == 0 {
+    if kind == kinds::SORT {
         return at;
     }
-    if kind == 1 {
+    if kind == kinds::VARIABLE {
         let a = pen::put_text(out, at, limit, b":");
         return put_sort(
             out,

@@ -1,20 +1,22 @@
 // Terms, written as `f(a,b)`. Their nodes stand in prefix order in the memory, and the visible items' rows from `visible` on.
 // A level of a term takes little stack: what goes down is lent, in four places, and what only a node needs is out of its way.
 use super::Printed;
+use tables::ROW_STEP;
 use tables::entries::word_at;
 ghost use mathlib.Core.Path.{_≡_};
 ghost use Prim.Native.Nat.{_+_, _*_, _%_};
 ghost use lib.ListN.{getD};
 ghost use Rattle.names.specs.Joint.{joint};
 ghost use Rattle.pen.specs.Pen.{pen, written};
+ghost use Rattle.tables.specs.Rows.{row-size};
 ghost use Rattle.printing.specs.Terms.{node-text, item-at, alone, opened, listed, term-at, Shown, Placed};
 
 // The word of the name of a visible item's row; 0 where no rows are.
 fn name_word(work: &[u32], visible: usize, row: u32) -> u32
-    ensures { λ r. ⌜ r ≡ getD (now (work .entry)) (visible + row * 16 + 1) 0 ⌝ }
+    ensures { λ r. ⌜ r ≡ getD (now (work .entry)) (visible + row * row-size + 1) 0 ⌝ }
 {
     if visible < work.len() {
-        return word_at(work, visible + row as usize * 16 + 1);
+        return word_at(work, visible + row as usize * ROW_STEP + 1);
     }
     0
 }

@@ -14,7 +14,7 @@ use Rattle.meaning.specs.OrderLaws.{Every, Pairwise, Rearranged, rearranged-mem
 use Rattle.laws.specs.EveryLaws.{every-so, kept-member, any-passes, every-member, member-map-to, every-made, every-map}
 use Rattle.promises.specs.ListingLaws.{Plain, first-of, not-empty, rest-of}
 use Rattle.promises.specs.SameListing.{EquationsTold, SameNormal, VisibleTold, items-in-order, one-order, visible-items-one}
-pub use Rattle.promises.specs.SameListing.{same-ordered}
+use Rattle.promises.specs.SameListing.{same-ordered}
 use Rattle.promises.specs.Told.{SameListed, SoundVisible, Stands, StandsIn, every-named, exported-of}
 use Rattle.promises.specs.Sound.{once-told}
 use Rattle.promises.specs.Parts.{Apart, parted}

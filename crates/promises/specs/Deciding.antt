@@ -6,7 +6,7 @@ use borrow.Author.Tests.{eqb-true, eq-eqb}
 use Rattle.meaning.specs.Lists.{agree}
 use Rattle.meaning.specs.Names.{same}
 use Rattle.meaning.specs.OrderLaws.{same-self, same-equal}
-use Rattle.promises.specs.ListingLaws.{both-true, agree-equal, agree-self}
+use Rattle.laws.specs.Decides.{both-true, agree-equal, agree-self}
 
 pub record Decides {A : Type 0} (e : A → A → Bool) : Type 0 where
   pub self : (a : A) → e a a ≡ true

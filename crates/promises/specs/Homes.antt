@@ -17,12 +17,12 @@ use Rattle.meaning.specs.Reached.{Placed, reached-among, reached, total-of, mod
 use Rattle.meaning.specs.Texts.{Texts, all-read, read-texts}
 use Rattle.meaning.specs.Distinct.{Fresh, read-fresh}
 use Rattle.meaning.specs.OrderLaws.{Every}
+use Rattle.laws.specs.Decides.{both-true}
 use Rattle.laws.specs.EveryLaws.{any-found, every-made, every-member, every-so}
 use Rattle.laws.specs.Outcomes.{Gives, gives-of}
 use Rattle.laws.specs.Walk.{any-imports, EnvironmentOf, imported-gives, evaluated-gives}
 use Rattle.laws.specs.Piecewise.{Slots, slots-keep, own-slots}
 use Rattle.promises.specs.Members.{differ, found-later, member-here}
-use Rattle.promises.specs.ListingLaws.{both-true}
 
 -- ---- what holds of the parameters of all modules evaluated holds of those of what is made of them
 

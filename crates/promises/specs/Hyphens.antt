@@ -13,8 +13,9 @@ use Rattle.types.specs.declared.Token.{Token}
 use Rattle.meaning.specs.Laws.{by-cases}
 use Rattle.meaning.specs.Lists.{pick}
 use Rattle.meaning.specs.Names.{bytes, byte}
-use Rattle.promises.specs.ListingLaws.{both-true, passes-apart}
+use Rattle.promises.specs.ListingLaws.{passes-apart}
 use Rattle.meaning.specs.Tokens.{is-in, is-mark, is-symbol, is-word, run, run-end, at-word, at-hyphen, at-symbol, at-equals, at-dashes, skip, token, end-of-text, no-token, ident, equals-at, word-at, symbols-at, dotted-at, start-at, token-at}
+use Rattle.laws.specs.Decides.{both-true}
 
 -- the last byte of a run, where there is one
 last-of : List ℕ → ℕ → ℕ

@@ -10,18 +10,18 @@ use lib.Dec.{eqb, ltb}
 use borrow.Author.Tests.{eqb-true, ltb-true, ltb-false, eqb-false, le-leb, lt-leb}
 use lib.ListN.{length, length-append}
 use Rattle.meaning.specs.Laws.{by-cases}
-use Rattle.meaning.specs.Lists.{pick, before, each, agree}
+use Rattle.meaning.specs.Lists.{pick, before, each}
 use Rattle.meaning.specs.Names.{bytes, byte, Name, same, member, words}
 use Rattle.meaning.specs.Tokens.{is-in, is-symbol, is-word}
 use Rattle.meaning.specs.Written.{digits, decimal, numbered, sort-text, function-type-text, shape-text, shape-rank, argument-text, head-text, variable-text, term-text, term-texts, sides-text, conditions-text, equation-text, between-marks, type-text, section-text, declared-text, origin-text}
-use Rattle.meaning.specs.Origins.{Section, export-section, hidden-section, parameter-section, Declared, declared-sort, declared-function, declared-variable, Origin, same-section, same-declared, same-origin, Sort, visible-sort, hidden-sort, same-sort, FunctionType, same-type, Shape, sort-shape, function-shape, variable-shape, same-shape, Item, one-item, Head, visible-head, hidden-head, ResolvedTerm, var, app, ResolvedTerms, none-left, _and-then_, ResolvedSides, ResolvedEquation}
+use Rattle.meaning.specs.Origins.{Section, export-section, hidden-section, parameter-section, Declared, declared-sort, declared-function, declared-variable, Origin, same-section, same-origin, Sort, visible-sort, hidden-sort, same-sort, Shape, sort-shape, function-shape, variable-shape, same-shape, Item, one-item, Head, visible-head, hidden-head, ResolvedTerm, var, app, ResolvedTerms, none-left, _and-then_, ResolvedSides, ResolvedEquation}
 use Rattle.meaning.specs.Normal.{Slot, same-slot}
 use Rattle.meaning.specs.Listing.{Line, line-text, lines-text, kind-key, listing-keys}
-use Rattle.meaning.specs.OrderLaws.{Every, same-self, same-equal}
+use Rattle.meaning.specs.OrderLaws.{Every, same-equal}
 use Rattle.laws.specs.Decides.{sections-decided, origins-decided, sorts-decided, shapes-decided, items-decided}
-pub use Rattle.laws.specs.Decides.{both-true, agree-self, agree-equal}
+use Rattle.laws.specs.Decides.{both-true}
 use Rattle.laws.specs.EveryLaws.{every-map}
-pub use Rattle.laws.specs.EveryLaws.{every-so, every-append}
+use Rattle.laws.specs.EveryLaws.{every-so, every-append}
 
 -- ---- tests
 

@@ -25,9 +25,12 @@ use Rattle.meaning.specs.Reached.{Placed, reached, Ended, end-or, total-of, in-
 use Rattle.meaning.specs.Texts.{Texts, Reading, all-read, refused-in, read-texts}
 use Rattle.meaning.specs.Answer.{Answer, refusal, of-ended, unread, of-read, within, answer, tells-actual, names-told, printed-lines, printed, answer-to, asfnorm}
 use Rattle.meaning.specs.OrderLaws.{Every, any-none}
-use Rattle.promises.specs.ListingLaws.{both-true, shape-equal, every-so}
-use Rattle.promises.specs.Told.{SoundVisible, every-keep}
-use Rattle.promises.specs.Sound.{Gives, no-variable, any-found, any-passes, every-member}
+use Rattle.laws.specs.Decides.{both-true}
+use Rattle.laws.specs.EveryLaws.{every-so, every-keep, any-found, any-passes, every-member}
+use Rattle.laws.specs.Outcomes.{Gives}
+use Rattle.promises.specs.ListingLaws.{shape-equal}
+use Rattle.promises.specs.Told.{SoundVisible}
+use Rattle.promises.specs.Sound.{no-variable}
 use Rattle.promises.specs.TypedBinding.{second-true}
 use Rattle.promises.specs.SoundEvaluation.{Whole, WholeEnv, normal-of-whole, PlainClause, clause-whole, PlainModule, Accepted, evaluated-accepted, reached-plain}
 use Rattle.promises.specs.PlainText.{read-plain}

@@ -3,11 +3,10 @@ use mathlib.Core.Path.{_≡_, refl, ap, ap₂, subst}
 use mathlib.Core.Bool.{Bool, true, false, not, false≢true}
 use mathlib.Core.List.{List, [], _∷_, _++_, List·Permᴰ·nil, List·Permᴰ·cons, List·Permᴰ·trans, Permᴰ·symm, Permᴰ·middle, Permᴰ·append-left}
 use borrow.Author.Tests.{not-true}
-use Rattle.meaning.specs.Laws.{by-cases}
 use Rattle.meaning.specs.Lists.{pick, keep, any, each}
 use Rattle.meaning.specs.OrderLaws.{Every, Pairwise, Rearranged}
-use Rattle.promises.specs.ListingLaws.{every-so}
-pub use Rattle.laws.specs.EveryLaws.{every-kept}
+use Rattle.laws.specs.EveryLaws.{every-so}
+use Rattle.laws.specs.EveryLaws.{every-kept}
 
 module _ {A : Type 0} where
   abbrev others : (A → Bool) → List A → List A

@@ -1,7 +1,7 @@
 -- The names of a text that is read are identifiers, or operators with their underlines.
 use mathlib.Core.Path.{_≡_}
 use Prim.Native.Nat.{ℕ}
-use mathlib.Core.List.{List, [], _∷_}
+use mathlib.Core.List.{List}
 use Rattle.meaning.specs.Names.{Name}
 use Rattle.meaning.specs.Syntax.{Function, Signature, Parameter, Clause, renamed-by, bound-by, VariableGroup, group-variables, variables-of, Module}
 use Rattle.meaning.specs.Normal.{Normal}

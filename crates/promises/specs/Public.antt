@@ -16,9 +16,9 @@ use Rattle.meaning.specs.Checks.{Check, fine}
 use Rattle.meaning.specs.Own.{resolved, function-type, own-sort, own-function, own-section, own-slot, own-visible, lacking, parameter-functions, available-sorts}
 use Rattle.meaning.specs.Evaluate.{seen-sorts, joined-visible, own-checks}
 use Rattle.meaning.specs.OrderLaws.{Every, any-none}
-use Rattle.promises.specs.ListingLaws.{every-so}
 use Rattle.meaning.specs.OutcomeLaws.{fine-same, then-fine, bind-fine, unless-fine}
 use Rattle.meaning.specs.VisiblyLaws.{Seen, imported-visibly, joined-visibly, evaluate-visibly}
+use Rattle.laws.specs.EveryLaws.{every-so}
 
 -- a module without what it hides
 abbrev pub shown-only : Module → Module

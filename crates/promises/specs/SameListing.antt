@@ -1,8 +1,7 @@
 -- A normal form's listing does not depend on the order in which its items and equations were found: `one-listing`.
 use mathlib.Core.Path.{_≡_, refl, sym, ap, _∙_}
-use mathlib.Core.Logic.{⊎-elim}
 use mathlib.Core.Bool.{Bool, true, false, not, false≢true}
-use mathlib.Core.List.{List, [], _∷_, map, List·Memᴰ, List·Memᴰ·head, List·Memᴰ·tail, List·Memᴰ·cases-cons, List·Permᴰ·nil, List·Permᴰ·cons, List·Permᴰ·swap, List·Permᴰ·trans, Permᴰ·refl, Permᴰ·map}
+use mathlib.Core.List.{List, [], _∷_, map, List·Memᴰ, List·Permᴰ·nil, List·Permᴰ·cons, List·Permᴰ·swap, List·Permᴰ·trans, Permᴰ·refl, Permᴰ·map}
 use borrow.Author.Tests.{eqb-true}
 use Rattle.meaning.specs.Lists.{pick, keep, any, sorted}
 use Rattle.meaning.specs.Names.{Name, same, bytes-not-after, not-after, by-bytes}
@@ -14,7 +13,7 @@ use Rattle.meaning.specs.Grammar.{name, equation, is}
 use Rattle.meaning.specs.Answer.{listing}
 use Rattle.meaning.specs.OrderLaws.{Rearranged, NoTie, order-of, then-both, bytes-ordered, bytes-antisymmetric, bytes-levelled, names-ordered, names-levelled, same-equal, not-after-antisymmetric, by-two-both, sorted-map, sorted-one, sorted-rearranged}
 use Rattle.meaning.specs.ListingOrder.{by-standing, by-rank, visible-ordered, hidden-ordered, Place, place-order, by-position, place-ordered, by-module}
-pub use Rattle.laws.specs.EveryLaws.{kept-member}
+use Rattle.laws.specs.EveryLaws.{kept-member}
 
 -- ---- the same items and equations, in whatever order
 

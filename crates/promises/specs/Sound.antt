@@ -17,13 +17,14 @@ use Rattle.meaning.specs.Origins.{Section, export-section, parameter-section, h
 use Rattle.meaning.specs.Checks.{fine, least-at-odds, other-origin, sorts-clash, functions-clash, consistent}
 use Rattle.meaning.specs.Normal.{Slot, same-slot, is-parameter-of, move-sort, move-type, move-shape, move-name, move-item, move-hidden-item, move-visible, move-hidden, move, unite, unite-visible, unite-hidden, Visible, Normal, sorts-among}
 use Rattle.meaning.specs.Written.{origin-text, shape-rank, visible-in-order}
-use Rattle.promises.specs.ListingLaws.{Plain, told-origin, origins-of, SortIn, ShapeIn, told-shape, both-true, origin-equal, shape-self, item-equal, slot-equal}
+use Rattle.promises.specs.ListingLaws.{Plain, told-origin, origins-of, SortIn, ShapeIn, told-shape, origin-equal, shape-self, item-equal, slot-equal}
 use Rattle.meaning.specs.Grammar.{name, is}
 use Rattle.meaning.specs.OrderLaws.{Pairwise, sorted-rearranged, sorted-length, rearranged-member, none-at-odds, Every, same-self}
+use Rattle.laws.specs.Decides.{both-true}
 use Rattle.laws.specs.EveryLaws.{every-so, every-append, kept-member, every-keep, pairwise-members}
-pub use Rattle.laws.specs.EveryLaws.{every-member, every-map, every-union, every-any, any-found, any-passes, in-union-left, in-union-right, member-keep, member-map-to}
-pub use Rattle.laws.specs.Outcomes.{Gives, gives-bound, gives-then, both-fine as then-fine}
-pub use Rattle.meaning.specs.OutcomeLaws.{unless-fine}
+use Rattle.laws.specs.EveryLaws.{every-member, every-map, every-union, every-any, any-found, in-union-left, in-union-right, member-keep, member-map-to}
+use Rattle.laws.specs.Outcomes.{both-fine as then-fine}
+use Rattle.meaning.specs.OutcomeLaws.{unless-fine}
 use Rattle.laws.specs.OwnItems.{declared-name}
 use Rattle.promises.specs.SameListing.{HiddenTold, ItemsTold, SlotsTold, VisibleTold, sorts-in-order}
 use Rattle.promises.specs.Told.{Few, Sound, SoundHidden, SoundVisible, Stands, StandsIn, item-of-origin, origin-of-item, shape-wider}

@@ -21,7 +21,7 @@ use Rattle.meaning.specs.Clauses.{without-visible, without}
 use Rattle.meaning.specs.Normal.{Visible, nothing-visible, nothing-hidden, empty, unite-hidden, Slot, Normal, sorts-among}
 use Rattle.meaning.specs.Written.{shape-rank, visible-in-order, hidden-in-order, in-order}
 use Rattle.meaning.specs.Listing.{lines-text, listing-lines}
-use Rattle.promises.specs.ListingLaws.{Plain, PlainSection, PlainDeclared, SortIn, PlainEquation, both-true}
+use Rattle.promises.specs.ListingLaws.{Plain, PlainSection, PlainDeclared, SortIn, PlainEquation}
 use Rattle.meaning.specs.Numbers.{asked-absent, parameter-room, item-room}
 use Rattle.meaning.specs.Grammar.{name, signature, exports, imports, variables, is}
 use Rattle.meaning.specs.Reached.{reached-among, reached, normalised, refused-at, in-turn, module-names, short-or-blank, normalise}
@@ -39,6 +39,7 @@ use Rattle.promises.specs.TypedBinding.{bound-typed}
 use Rattle.promises.specs.TypedOwn.{InReach, equations-typed, typed-plain}
 use Rattle.promises.specs.TermsTold.{OneOutput, one-output}
 use Rattle.meaning.specs.OutcomeLaws.{needs-fine}
+use Rattle.laws.specs.Decides.{both-true}
 
 -- what evaluating keeps: the items are sound and the equations well typed
 pub record Whole (n : Normal) : Type 0 where

@@ -13,9 +13,10 @@ use Rattle.meaning.specs.Laws.{by-cases}
 use Rattle.meaning.specs.Lists.{pick}
 use Rattle.meaning.specs.Names.{bytes, byte, slice, Name, prefix-name, infix-name}
 use Rattle.meaning.specs.Tokens.{is-in, is-mark, is-symbol, is-word, run, run-end, at-word, at-hyphen, at-symbol, skip, ident, operator, equals-at, word-at, symbols-at, dotted-at, start-at, token-at}
+use Rattle.laws.specs.Decides.{both-true}
 use Rattle.laws.specs.EveryLaws.{every-append}
 use Rattle.laws.specs.Reading.{is-spelled}
-use Rattle.promises.specs.ListingLaws.{Within, in-name, NonEmpty, Plain, both-true}
+use Rattle.promises.specs.ListingLaws.{Within, in-name, NonEmpty, Plain}
 
 -- ---- bytes
 

@@ -17,8 +17,12 @@ use Rattle.meaning.specs.Written.{numbered, between-marks, argument-text, head-
 use Rattle.meaning.specs.Normal.{Visible}
 use Rattle.meaning.specs.Checks.{fine, other-output, overloaded, consistent}
 use Rattle.meaning.specs.OrderLaws.{Every, same-self}
-use Rattle.promises.specs.ListingLaws.{rest-of, not-empty, Within, StartsOutside, starts, told-run, apart, in-name, in-sort, Plain, plain-sort, told-number, number-written, both-true, agree-self, origin-equal, origin-self, sort-self, sort-equal, shape-equal, shape-self, passes-both, before-most, no-name}
-use Rattle.promises.specs.Sound.{compatible, every-member, then-fine, unless-fine}
+use Rattle.meaning.specs.OutcomeLaws.{unless-fine}
+use Rattle.laws.specs.Decides.{both-true, agree-self}
+use Rattle.laws.specs.EveryLaws.{every-member}
+use Rattle.laws.specs.Outcomes.{both-fine as then-fine}
+use Rattle.promises.specs.ListingLaws.{rest-of, not-empty, Within, StartsOutside, starts, told-run, apart, in-name, in-sort, Plain, plain-sort, told-number, number-written, origin-equal, origin-self, sort-self, sort-equal, shape-equal, shape-self, passes-both, before-most, no-name}
+use Rattle.promises.specs.Sound.{compatible}
 use Rattle.promises.specs.WellTyped.{head-type, sorts-of, Named, From, TypedHead, TypedTerm, TypedTerms, TypedSides, TypedEquation}
 
 -- functions of one name and input type are of one type

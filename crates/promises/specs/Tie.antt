@@ -8,8 +8,10 @@ use Rattle.meaning.specs.Lists.{pick, each}
 use Rattle.meaning.specs.Names.{bytes, byte, same, member}
 use Rattle.meaning.specs.Listing.{Line, line-text, lines-text, visible-keys, shown}
 use Rattle.meaning.specs.OrderLaws.{Every}
+use Rattle.laws.specs.Decides.{both-true}
+use Rattle.laws.specs.EveryLaws.{every-so, every-append}
 use Rattle.promises.specs.VisiblePart.{cut-lines, key-of, keep-visible, visible-part}
-use Rattle.promises.specs.ListingLaws.{Within, not-byte, key-letter, PlainLine, key-letters, not-so, both-true, every-so, every-append}
+use Rattle.promises.specs.ListingLaws.{Within, not-byte, key-letter, PlainLine, key-letters, not-so}
 
 -- ---- a line is cut off as it was written
 

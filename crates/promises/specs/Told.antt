@@ -10,23 +10,21 @@ use mathlib.Core.Bool.{Bool, true, false, not, false≢true}
 use mathlib.Core.List.{List, [], _∷_, _++_, map, append-assoc, append-cancel-left, List·Memᴰ, List·Memᴰ·head, List·Memᴰ·tail, List·Memᴰ·cases-cons}
 use lib.Dec.{lit<}
 use lib.ListN.{length}
-use Rattle.meaning.specs.Laws.{by-cases}
 use Rattle.meaning.specs.Lists.{pick, keep, first, before, each}
 use Rattle.meaning.specs.Tokens.{is-in, is-word}
 use Rattle.meaning.specs.Names.{bytes, Name, same, member, words}
-use Rattle.meaning.specs.Origins.{Section, export-section, parameter-section, hidden-section, Declared, declared-sort, declared-function, declared-variable, Origin, same-origin, Sort, visible-sort, hidden-sort, Shape, sort-shape, function-shape, variable-shape, is-sort, Item, in-parameter, ResolvedEquation}
+use Rattle.meaning.specs.Origins.{Section, export-section, parameter-section, hidden-section, Origin, same-origin, Sort, visible-sort, hidden-sort, Shape, sort-shape, function-shape, variable-shape, is-sort, Item, in-parameter, ResolvedEquation}
 use Rattle.meaning.specs.Typing.{alone}
 use Rattle.meaning.specs.Syntax.{node, _then_}
 use Rattle.meaning.specs.Normal.{Slot, Visible, Normal, slot-names, formals, sorts-among}
 use Rattle.meaning.specs.Written.{numbered, sort-text, type-text, function-type-text, origin-text, shape-text, equation-text, shape-rank}
 use Rattle.meaning.specs.Listing.{is-exported, visible-lines, Line, origin-line, kind-key, item-line, exported-lines, formal-lines, parameter-lines, hidden-item-lines, line, lines-text, equation-line, hidden-lines, listing-lines, listing-keys}
-use Rattle.promises.specs.ListingLaws.{first-of, rest-of, not-empty, Within, StartsOutside, starts, told-run, in-name, Plain, PlainOrigin, told-origin, origins-of, SortIn, ShapeIn, told-shape, every-so, every-append, PlainLine, told-lines, by-kind, before-map, OneLine, in-line-then, plain-in-line, number-in-line, origin-in-line, shape-in-line, PlainEquation, equation-in-line}
+use Rattle.promises.specs.ListingLaws.{first-of, rest-of, not-empty, Within, StartsOutside, starts, told-run, in-name, Plain, PlainOrigin, told-origin, origins-of, SortIn, ShapeIn, told-shape, PlainLine, told-lines, by-kind, before-map, OneLine, in-line-then, plain-in-line, number-in-line, origin-in-line, shape-in-line, PlainEquation, equation-in-line}
 use Rattle.meaning.specs.Answer.{listing}
 use Rattle.meaning.specs.OrderLaws.{Every, same-self}
-use Rattle.promises.specs.SameListing.{kept-member}
-use Rattle.laws.specs.EveryLaws.{every-map, every-made}
-pub use Rattle.laws.specs.EveryLaws.{every-keep, every-each}
-pub use Rattle.laws.specs.OwnItems.{declared-name}
+use Rattle.laws.specs.EveryLaws.{every-map, every-made, every-so, every-append, kept-member}
+use Rattle.laws.specs.EveryLaws.{every-keep, every-each}
+use Rattle.laws.specs.OwnItems.{declared-name}
 
 -- ---- from the listing to the normal form
 

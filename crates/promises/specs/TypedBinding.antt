@@ -16,10 +16,11 @@ use Rattle.meaning.specs.Clauses.{paired, otherwise, renaming, new-sort, new-fu
 use Rattle.meaning.specs.Checks.{fine}
 use Rattle.meaning.specs.PairLaws.{RightPair, pairs-fine}
 use Rattle.meaning.specs.OrderLaws.{any-none, same-equal, same-self}
+use Rattle.laws.specs.Decides.{both-true}
 use Rattle.laws.specs.EveryLaws.{any-found, any-passes, every-member, every-union, member-keep, member-map-to}
 use Rattle.promises.specs.Sound.{union-left, union-right}
 use Rattle.promises.specs.WellTyped.{Named, TypedEquation, WellTyped, moved-member, named-moved, typed-moved, typed-wider}
-use Rattle.promises.specs.ListingLaws.{both-true, shape-equal, shape-self}
+use Rattle.promises.specs.ListingLaws.{shape-equal, shape-self}
 
 no-refusal : {X : Type 0} {w : Name} → some w ≡ none → X
 no-refusal e = let z : _≡_ {A = ℕ} 0 1 = cc in absurd (omega arith)

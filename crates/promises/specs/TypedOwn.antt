@@ -15,9 +15,10 @@ use Rattle.meaning.specs.Normal.{Slot, is-called}
 use Rattle.meaning.specs.Typing.{Typed, TypedList, head-of, of-shape, found-with, no-arguments, takes, is-variable, joined-typed, equated, joined-sides, made-equation, applied, alone, with-arguments, typed, typed-list, typed-sides, typed-conditions, typed-equations}
 use Rattle.meaning.specs.Written.{shape-rank}
 use Rattle.meaning.specs.OrderLaws.{Every}
+use Rattle.laws.specs.Decides.{agree-equal, both-true}
 use Rattle.laws.specs.EveryLaws.{every-so, every-member}
 use Rattle.laws.specs.Outcomes.{Gives, gives-bound}
-use Rattle.promises.specs.ListingLaws.{Plain, PlainEquation, PlainHead, PlainSides, PlainTerm, PlainTerms, agree-equal, both-true, sort-equal}
+use Rattle.promises.specs.ListingLaws.{Plain, PlainEquation, PlainHead, PlainSides, PlainTerm, PlainTerms, sort-equal}
 use Rattle.promises.specs.Told.{Stands, StandsIn}
 use Rattle.promises.specs.Sound.{no-variable}
 use Rattle.promises.specs.WellTyped.{From, TypedEquation, TypedHead, TypedSides, TypedTerm, TypedTerms, head-type, sort-of, sorts-of}

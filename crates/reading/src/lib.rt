@@ -1,7 +1,7 @@
 // The grammar: a text is read token by token, and what it says is written to the tape; or it is refused, with a number and a place.
 use entries::Place;
 use entries::Reading;
-use entries::numbers;
+use meaning::numbers;
 use modules::read_modules;
 ghost use mathlib.Core.Path.{_≡_};
 ghost use lib.ListN.{length, replicate};

@@ -5,7 +5,6 @@ use entries::declarations::read_signature;
 use entries::declarations::section_exports;
 use entries::declarations::section_parameters;
 use entries::imports::section_imports;
-use entries::numbers;
 use entries::roles;
 use entries::steps::expect;
 use entries::steps::next_is;
@@ -14,6 +13,7 @@ use entries::steps::read_name;
 use entries::steps::refuse;
 use entries::steps::this_name;
 use entries::steps::unexpected;
+use meaning::numbers;
 use terms::equations::section_equations;
 use terms::equations::section_variables;
 ghost use mathlib.Core.Path.{_≡_};
@@ -25,7 +25,7 @@ ghost use Rattle.reading.specs.Known.{named-so};
 fn declares(text: &[u8], w: u32, entry: u32) -> bool
     ensures { λ r. ⌜ r ≡ declares (now (text .entry)) w entry ⌝ }
 {
-    if entry % 32 == roles::MODULE_NAME as u32 {
+    if entry % 32 == roles::MODULE as u32 {
         return names::same_name(text, w, entry / 32);
     }
     false
@@ -69,7 +69,7 @@ fn fresh_name(text: &[u8], library: &[u8], heads: &[u32], tape: &mut [u32], at: 
             let w = next_word(at);
             let again = is_taken(text, tape, w, n);
             let known = is_known(library, heads, text, w);
-            let a = read_name(text, tape, at, roles::MODULE_NAME);
+            let a = read_name(text, tape, at, roles::MODULE);
             if again {
                 return twice(at, a);
             }

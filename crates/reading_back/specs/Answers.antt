@@ -2,7 +2,7 @@
 use mathlib.Core.Path.{_≡_, refl, sym, ap, _∙_}
 use Prim.Native.Nat.{ℕ}
 use mathlib.Core.Bool.{false}
-use mathlib.Core.List.{List, []}
+use mathlib.Core.List.{List}
 use Rattle.meaning.specs.Names.{Name}
 use Rattle.meaning.specs.Texts.{Texts}
 use Rattle.meaning.specs.Listing.{Line, lines-text, shown}

@@ -15,8 +15,10 @@ use Rattle.meaning.specs.OrderLaws.{Every}
 use Rattle.meaning.specs.Listing.{Line, line-text, lines-text, listing-keys}
 use Rattle.meaning.specs.Answer.{in-line}
 use Rattle.meaning.specs.Reader.{Reading, a-line, at-end, in-key, line-at}
+use Rattle.laws.specs.Decides.{both-true}
+use Rattle.laws.specs.EveryLaws.{every-so, every-append}
 use Rattle.names.proofs.Runs.{run-from}
-use Rattle.promises.specs.ListingLaws.{Within, not-byte, key-letter, PlainLine, key-letters, not-so, both-true, every-so, every-append}
+use Rattle.promises.specs.ListingLaws.{Within, not-byte, key-letter, PlainLine, key-letters, not-so}
 
 -- reading on from a place gives these lines in order, and then the end
 unfoldable pub Gives : List ℕ → ℕ → List Line → Type 0

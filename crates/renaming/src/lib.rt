@@ -6,6 +6,7 @@ use forms::Made;
 use forms::Verdict;
 use making::checked::checked;
 use translation::Mode;
+use translation::modes;
 use uniting::empty_form;
 use uniting::unite;
 ghost use lib.ListN.{length};
@@ -26,7 +27,7 @@ fn renamed(
     ensures { λ r. ⌜ RenamedForm (joint (now (library .entry)) (now (text .entry))) t (now (work .entry)) pairs g b r (now (work .exit)) ⌝ }
 {
     let m = Mode {
-        kind: 1,
+        kind: modes::RENAMING,
         pairs,
         parameter: 0,
         visible: 0,
@@ -72,7 +73,7 @@ pub fn join(
     ensures { λ r. ⌜ JoinedForm (joint (now (library .entry)) (now (text .entry))) t (now (work .entry)) g f b r (now (work .exit)) ⌝ }
 {
     let m = Mode {
-        kind: 0,
+        kind: modes::AS_IS,
         pairs: 0,
         parameter: 0,
         visible: 0,

@@ -18,15 +18,15 @@ use Rattle.meaning.specs.Checks.{Outcome, fine, _>>_, unless, consistent, term-
 use Rattle.meaning.specs.Clauses.{paired, otherwise, renaming, may-name, renames, wrong-renaming, rename, same-origins, is-among, is-formal-sort, new-sort, new-function, sort-right, sorts-right, kind-right, type-right, all-right, pairs-right, unpaired, without-visible, without, bound-to, bind}
 use Rattle.meaning.specs.OrderLaws.{Every, Rearranged, rearranged-length, rearranged-every, any-none}
 use Rattle.meaning.specs.PairLaws.{RightPair, pair-fine, fine-pair}
-use Rattle.promises.specs.ListingLaws.{both-true}
 use Rattle.promises.specs.SameListing.{keep-rearranged}
-use Rattle.promises.specs.Sound.{every-map, every-union}
 use Rattle.replacing.specs.Changing.{re-pair, re-origin, re-sort, re-type, re-shape, re-item, re-term, re-terms, re-sides, re-equation}
 use Rattle.replacing.specs.Exchanging.{map-twice, map-length, any-map, pick-map, member-kept, origin-kept, shape-kept, called-kept, is-function-kept, equations-united, move-type-kept, move-item-kept, move-hidden-item-kept, move-equation-kept}
 use Rattle.replacing.specs.Reordering.{Tagged, equation-equal, equations-symmetric, sum-rearranged, union-rearranged, none-of}
 use Rattle.replacing.specs.VisibleAlike.{member-rearranged, Once, OneOrigin, consistent-clear, clear-one, Like, like, like-none, any-alike, keep-alike, AlikeVisible, sorts-alike, names-alike, sort-names-alike, member-alike, consistent-alike, formals-alike, origin-of-alike, items-union-alike, unite-visible-alike}
 use Rattle.promises.specs.TwoCalls.{came-through}
 use Rattle.meaning.specs.OutcomeLaws.{then-fine, unless-fine, fine-same}
+use Rattle.laws.specs.Decides.{both-true}
+use Rattle.laws.specs.EveryLaws.{every-map, every-union}
 
 -- ---- nothing is left, nothing is wrong
 

@@ -16,18 +16,16 @@ use Rattle.meaning.specs.Reached.{Placed, reached, normalised, normalise, Ended
 use Rattle.meaning.specs.OrderLaws.{Every, Rearranged, rearranged-every, rearranged-member}
 use Rattle.meaning.specs.Lists.{pick, any, each, repeated, first-bad}
 use Rattle.meaning.specs.Origins.{ResolvedEquation, Item, one-equation}
-use Rattle.meaning.specs.Checks.{Outcome, fine, stop, _>>=_, _>>_, unless, consistent, Size, size, add-sizes, room, total-room, checked, needs, each-beside}
+use Rattle.meaning.specs.Checks.{Outcome, fine, stop, _>>=_, _>>_, unless, consistent, Size, size, add-sizes, room, total-room, checked, each-beside}
 use Rattle.meaning.specs.Own.{own-visible, own-hidden-items, constants}
 use Rattle.meaning.specs.Typing.{made-equation, typed-equations}
-use Rattle.meaning.specs.Evaluate.{Evaluated, clause-names, import-names, named-by, names-right, same-function, once-in, once-in-parameters, declared-once, normal-of, clause, clauses, expressions, united, imported, seen-sorts, joined-visible, own-checks, own-equations, joined-hidden, joined-own, evaluate, once-in-parameter}
-use Rattle.promises.specs.ListingLaws.{every-so}
-use Rattle.promises.specs.SameListing.{SameNormal}
+use Rattle.meaning.specs.Evaluate.{Evaluated, clause-names, import-names, named-by, names-right, same-function, once-in, once-in-parameters, declared-once, normal-of, clause, clauses, expressions, united, imported, seen-sorts, joined-visible, own-checks, own-equations, joined-hidden, joined-own, evaluate}
+use Rattle.promises.specs.SameListing.{SameNormal, same-ordered}
 use Rattle.promises.specs.SoundEvaluation.{PlainModule, call-accepted, Whole, empty-whole, Accepted, evaluated-accepted}
-use Rattle.promises.specs.AcceptedForms.{accepted-one-order, same-ordered}
+use Rattle.promises.specs.AcceptedForms.{accepted-one-order}
 use Rattle.promises.specs.Demand.{InTurn}
 use Rattle.promises.specs.Told.{SoundVisible}
 use Rattle.promises.specs.TwoCalls.{pick-both, went-on, in-turn-so, in-turn-each, every-first, in-turn-map, PlacedAlike, reached-alike, module-names-alike, evaluated, Beside, Goes, Ends, freed-here, normalise-two, one-on, reached-such}
-use Rattle.promises.specs.Sound.{Gives, every-any, every-union}
 use Rattle.promises.specs.Members.{member-append}
 use Rattle.replacing.specs.Changing.{re-module, re-visible, re-hidden, re-normal, re-function, re-signature, re-parameter, re-clause, re-import, re-item, re-equation}
 use Rattle.replacing.specs.Alike.{Alike, Both, Follows, size-alike, room-alike, equations-union-alike, union-follows, Easier, rename-alike, bind-alike}
@@ -37,6 +35,8 @@ use Rattle.replacing.specs.VisibleAlike.{Like, like, like-none, consiste
 use Rattle.replacing.specs.OwnAlike.{each-map, variables-kept, own-visible-alike, own-hidden-kept, available-kept, constants-alike, variables-right, equations-kept, finds-alike}
 use lib.ListN.{getD}
 use Rattle.meaning.specs.OutcomeLaws.{then-fine, bind-fine, unless-fine, fine-same}
+use Rattle.laws.specs.EveryLaws.{every-so, every-any, every-union}
+use Rattle.laws.specs.Outcomes.{Gives}
 
 -- ---- lists
 

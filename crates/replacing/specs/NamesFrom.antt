@@ -6,14 +6,14 @@ use mathlib.Core.List.{List, _∷_, _++_}
 use Rattle.meaning.specs.Laws.{by-cases}
 use Rattle.meaning.specs.Lists.{each}
 use Rattle.meaning.specs.Names.{Name}
-use Rattle.meaning.specs.Syntax.{Function, Signature, Parameter, Pair, Clause, renamed-by, bound-by, Import, VariableGroup, Variable, Module, group-variables, variables-of}
+use Rattle.meaning.specs.Syntax.{Function, Signature, Parameter, Clause, renamed-by, bound-by, Import, VariableGroup, Variable, Module, group-variables, variables-of}
 use Rattle.meaning.specs.Origins.{Section, export-section, hidden-section, parameter-section, Declared, declared-sort, declared-function, declared-variable, Origin, Sort, visible-sort, hidden-sort, FunctionType, Head, visible-head, hidden-head, ResolvedTerm, var, app, ResolvedTerms, none-left, _and-then_, ResolvedSides, ResolvedEquation, Shape, sort-shape, function-shape, variable-shape, Item}
 use Rattle.meaning.specs.Normal.{Normal, move-sort, move-type, move-shape, move-name, move-item, move-hidden-item}
 use Rattle.meaning.specs.Own.{resolved, function-type, own-sort, own-function, own-section, own-visible, own-variable, own-hidden-items}
 use Rattle.meaning.specs.Reached.{normalised, normalise}
 use Rattle.meaning.specs.OrderLaws.{Every}
 use Rattle.laws.specs.EveryLaws.{every-each, every-map, every-member, every-so}
-pub use Rattle.laws.specs.EveryLaws.{every-split as split, split-each}
+use Rattle.laws.specs.EveryLaws.{every-split as split, split-each}
 use Rattle.laws.specs.OwnItems.{section-every, visible-every, hidden-every}
 use Rattle.laws.specs.Walk.{Carries, NewNames, ClauseNames, ImportNames, call-gives}
 use Rattle.laws.specs.Piecewise.{visible-evaluates, hidden-evaluates}

@@ -15,9 +15,9 @@ use Rattle.meaning.specs.Checks.{fine, _>>=_, _>>_, unless, functions-clash, co
 use Rattle.meaning.specs.Own.{resolved, function-type, own-sort, own-function, own-section, own-slot, own-visible, own-variable, own-hidden-items, lacking, lacking-variable, parameter-functions, available-sorts, wrong-variable, is-constant, constants}
 use Rattle.meaning.specs.Typing.{Typed, TypedList, head-of, of-shape, found-with, no-arguments, takes, is-variable, joined-typed, equated, joined-sides, made-equation, applied, alone, with-arguments, typed, typed-list, typed-sides, typed-conditions, typed-equations}
 use Rattle.meaning.specs.OrderLaws.{Every, Rearranged, same-equal}
-use Rattle.promises.specs.ListingLaws.{both-true, agree-equal, sort-equal}
+use Rattle.promises.specs.ListingLaws.{sort-equal}
 use Rattle.promises.specs.Told.{SoundVisible}
-use Rattle.promises.specs.Sound.{compatible, every-member, functions-agree, no-variable}
+use Rattle.promises.specs.Sound.{compatible, functions-agree, no-variable}
 use Rattle.promises.specs.TermsTold.{one-output}
 use Rattle.replacing.specs.Changing.{re-function, re-signature, re-parameter, re-group, re-raw, re-raws, re-raw-sides, re-raw-equation, re-module, re-declared, re-origin, re-sort, re-type, re-shape, re-item, re-head, re-term, re-terms, re-sides, re-equation}
 use Rattle.replacing.specs.Exchanging.{map-map, map-twice, pick-map, any-map, first-map, member-kept, sort-kept, sorts-kept, called-kept}
@@ -25,6 +25,8 @@ use Rattle.replacing.specs.Reordering.{first-image}
 use Rattle.replacing.specs.VisibleAlike.{consistent-clear, Like, like, member-map-from, AlikeVisible, keep-alike, names-alike}
 use Rattle.promises.specs.Members.{member-append}
 use Rattle.meaning.specs.OutcomeLaws.{then-fine, bind-fine, unless-fine, fine-same}
+use Rattle.laws.specs.Decides.{both-true, agree-equal}
+use Rattle.laws.specs.EveryLaws.{every-member}
 
 -- ---- lists
 

@@ -11,7 +11,8 @@ use Rattle.meaning.specs.Names.{Name, same, by-name}
 use Rattle.meaning.specs.Origins.{Section, export-section, hidden-section, parameter-section, same-sort, FunctionType, same-type, Head, visible-head, hidden-head, same-head, ResolvedTerm, var, app, ResolvedTerms, none-left, _and-then_, same-term, same-terms, ResolvedSides, same-sides, ResolvedEquation, Shape, sort-shape, function-shape, variable-shape, same-shape, is-sort, is-function, Item, in-parameter, one-item, one-equation}
 use Rattle.meaning.specs.Checks.{at-odds, least-at-odds, other-origin, sorts-clash, functions-clash, other-output, in-one-parameter, both-in-one, overloaded}
 use Rattle.meaning.specs.OrderLaws.{Every, Pairwise, Rearranged, rearranged-every, rearranged-member, sorted-rearranged, pairwise-rearranged, same-self, same-equal}
-use Rattle.promises.specs.ListingLaws.{both-true, section-self, origin-equal, origin-self, shape-equal, shape-self, sort-equal, sort-self, agree-self, type-equal}
+use Rattle.laws.specs.Decides.{both-true, agree-self}
+use Rattle.promises.specs.ListingLaws.{section-self, origin-equal, origin-self, shape-equal, shape-self, sort-equal, sort-self, type-equal}
 use Rattle.promises.specs.Deciding.{Decides, numbers-decided, names-decided, lists-decided, symmetric, both-decided, by-parts}
 use Rattle.promises.specs.Members.{both-true as both-passed}
 use Rattle.promises.specs.TwoCalls.{pick-both}

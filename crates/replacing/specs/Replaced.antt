@@ -23,8 +23,8 @@ use Rattle.meaning.specs.Checks.{lone}
 use Rattle.meaning.specs.Texts.{Texts}
 use Rattle.meaning.specs.Listing.{lines-text, listing-lines}
 use Rattle.meaning.specs.Answer.{Answer, refusal, of-ended, of-read, within, answer}
+use Rattle.laws.specs.EveryLaws.{every-so, every-split as split, split-each}
 use Rattle.laws.specs.Walk.{ClauseNames}
-use Rattle.promises.specs.ListingLaws.{every-so}
 use Rattle.promises.specs.Members.{refuted, found-first, found-later}
 use Rattle.promises.specs.Public.{map-agree}
 use Rattle.promises.specs.Demand.{ReadAs}
@@ -32,7 +32,7 @@ use Rattle.promises.specs.Proof.{Short, answer-ended}
 use Rattle.promises.specs.SoundEvaluation.{PlainModule}
 use Rattle.promises.specs.PlainText.{read-plain}
 use Rattle.promises.specs.Counts.{refused-from-six}
-use Rattle.replacing.specs.NamesFrom.{DeclaredOf, SortOf, TypeOf, ShapeOf, ItemOf, HeadOf, TermOf, TermsOf, SidesOf, EquationOf, NormalOf, split, split-each, module-of, names-from}
+use Rattle.replacing.specs.NamesFrom.{DeclaredOf, SortOf, TypeOf, ShapeOf, ItemOf, HeadOf, TermOf, TermsOf, SidesOf, EquationOf, NormalOf, module-of, names-from}
 use Rattle.replacing.specs.Reordering.{names-symmetric}
 use Rattle.replacing.specs.Changing.{re-function, re-signature, re-parameter, re-pair, re-clause, re-import, re-group, re-raw, re-raws, re-raw-sides, re-raw-equation, re-module, function-names, signature-names, pair-names, clause-pairs, import-pairs, term-names, terms-names, sides-names, equation-names, names-used, re-declared, re-origin, re-sort, re-type, re-shape, re-item, re-head, re-term, re-terms, re-sides, re-equation, re-visible, re-hidden, re-normal}
 use Rattle.replacing.specs.Replacing.{replace, Replacement, renewed, Accepts, TooShort, SameApart, ReplacedAnswer}

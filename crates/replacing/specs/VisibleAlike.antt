@@ -12,13 +12,14 @@ use Rattle.meaning.specs.Normal.{Slot, Visible, names-in, sorts-among, sort-nam
 use Rattle.meaning.specs.Checks.{fine, _>>_, unless, least-at-odds, other-origin, sorts-clash, functions-clash, other-output, both-in-one, overloaded, consistent}
 use Rattle.meaning.specs.OrderLaws.{Pairwise, Rearranged, pairwise-rearranged, none-least-at-odds, same-equal, same-self}
 use Rattle.promises.specs.ListingLaws.{origin-equal, item-equal}
-use Rattle.promises.specs.Sound.{compatible, every-any, union-left, union-right}
-use Rattle.promises.specs.SameListing.{keep-rearranged, kept-member}
+use Rattle.promises.specs.Sound.{compatible, union-left, union-right}
+use Rattle.promises.specs.SameListing.{keep-rearranged}
 use Rattle.replacing.specs.Changing.{re-origin, re-sort, re-type, re-shape, re-item}
 use Rattle.replacing.specs.Exchanging.{any-map, keep-map, first-map, member-kept, origin-kept, sort-kept, sorts-kept, shape-kept, is-sort-kept, is-function-kept, item-kept, called-kept, names-in-kept, items-united}
 use Rattle.replacing.specs.Reordering.{item-self, any-rearranged, first-image, union-rearranged, names-symmetric, sorts-clash-symmetric, functions-clash-symmetric, overloaded-symmetric, least-at-odds-none, pairwise-map}
 use Rattle.promises.specs.Deciding.{symmetric}
 use Rattle.meaning.specs.OutcomeLaws.{then-fine, unless-fine}
+use Rattle.laws.specs.EveryLaws.{every-any, kept-member}
 
 -- ---- names among names, in whatever order
 

@@ -10,6 +10,7 @@ use framing::Framing;
 use framing::framed;
 use framing::has_request;
 use framing::line_end;
+use meaning::numbers;
 ghost use Rattle.responding.specs.Program.{Refused, Behind, Responded};
 
 // ---- the answer
@@ -34,7 +35,7 @@ fn answer_behind(asked: &[u8], rest: &[u8], work: &mut [u32], out: &mut [u8]) ->
     match framed(rest) {
         Framing::Alone => normalise(asked, &rest[0..0], rest, work, out),
         Framing::TooLong => {
-            let r = unread(true, 4, 32768);
+            let r = unread(true, numbers::OVER_SIZE, numbers::TEXT_SIZE);
             refuse(asked, work, r)
         }
         Framing::Both { from, to } => normalise(asked, &rest[from..to], &rest[to..], work, out),
@@ -53,7 +54,7 @@ pub fn respond(input: &[u8], work: &mut [u32], out: &mut [u8], page: &mut [u8]) 
         let r = answer_behind(&input[10..e], &input[e + 1..], work, out);
         return put_answer(page, limit, out, r);
     }
-    let none = unread(false, 2, 0);
+    let none = unread(false, numbers::NOT_ALLOWED, 0);
     let r = refuse(b"", work, none);
     put_answer(page, limit, b"", r)
 }

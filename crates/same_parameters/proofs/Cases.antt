@@ -14,7 +14,7 @@ use Rattle.meaning.specs.Origins.{same-origin, FunctionType, Shape, Item, in-pa
 use Rattle.meaning.specs.Normal.{Visible, origin-of, formals, same-slot, origins-agree, sort-agrees, shape-agrees, types-agree, same-formals, is-parameter-of}
 use Rattle.names.specs.Word.{name-of}
 use Rattle.tables.specs.declared.Row.{Row}
-use Rattle.tables.specs.Rows.{section-of, origin-of as row-origin, sort-of, type-of, shape-of, item-of, row-at}
+use Rattle.tables.specs.Rows.{section-of, origin-of as row-origin, sort-of, type-of, shape-of, item-of, row-at, row-size}
 use Rattle.forms.specs.declared.Form.{Form}
 use Rattle.forms.specs.Forms.{slot-at, slots-at, items-at, visible-at}
 use Rattle.clauses.specs.Searches.{sort-called}
@@ -79,7 +79,7 @@ module _ (text tape w : List ℕ) (p : ℕ) (f g : Form) (i : ℕ) where
     pub among-all : f .«visible_count» ≤ i → true ≡ all-among one-item (formals name one) (formals name other)
     among-all h = ap not (nowhere test text tape w (f .visible) (f .«visible_count») i h inv) ∙ among
 
-    pub among-not : (y : Row) (r : Bool) → i < f .«visible_count» → y ≡ row-at w (f .visible + i * 16) → r ≡ test (item-of text tape y) → r ≡ true
+    pub among-not : (y : Row) (r : Bool) → i < f .«visible_count» → y ≡ row-at w (f .visible + i * row-size) → r ≡ test (item-of text tape y) → r ≡ true
         → false ≡ all-among one-item (formals name one) (formals name other)
     among-not y r h e q z = ap not (somewhere test text tape w (f .visible) (f .«visible_count») i y r h inv e q z) ∙ among
 
@@ -91,7 +91,7 @@ module _ (text tape w : List ℕ) (p : ℕ) (f g : Form) (i : ℕ) where
     pub types-all : f .«visible_count» ≤ i → true ≡ types-agree name one other
     types-all h = ap not (nowhere (at-odds name one other) text tape w (f .visible) (f .«visible_count») i h inv) ∙ agreeing
 
-    pub types-not : (y : Row) (r : Bool) → i < f .«visible_count» → y ≡ row-at w (f .visible + i * 16) → r ≡ at-odds name one other (item-of text tape y)
+    pub types-not : (y : Row) (r : Bool) → i < f .«visible_count» → y ≡ row-at w (f .visible + i * row-size) → r ≡ at-odds name one other (item-of text tape y)
         → r ≡ true → false ≡ types-agree name one other
     types-not y r h e q z = ap not (somewhere (at-odds name one other) text tape w (f .visible) (f .«visible_count») i y r h inv e q z) ∙ agreeing
 
@@ -110,7 +110,8 @@ module _ (text tape w : List ℕ) (f g : Form) (a i j : ℕ)
   told = refl
 
   pub agree-both : (r : Bool) → i < f .«visible_count» → j < g .«visible_count»
-      → r ≡ same-origin (row-origin text tape (row-at w (f .visible + i * 16) .origin)) (row-origin text tape (row-at w (g .visible + j * 16) .origin))
+      → r ≡ same-origin (row-origin text tape (row-at w (f .visible + i * row-size) .origin))
+      (row-origin text tape (row-at w (g .visible + j * row-size) .origin))
       → r ≡ asked
   unfolding origins-agree
   agree-both r h k q =

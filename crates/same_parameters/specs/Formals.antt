@@ -7,7 +7,7 @@ use Rattle.meaning.specs.Lists.{pick, keep, any, all-among}
 use Rattle.meaning.specs.Names.{Name}
 use Rattle.meaning.specs.Origins.{Item, in-parameter, one-item}
 use Rattle.meaning.specs.Normal.{Visible, formals, shape-agrees, types-agree}
-use Rattle.tables.specs.Decides.{items-decided}
+use Rattle.laws.specs.Decides.{items-decided}
 use Rattle.walks.specs.Lists.{any-keep}
 
 -- it stands in the parameter p, and is one with none of the others

@@ -4,9 +4,11 @@ use absorb::find_item;
 use clauses::searches::find_sort;
 use clauses::sorts::same_origin_at;
 use forms::Form;
+use forms::SLOT_STEP;
 use tables::Row;
 use tables::entries::same_word;
 use tables::entries::word_at;
+use tables::kinds;
 use tables::rows::read_row;
 use translation::formals::in_parameter;
 ghost use mathlib.Core.Path.{_≡_};
@@ -159,7 +161,7 @@ fn shape_agrees(
 {
     let kind = row.kind;
     let sorts = row.sorts;
-    if kind < 2 {
+    if kind < kinds::FUNCTION {
         return true;
     }
     if sort_agrees(library, text, work, t, f, g, sorts[8]) {
@@ -261,7 +263,13 @@ fn has_slot(library: &[u8], text: &[u8], work: &[u32], f: Form, q: usize) -> boo
     let count = f.parameter_count;
     let mut i = 0;
     while i < count {
-        if same_slot(library, text, work, q, base as usize + i as usize * 2) {
+        if same_slot(
+            library,
+            text,
+            work,
+            q,
+            base as usize + i as usize * SLOT_STEP,
+        ) {
             return true;
         }
         i += 1;

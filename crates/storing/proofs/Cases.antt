@@ -5,6 +5,7 @@ use Prim.Native.Nat.{ℕ, _+_, _*_}
 use borrow.Author.Needs.{needs}
 use lib.Seq.{sets}
 use Rattle.forms.specs.declared.Form.{Form}
+use Rattle.forms.specs.Forms.{form-size}
 use Rattle.layout.specs.Layout.{table-start}
 use Rattle.keeping.specs.Keeping.{form-words}
 use Rattle.ordering.specs.Kept.{KeepRoom, order-place}
@@ -24,8 +25,8 @@ pub kept-there : (text : List ℕ) (t : ℕ) (f place : Form) (c scratch : ℕ) 
     → Keeps text t f place scratch r w w′ → Keeps text t f (place-form f c) scratch-start r w w′
 kept-there text t f place c scratch r w w′ e d keeps = rw (← e, ← d) keeps
 
-pub row-written : (w w′ : List ℕ) (table k : ℕ) (f : Form) → table ≡ table-start → w′ ≡ sets w (table + k * 16) (form-words f)
-    → w′ ≡ sets w (table-start + k * 16) (form-words f)
+pub row-written : (w w′ : List ℕ) (table k : ℕ) (f : Form) → table ≡ table-start → w′ ≡ sets w (table + k * form-size) (form-words f)
+    → w′ ≡ sets w (table-start + k * form-size) (form-words f)
 row-written w w′ table k f e put = rw (← e) put
 
 pub ruleset cases = (row-written, is-scratch, keep-there, kept-there, space-small, keep-room, store-done, needs)

@@ -3,8 +3,10 @@ use mathlib.Core.Path.{_≡_, refl}
 use Prim.Native.Nat.{ℕ, _+_, _*_, _≤_}
 use native.Mathlib.Omega.{arith}
 use Rattle.meaning.specs.Numbers.{module-limit, memory-size}
+use Rattle.tables.specs.Rows.{row-size}
 use Rattle.forms.specs.declared.Form.{Form}
 use Rattle.forms.specs.Blocks.{MadeThere}
+use Rattle.forms.specs.Forms.{equation-size, slot-size}
 use Rattle.layout.specs.Layout.{block-at, joining-block, kept-start, table-start, Laid}
 use Rattle.ordering.specs.Nodes.{kept-form}
 use Rattle.ordering.specs.Kept.{KeepRoom, order-place}
@@ -13,20 +15,21 @@ use Rattle.environment.specs.Growing.{table-end}
 
 -- the words that what f has takes
 abbrev pub form-space : Form → ℕ
-form-space f = f .«parameter_count» * 2 + f .«visible_count» * 16 + f .«hidden_count» * 16 + f .«equation_count» * 8 + f .«node_count»
+form-space f = f .«parameter_count» * slot-size + f .«visible_count» * row-size + f .«hidden_count» * row-size + f .«equation_count» * equation-size
+    + f .«node_count»
 
 -- what f has, in places one behind the other
 unfoldable pub place-form : Form → ℕ → Form
 place-form f cursor = record {
   parameters = cursor;
   «parameter_count» = f .«parameter_count»;
-  visible = cursor + f .«parameter_count» * 2;
+  visible = cursor + f .«parameter_count» * slot-size;
   «visible_count» = f .«visible_count»;
-  hidden = cursor + f .«parameter_count» * 2 + f .«visible_count» * 16;
+  hidden = cursor + f .«parameter_count» * slot-size + f .«visible_count» * row-size;
   «hidden_count» = f .«hidden_count»;
-  equations = cursor + f .«parameter_count» * 2 + f .«visible_count» * 16 + f .«hidden_count» * 16;
+  equations = cursor + f .«parameter_count» * slot-size + f .«visible_count» * row-size + f .«hidden_count» * row-size;
   «equation_count» = f .«equation_count»;
-  nodes = cursor + f .«parameter_count» * 2 + f .«visible_count» * 16 + f .«hidden_count» * 16 + f .«equation_count» * 8;
+  nodes = cursor + f .«parameter_count» * slot-size + f .«visible_count» * row-size + f .«hidden_count» * row-size + f .«equation_count» * equation-size;
   «node_count» = f .«node_count»;
 }
 

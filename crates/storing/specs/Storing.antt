@@ -13,7 +13,7 @@ use Rattle.meaning.specs.Evaluate.{Evaluated}
 use Rattle.meaning.specs.Written.{in-order}
 use Rattle.forms.specs.declared.Form.{Form}
 use Rattle.forms.specs.Memory.{part, Kept}
-use Rattle.forms.specs.Forms.{Stands}
+use Rattle.forms.specs.Forms.{Stands, form-size}
 use Rattle.forms.specs.Blocks.{Fits}
 use Rattle.forms.specs.FormLaws.{kept-sets, tape-same}
 use Rattle.frames.specs.Changes.{still-stands}
@@ -41,11 +41,12 @@ unfolding place-form
 placed-fits f c x = omega arith
 
 module _ (text : List ℕ) (t k : ℕ) (f : Form) (c r : ℕ) (g : Form) (w u w′ : List ℕ) (room : StoreRoom (length w) t k f c)
-    (keeps : Keeps text t f (place-form f c) scratch-start g w u) (put : w′ ≡ sets u (table-start + k * 16) (form-words g)) (next : r ≡ c + form-space f) where
+    (keeps : Keeps text t f (place-form f c) scratch-start g w u) (put : w′ ≡ sets u (table-start + k * form-size) (form-words g))
+    (next : r ≡ c + form-space f) where
   abbrev b : ℕ
-  b = table-start + k * 16
+  b = table-start + k * form-size
 
-  inside : b + 16 ≤ table-end
+  inside : b + form-size ≤ table-end
   inside = omega (arith, room .number)
 
   written : Kept b (b + 10) u w′

@@ -1,13 +1,17 @@
 // A module's normal form put in order and kept: its parts from the cursor on, its places in the module's row of the table.
+use forms::EQUATION_SIZE;
 use forms::Form;
+use forms::SLOT_SIZE;
 use keeping::write_form;
 use layout::table_start;
 use ordering::keeping::keep_in_order;
+use tables::ROW_SIZE;
 ghost use mathlib.Core.Path.{_≡_};
 ghost use Prim.Native.Nat.{_+_, _*_, _≤_};
 ghost use lib.ListN.{length};
 ghost use lib.Seq.{sets};
 ghost use Rattle.names.specs.Joint.{joint};
+ghost use Rattle.forms.specs.Forms.{form-size};
 ghost use Rattle.keeping.specs.Keeping.{form-words};
 ghost use Rattle.layout.specs.Layout.{table-start};
 ghost use Rattle.ordering.specs.Kept.{KeepRoom, order-place};
@@ -20,10 +24,10 @@ pub fn form_space(f: Form) -> u32
     requires { ⌜ form-space f ≤ 1073741824 ⌝ }
     ensures { λ r. ⌜ r ≡ form-space f ⌝ }
 {
-    f.parameter_count * 2
-        + f.visible_count * 16
-        + f.hidden_count * 16
-        + f.equation_count * 8
+    f.parameter_count * SLOT_SIZE
+        + f.visible_count * ROW_SIZE
+        + f.hidden_count * ROW_SIZE
+        + f.equation_count * EQUATION_SIZE
         + f.node_count
 }
 
@@ -41,10 +45,10 @@ fn place_form(f: Form, cursor: u32) -> Form
     requires { ⌜ cursor + form-space f ≤ 1073741824 ⌝ }
     ensures { λ r. ⌜ r ≡ place-form f cursor ⌝ }
 {
-    let visible = cursor + f.parameter_count * 2;
-    let hidden = visible + f.visible_count * 16;
-    let equations = hidden + f.hidden_count * 16;
-    let nodes = equations + f.equation_count * 8;
+    let visible = cursor + f.parameter_count * SLOT_SIZE;
+    let hidden = visible + f.visible_count * ROW_SIZE;
+    let equations = hidden + f.hidden_count * ROW_SIZE;
+    let nodes = equations + f.equation_count * EQUATION_SIZE;
     Form {
         parameters: cursor,
         parameter_count: f.parameter_count,
@@ -79,7 +83,7 @@ fn keep_at(library: &[u8], text: &[u8], work: &mut [u32], t: usize, f: Form, cur
 
 // The normal form of module k is at f.
 fn write_row(work: &mut [u32], k: u32, f: Form)
-    ensures { λ u. ⌜ now (work .exit) ≡ sets (now (work .entry)) (table-start + k * 16) (form-words f) ⌝ }
+    ensures { λ u. ⌜ now (work .exit) ≡ sets (now (work .entry)) (table-start + k * form-size) (form-words f) ⌝ }
 {
     let table = table_start();
     write_form(work, table, k, f);

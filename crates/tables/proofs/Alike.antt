@@ -1,22 +1,23 @@
 -- What tests tell of sorts, shapes and items, in the code's terms: p, q and r are answers, and the premises are what led there.
 use mathlib.Core.Path.{_≡_, refl, sym, ap, _∙_}
 use mathlib.Core.Bool.{Bool, true, false, _&&_, and-true, and-false}
-use mathlib.Core.List.{List, [], _∷_, map}
+use mathlib.Core.List.{List, map}
 use Prim.Native.Nat.{ℕ, suc, _+_, _-_, _/_, _%_, _<_, _≤_, min}
 use native.Mathlib.Numerals.{add-one}
 use native.Mathlib.Omega.{arith}
-use lib.Dec.{eqb, leb}
+use lib.Dec.{eqb}
 use lib.ListN.{length, getD, take, drop, length-take, length-map, drop-of-length-le}
-use lib.Seq.{drop-cons, getD-take, take-all}
-use borrow.Author.Tests.{eq-eqb, ne-eqb, eqb-true, eqb-false, leb-true, leb-false}
+use lib.Seq.{drop-cons, getD-take}
+use borrow.Author.Tests.{eq-eqb, ne-eqb, eqb-true, eqb-false}
 use Rattle.meaning.specs.Lists.{pick, agree}
 use Rattle.meaning.specs.Names.{same}
 use Rattle.meaning.specs.Origins.{sort-shape, function-shape, variable-shape, same-section, same-declared, same-origin, same-sort, same-type, same-shape, one-item}
+use Rattle.laws.specs.Decides.{sorts-decided}
 use Rattle.names.specs.Word.{name-of}
 use Rattle.tables.specs.Entries.{name-at, home-at}
 use Rattle.tables.specs.Rows.{section-of, origin-of, hidden-origin, sort-of, type-of, shape-of, item-of}
+use Rattle.tables.specs.RowLaws.{take-nine, agree-lengths}
 use Rattle.tables.specs.Kinds.{one-but-name}
-use Rattle.tables.specs.Decides.{sorts-decided}
 use Rattle.tables.specs.declared.Row.{Row}
 
 -- ---- sorts
@@ -98,27 +99,6 @@ module _ (text tape a b : List ℕ) (n : ℕ) where
       agree-off e = head-told ∙ rw e
 
 -- ---- function types and shapes
-
-agree-lengths : {A : Type 0} (e : A → A → Bool) (xs ys : List A) → (length xs ≡ length ys → ⊥) → agree e xs ys ≡ false
-unfolding agree pick
-agree-lengths e [] [] h = absurd (h refl)
-agree-lengths e [] (y ∷ ys) h = refl
-agree-lengths e (x ∷ xs) [] h = refl
-agree-lengths e (x ∷ xs) (y ∷ ys) h = rw (agree-lengths e xs ys (λ q. h (ap suc q))) (go (e x y))
-  where
-    go : (b : Bool) → pick b false false ≡ false
-    go true = refl
-    go false = refl
-
--- past the nine there is nothing to take
-take-nine : (n : ℕ) (xs : List ℕ) → length xs ≡ 9 → take (min n 9) xs ≡ take n xs
-take-nine n xs l = go (leb n 9) refl
-  where
-    go : (b : Bool) → leb n 9 ≡ b → take (min n 9) xs ≡ take n xs
-    go true e = let h : min n 9 ≡ n = omega (arith, leb-true n 9 e) in ap (λ (k : ℕ). take k xs) h
-    go false e =
-        let g = leb-false n 9 e in
-        take-all (min n 9) xs (omega arith) ∙ sym (take-all n xs (omega arith))
 
 module _ (text tape : List ℕ) (k : ℕ) (a : List ℕ) (l : ℕ) (b : List ℕ) (la : length a ≡ 9) (lb : length b ≡ 9) where
   abbrev one-type : Bool

@@ -1,7 +1,7 @@
 -- Laws of moving a row in and out: w is the memory, b the place where a part starts.
-use mathlib.Core.Path.{_≡_, refl, sym, ap, _∙_}
-use mathlib.Core.List.{List, append-nil}
-use Prim.Native.Nat.{ℕ, zero, suc, _+_, _-_, _*_, _^_, _<_, _≤_}
+use mathlib.Core.Path.{_≡_, refl, sym, _∙_}
+use mathlib.Core.List.{List, [], _∷_, append-nil}
+use Prim.Native.Nat.{ℕ, suc, _+_, _-_, _*_, _^_, _<_, _≤_}
 use native.Mathlib.Nat.{add-zero}
 use native.Mathlib.Numerals.{add-one, add-two, add-three, add-six}
 use native.Mathlib.Omega.{arith}
@@ -9,22 +9,21 @@ use lib.ListN.{length, getD, set, drop, length-set, drop-of-length-le}
 use lib.Seq.{sets, sets-eq, drop-cons}
 use mir.Syntax.{w64}
 use mir.Val.{Fits}
-use Rattle.tables.specs.Rows.{word-section, section-word, words-from, row-at, row-words}
+use Rattle.tables.specs.Rows.{word-section, section-word, words-from, row-at, row-words, row-size}
+use Rattle.tables.specs.RowLaws.{length-words}
 use Rattle.tables.specs.Kinds.{read-origin, origin-words}
 use Rattle.tables.specs.declared.Section.{Section}
 use Rattle.tables.specs.declared.Origin.{Origin}
 use Rattle.tables.specs.declared.Row.{Row}
+
+pub three-put : (w w₁ w₂ w₃ : List ℕ) (b x y z : ℕ) → w₁ ≡ set w b x → w₂ ≡ set w₁ (b + 1) y → w₃ ≡ set w₂ (b + 2) z → w₃ ≡ sets w b (x ∷ y ∷ z ∷ [])
+three-put w w₁ w₂ w₃ b x y z e f g = rw (g, f, e, add-one b, add-two b)
 
 -- ---- nine words are read: the first i stand in s
 
 pub record Gathered (w : List ℕ) (b : ℕ) (s : List ℕ) (i : ℕ) : Type 0 where
   within : i ≤ 9
   rest : sets s i (words-from w (b + i) (9 - i)) ≡ words-from w b 9
-
-length-words : (w : List ℕ) (b c : ℕ) → length (words-from w b c) ≡ c
-unfolding words-from
-length-words w b zero = refl
-length-words w b (suc c) = ap suc (length-words w (suc b) c)
 
 pub gather-none : (w : List ℕ) (b : ℕ) (s : List ℕ) → length s ≡ 9 → Gathered w b s 0
 gather-none w b s l =
@@ -95,18 +94,18 @@ pub origin-written : (w w₁ w₂ w₃ : List ℕ) (b v : ℕ) (o : Origin) → 
 unfolding origin-words
 origin-written w w₁ w₂ w₃ b v o e f g h = rw (h, g, f, e, add-one, add-two)
 
-pub row-read : (w : List ℕ) (base i b v n k : ℕ) (s : Section) (o : Origin) (sorts : List ℕ) → b ≡ base + i * 16 → v ≡ getD w b 0 → s ≡ word-section v
+pub row-read : (w : List ℕ) (base i b v n k : ℕ) (s : Section) (o : Origin) (sorts : List ℕ) → b ≡ base + i * row-size → v ≡ getD w b 0 → s ≡ word-section v
     → n ≡ getD w (b + 1) 0 → k ≡ getD w (b + 2) 0 → o ≡ read-origin w (b + 3) → sorts ≡ words-from w (b + 6) 9
-    → _≡_ {A = Row} (record { standing = s; name = n; kind = k; origin = o; sorts = sorts }) (row-at w (base + i * 16))
+    → _≡_ {A = Row} (record { standing = s; name = n; kind = k; origin = o; sorts = sorts }) (row-at w (base + i * row-size))
 unfolding read-origin row-at
 row-read w base i b v n k s o sorts h e f g j l m =
     let x : b + 3 + 1 ≡ b + 4 = omega arith in
     let y : b + 3 + 2 ≡ b + 5 = omega arith in
     rw (← h, f, e, g, j, l, m, x, y)
 
-pub row-written : (w w₁ w₂ w₃ w₄ w₅ : List ℕ) (base i b v : ℕ) (r : Row) → b ≡ base + i * 16 → v ≡ section-word (r .standing) → w₁ ≡ set w b v
+pub row-written : (w w₁ w₂ w₃ w₄ w₅ : List ℕ) (base i b v : ℕ) (r : Row) → b ≡ base + i * row-size → v ≡ section-word (r .standing) → w₁ ≡ set w b v
     → w₂ ≡ set w₁ (b + 1) (r .name) → w₃ ≡ set w₂ (b + 2) (r .kind) → w₄ ≡ sets w₃ (b + 3) (origin-words (r .origin))
-    → w₅ ≡ sets w₄ (b + 6) (r .sorts) → w₅ ≡ sets w (base + i * 16) (row-words r)
+    → w₅ ≡ sets w₄ (b + 6) (r .sorts) → w₅ ≡ sets w (base + i * row-size) (row-words r)
 unfolding origin-words row-words
 row-written w w₁ w₂ w₃ w₄ w₅ base i b v r h e f g j l m =
     rw (← h, m, l, j, g, f, e, add-one b, add-two b, add-three b, add-six b)

@@ -5,7 +5,6 @@ use mathlib.Core.List.{List}
 use Prim.Native.Nat.{ℕ, zero, suc, _+_, _-_, _<_, _≤_}
 use native.Mathlib.Omega.{arith}
 use native.Mathlib.Numerals.{add-one}
-use lib.Dec.{eqb}
 use lib.ListN.{getD, set, length, List·getD-eq-default}
 use lib.Seq.{set-out}
 use borrow.Author.Tests.{eq-eqb, ne-eqb}
@@ -15,7 +14,9 @@ use Rattle.meaning.specs.Lists.{pick}
 use Rattle.meaning.specs.Names.{same}
 use Rattle.meaning.specs.OrderLaws.{same-self}
 use Rattle.names.specs.Word.{name-of}
+use Rattle.tape.specs.Tape.{module-role, parameter-role, input-role, variable-role, variable-sort}
 use Rattle.tables.specs.Entries.{role-at, word-at, name-at, last-with, next-with, inputs-from, is-function-role, is-parameter-role, is-export-role, arity-at, sort-place, home-at, section-at, origin-at}
+use Rattle.tables.specs.RowLaws.{inputs-short}
 use Rattle.tables.specs.Kinds.{kind-at}
 use Rattle.tables.specs.declared.Section.{Section}
 use Rattle.tables.specs.declared.Section.the-variants.{Export, Hidden, Parameter}
@@ -99,30 +100,21 @@ module _ (t : List ℕ) (i end j : ℕ) (h : Counted t i end j) where
       omega arith
 
   module _ (r : ℕ) (e : r ≡ role-at t j) (l : j < end) where
-    pub count-on : r ≡ 9 → Counted t i end (j + 1)
+    pub count-on : r ≡ input-role → Counted t i end (j + 1)
     unfolding inputs-from pick
     count-on q =
         let s : inputs-from t j (end - j) ≡ suc (inputs-from t (j + 1) (end - (j + 1))) =
-        rw (one-left 0 t j end l, eq-eqb (role-at t j) 9 (sym e ∙ q), add-one) in
+        rw (one-left 0 t j end l, eq-eqb (role-at t j) input-role (sym e ∙ q), add-one) in
         record { from = omega arith; rest = omega arith }
 
-    pub count-stop : (r ≡ 9 → ⊥) → j - i ≡ inputs-from t i (end - i)
+    pub count-stop : (r ≡ input-role → ⊥) → j - i ≡ inputs-from t i (end - i)
     unfolding inputs-from pick
     count-stop q =
         let s : inputs-from t j (end - j) ≡ 0 =
-        rw (one-left 0 t j end l, ne-eqb (role-at t j) 9 (λ u. q (e ∙ u))) in
+        rw (one-left 0 t j end l, ne-eqb (role-at t j) input-role (λ u. q (e ∙ u))) in
         omega arith
 
 -- ---- a declaration at d: its number of inputs, its sort, and where it is from
-
-inputs-short : (t : List ℕ) (i c : ℕ) → inputs-from t i c ≤ c
-unfolding inputs-from pick
-inputs-short t i zero = omega arith
-inputs-short t i (suc c) = go (eqb (role-at t i) 9) (inputs-short t (suc i) c)
-  where
-    go : (b : Bool) → inputs-from t (suc i) c ≤ c → pick b (suc (inputs-from t (suc i) c)) 0 ≤ suc c
-    go true h = omega arith
-    go false h = omega arith
 
 pub arity-fits : (t : List ℕ) (d n : ℕ) → n ≡ inputs-from t (d + 1) (d + 1 + 8 - (d + 1)) → Fits w32 n
 arity-fits t d n e = omega (arith, inputs-short t (d + 1) (d + 1 + 8 - (d + 1)))
@@ -140,24 +132,24 @@ module _ (t : List ℕ) (d r : ℕ) (p : Bool) (e : r ≡ role-at t d) (f : p �
   unfolding kind-at pick
   kind-function n q g = rw (← e, ← f, q, ← g)
 
-  pub kind-variable : p ≡ false → r ≡ 17 → 1 ≡ kind-at t d
+  pub kind-variable : p ≡ false → r ≡ variable-role → 1 ≡ kind-at t d
   unfolding kind-at pick
-  kind-variable q g = rw (← e, ← f, q, eq-eqb r 17 g)
+  kind-variable q g = rw (← e, ← f, q, eq-eqb r variable-role g)
 
-  pub kind-sort : p ≡ false → (r ≡ 17 → ⊥) → 0 ≡ kind-at t d
+  pub kind-sort : p ≡ false → (r ≡ variable-role → ⊥) → 0 ≡ kind-at t d
   unfolding kind-at pick
-  kind-sort q g = rw (← e, ← f, q, ne-eqb r 17 g)
+  kind-sort q g = rw (← e, ← f, q, ne-eqb r variable-role g)
 
-pub sort-found : (t : List ℕ) (d i : ℕ) → i ≡ next-with 18 t d (length t - d) → i ≡ sort-place t d
+pub sort-found : (t : List ℕ) (d i : ℕ) → i ≡ next-with variable-sort t d (length t - d) → i ≡ sort-place t d
 unfolding sort-place
 sort-found t d i e = e
 
-pub home-found : (t : List ℕ) (d i w : ℕ) → i ≡ last-with 1 t d → w ≡ word-at t i → w ≡ home-at t d
+pub home-found : (t : List ℕ) (d i w : ℕ) → i ≡ last-with module-role t d → w ≡ word-at t i → w ≡ home-at t d
 unfolding home-at
 home-found t d i w e f = rw (← e) f
 
 module _ (t : List ℕ) (d r : ℕ) (p : Bool) (e : r ≡ role-at t d) (f : p ≡ is-parameter-role r) where
-  pub section-parameter : (i w : ℕ) → p ≡ true → i ≡ last-with 2 t d → w ≡ word-at t i → Parameter w ≡ section-at t d
+  pub section-parameter : (i w : ℕ) → p ≡ true → i ≡ last-with parameter-role t d → w ≡ word-at t i → Parameter w ≡ section-at t d
   unfolding section-at pick
   section-parameter i w q g h = rw (← e, ← f, q, ← g, ← h)
 

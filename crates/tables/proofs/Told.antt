@@ -11,11 +11,12 @@ use borrow.Author.Tests.{lt-ltb, le-ltb}
 use Rattle.meaning.specs.Lists.{pick, agree}
 use Rattle.meaning.specs.Names.{same}
 use Rattle.meaning.specs.Origins.{same-section, same-declared, same-origin}
+use Rattle.laws.specs.Decides.{declared-decided}
 use Rattle.names.specs.Word.{name-of}
+use Rattle.tape.specs.Tape.{variable-role}
 use Rattle.tables.specs.Entries.{role-at, name-at, names-from, is-function-role, arity-at, sort-place, declared-at}
 use Rattle.tables.specs.Rows.{section-of, section-word, origin-of}
 use Rattle.tables.specs.Kinds.{kind-at, declared-by}
-use Rattle.tables.specs.Decides.{declared-decided}
 use Rattle.tables.specs.declared.Section.{Section}
 use Rattle.tables.specs.declared.Section.the-variants.{Parameter}
 use Rattle.tables.specs.declared.Origin.{Origin}
@@ -94,7 +95,7 @@ sorts-there text tape d e i j r a b h = rw (← a, ← b) h
 
 by-kind : (text tape : List ℕ) (d : ℕ) → declared-at text tape d ≡ declared-by text tape d (kind-at tape d)
 unfolding declared-at declared-by kind-at pick
-by-kind text tape d = go (is-function-role (role-at tape d)) (eqb (role-at tape d) 17)
+by-kind text tape d = go (is-function-role (role-at tape d)) (eqb (role-at tape d) variable-role)
   where
     go : (b v : Bool) → pick b (declared-by text tape d (suc (suc (arity-at tape d)))) (pick v (declared-by text tape d 1) (declared-by text tape d 0))
         ≡ declared-by text tape d (pick b (arity-at tape d + 2) (pick v 1 0))

@@ -1,5 +1,4 @@
 pub mod Entries
 pub mod Rows
 pub mod Kinds
-pub mod Decides
 pub mod RowLaws

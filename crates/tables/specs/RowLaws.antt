@@ -1,18 +1,20 @@
 -- Laws of rows in a memory: what is written is read back, what lies apart stays, and rows that are one item stand for one.
-use mathlib.Core.Path.{_≡_, refl, ap₂, _∙_}
+use mathlib.Core.Path.{_≡_, refl, sym, ap, ap₂, _∙_}
 use mathlib.Core.Bool.{Bool, true, false}
 use mathlib.Core.List.{List, [], _∷_}
-use Prim.Native.Nat.{ℕ, zero, suc, _+_, _-_, _<_, _≤_}
+use Prim.Native.Nat.{ℕ, zero, suc, _+_, _-_, _<_, _≤_, min}
 use native.Mathlib.Nat.{add-zero}
 use native.Mathlib.Omega.{arith}
-use lib.ListN.{length, getD, set, length-set}
-use lib.Seq.{sets, getD-set-same, getD-set-other}
-use lib.Dec.{eqb}
-use borrow.Author.Tests.{lt-ltb, ne-eqb, eqb-false}
-use Rattle.meaning.specs.Lists.{pick}
+use lib.ListN.{length, getD, set, take, length-set}
+use lib.Seq.{sets, getD-set-same, getD-set-other, take-all}
+use lib.Dec.{eqb, leb}
+use borrow.Author.Tests.{lt-ltb, ne-eqb, eqb-false, leb-true, leb-false}
+use Rattle.meaning.specs.Lists.{pick, agree}
 use Rattle.meaning.specs.Origins.{one-item}
-use Rattle.tables.specs.Rows.{section-word, word-section, words-from, row-at, row-words, item-of}
-use Rattle.tables.specs.Decides.{items-decided}
+use Rattle.laws.specs.Decides.{items-decided}
+use Rattle.tape.specs.Tape.{input-role}
+use Rattle.tables.specs.Entries.{role-at, inputs-from}
+use Rattle.tables.specs.Rows.{section-word, word-section, words-from, row-at, row-words, item-of, row-size}
 use Rattle.tables.specs.declared.Section.{Section}
 use Rattle.tables.specs.declared.Section.the-variants.{Export, Hidden, Parameter}
 use Rattle.tables.specs.declared.Row.{Row}
@@ -52,7 +54,7 @@ stored-behind : (w : List ℕ) (b : ℕ) (vs : List ℕ) (i : ℕ) → b + lengt
 stored-behind w b [] i h = refl
 stored-behind w b (v ∷ vs) i h = stored-behind (set w b v) (suc b) vs i (omega arith) ∙ getD-set-other w b i v 0 (λ q. omega arith)
 
-stored-there : (w : List ℕ) (b : ℕ) (vs : List ℕ) (i : ℕ) → i < length vs → b + length vs ≤ length w → getD (sets w b vs) (b + i) 0 ≡ getD vs i 0
+pub stored-there : (w : List ℕ) (b : ℕ) (vs : List ℕ) (i : ℕ) → i < length vs → b + length vs ≤ length w → getD (sets w b vs) (b + i) 0 ≡ getD vs i 0
 stored-there w b [] i h l = absurd (omega arith)
 stored-there w b (v ∷ vs) zero h l =
     let g : b < length w = omega arith in
@@ -73,10 +75,48 @@ unfolding words-from
 words-same w u c zero h = refl
 words-same w u c (suc n) h = ap₂ _∷_ (h c (omega arith) (omega arith)) (words-same w u (suc c) n (λ i l m. h i (omega arith) (omega arith)))
 
+-- ---- words that are read
+
+pub length-words : (w : List ℕ) (b c : ℕ) → length (words-from w b c) ≡ c
+unfolding words-from
+length-words w b zero = refl
+length-words w b (suc c) = ap suc (length-words w (suc b) c)
+
+-- ---- the sorts of a row
+
+-- nine of them are all
+pub take-nine : (n : ℕ) (xs : List ℕ) → length xs ≡ 9 → take (min n 9) xs ≡ take n xs
+take-nine n xs l = go (leb n 9) refl
+  where
+    go : (b : Bool) → leb n 9 ≡ b → take (min n 9) xs ≡ take n xs
+    go true e = let h : min n 9 ≡ n = omega (arith, leb-true n 9 e) in ap (λ (k : ℕ). take k xs) h
+    go false e = let g = leb-false n 9 e in take-all (min n 9) xs (omega arith) ∙ sym (take-all n xs (omega arith))
+
+pub agree-lengths : {A : Type 0} (e : A → A → Bool) (xs ys : List A) → (length xs ≡ length ys → ⊥) → agree e xs ys ≡ false
+unfolding agree pick
+agree-lengths e [] [] h = absurd (h refl)
+agree-lengths e [] (y ∷ ys) h = refl
+agree-lengths e (x ∷ xs) [] h = refl
+agree-lengths e (x ∷ xs) (y ∷ ys) h = rw (agree-lengths e xs ys (λ q. h (ap suc q))) (go (e x y))
+  where
+    go : (b : Bool) → pick b false false ≡ false
+    go true = refl
+    go false = refl
+
+-- a declaration on the tape has no more inputs than are looked for
+pub inputs-short : (t : List ℕ) (i c : ℕ) → inputs-from t i c ≤ c
+unfolding inputs-from pick
+inputs-short t i zero = omega arith
+inputs-short t i (suc c) = go (eqb (role-at t i) input-role) (inputs-short t (suc i) c)
+  where
+    go : (b : Bool) → inputs-from t (suc i) c ≤ c → pick b (suc (inputs-from t (suc i) c)) 0 ≤ suc c
+    go true h = omega arith
+    go false h = omega arith
+
 -- ---- rows
 
 -- equal words, equal rows
-pub row-same : (w u : List ℕ) (c : ℕ) → ((i : ℕ) → c ≤ i → i < c + 16 → getD u i 0 ≡ getD w i 0) → row-at u c ≡ row-at w c
+pub row-same : (w u : List ℕ) (c : ℕ) → ((i : ℕ) → c ≤ i → i < c + row-size → getD u i 0 ≡ getD w i 0) → row-at u c ≡ row-at w c
 unfolding row-at
 row-same w u c h =
     rw (
@@ -90,7 +130,7 @@ row-same w u c h =
     )
 
 -- a row in front of what is stored, or behind it, stays
-pub row-before : (w : List ℕ) (b : ℕ) (vs : List ℕ) (c : ℕ) → c + 16 ≤ b → row-at (sets w b vs) c ≡ row-at w c
+pub row-before : (w : List ℕ) (b : ℕ) (vs : List ℕ) (c : ℕ) → c + row-size ≤ b → row-at (sets w b vs) c ≡ row-at w c
 row-before w b vs c h = row-same w (sets w b vs) c (λ i l m. stored-before w b vs i (omega arith))
 
 pub row-behind : (w : List ℕ) (b : ℕ) (vs : List ℕ) (c : ℕ) → b + length vs ≤ c → row-at (sets w b vs) c ≡ row-at w c
@@ -124,7 +164,7 @@ row-there u b r k h =
     )
 
 -- what is written is read back
-pub row-back : (w : List ℕ) (b : ℕ) (r : Row) → IsRow r → b + 16 ≤ length w → row-at (sets w b (row-words r)) b ≡ r
+pub row-back : (w : List ℕ) (b : ℕ) (r : Row) → IsRow r → b + row-size ≤ length w → row-at (sets w b (row-words r)) b ≡ r
 unfolding row-words
 row-back w b r k h = row-there (sets w b (row-words r)) b r k (λ i l. stored-there w b (row-words r) i l (omega (arith, k .nine)))
 

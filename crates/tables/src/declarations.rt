@@ -4,6 +4,7 @@ use super::entries::kind_at;
 use super::entries::same_name_at;
 use super::entries::same_word;
 use super::entries::sort_place;
+use super::kinds;
 use super::sections::same_section;
 ghost use mathlib.Core.Path.{_≡_};
 ghost use mathlib.Core.Bool.{_&&_};
@@ -56,10 +57,10 @@ fn same_but_name(library: &[u8], text: &[u8], tape: &[u32], d: u32, e: u32) -> b
     if k != l {
         return false;
     }
-    if 1 < k {
+    if kinds::VARIABLE < k {
         return same_names(library, text, tape, d, e, k - 1);
     }
-    if k == 1 {
+    if k == kinds::VARIABLE {
         return same_sorts_at(library, text, tape, d, e);
     }
     true

@@ -1,10 +1,15 @@
 // Words of a memory, and what the tape says at a place: roles, names, and where a declaration is from.
 use super::Origin;
 use super::Section;
+use super::kinds;
+use meaning::numbers;
 use names::joint::same_name;
+use tape::roles;
 ghost use mathlib.Core.Path.{_≡_};
-ghost use Prim.Native.Nat.{_-_};
+ghost use mathlib.Core.List.{[], _∷_};
+ghost use Prim.Native.Nat.{_-_, _^_, _<_};
 ghost use lib.ListN.{getD, set};
+ghost use lib.Seq.{sets};
 ghost use Rattle.meaning.specs.Names.{same};
 ghost use Rattle.names.specs.Word.{name-of};
 ghost use Rattle.names.specs.Joint.{joint};
@@ -26,6 +31,16 @@ pub fn put_word(t: &mut [u32], i: usize, v: u32)
         t[i] = v;
         return;
     }
+}
+
+// x, y and z stored from b on.
+pub fn put_three(t: &mut [u32], b: usize, x: u32, y: u32, z: u32)
+    requires { ⌜ b < 2 ^ 40 ⌝ }
+    ensures { λ r. ⌜ now (t .exit) ≡ sets (now (t .entry)) b (x ∷ y ∷ z ∷ []) ⌝ }
+{
+    put_word(t, b, x);
+    put_word(t, b + 1, y);
+    put_word(t, b + 2, z);
 }
 
 // Are a and b the same name? One word is one name, with no look at the text.
@@ -93,7 +108,7 @@ pub fn inputs_from(tape: &[u32], i: usize, end: usize) -> usize
 {
     let mut j = i;
     while j < end {
-        if role_at(tape, j) == 9 {
+        if role_at(tape, j) == roles::INPUT {
             j += 1;
         } else {
             return j - i;
@@ -105,31 +120,31 @@ pub fn inputs_from(tape: &[u32], i: usize, end: usize) -> usize
 pub fn is_function_role(role: u32) -> bool
     ensures { λ r. ⌜ r ≡ is-function-role role ⌝ }
 {
-    if role == 4 {
+    if role == roles::PARAMETER_FUNCTION {
         return true;
     }
-    if role == 6 {
+    if role == roles::EXPORT_FUNCTION {
         return true;
     }
-    role == 8
+    role == roles::HIDDEN_FUNCTION
 }
 
 pub fn is_parameter_role(role: u32) -> bool
     ensures { λ r. ⌜ r ≡ is-parameter-role role ⌝ }
 {
-    if role == 3 {
+    if role == roles::PARAMETER_SORT {
         return true;
     }
-    role == 4
+    role == roles::PARAMETER_FUNCTION
 }
 
 pub fn is_export_role(role: u32) -> bool
     ensures { λ r. ⌜ r ≡ is-export-role role ⌝ }
 {
-    if role == 5 {
+    if role == roles::EXPORT_SORT {
         return true;
     }
-    role == 6
+    role == roles::EXPORT_FUNCTION
 }
 
 // How many inputs the function declared at d has.
@@ -137,7 +152,7 @@ pub fn arity_at(tape: &[u32], d: u32) -> u32
     ensures { λ r. ⌜ r ≡ arity-at (now (tape .entry)) d ⌝ }
 {
     let i = d as usize + 1;
-    inputs_from(tape, i, i + 8) as u32
+    inputs_from(tape, i, i + numbers::ARGUMENT_LIMIT) as u32
 }
 
 // What is declared at d, as a row's kind.
@@ -146,26 +161,26 @@ pub fn kind_at(tape: &[u32], d: u32) -> u32
 {
     let role = role_at(tape, d as usize);
     if is_function_role(role) {
-        return arity_at(tape, d) + 2;
+        return arity_at(tape, d) + kinds::FUNCTION;
     }
-    if role == 17 {
-        return 1;
+    if role == roles::VARIABLE {
+        return kinds::VARIABLE;
     }
-    0
+    kinds::SORT
 }
 
 // Where the sort of the variable declared at d stands.
 pub fn sort_place(tape: &[u32], d: u32) -> usize
     ensures { λ r. ⌜ r ≡ sort-place (now (tape .entry)) d ⌝ }
 {
-    next_with(tape, 18, d as usize, tape.len())
+    next_with(tape, roles::VARIABLE_SORT, d as usize, tape.len())
 }
 
 // The name's word of the module that d stands in.
 pub fn home_at(tape: &[u32], d: u32) -> u32
     ensures { λ r. ⌜ r ≡ home-at (now (tape .entry)) d ⌝ }
 {
-    name_at(tape, last_with(tape, 1, d as usize))
+    name_at(tape, last_with(tape, roles::MODULE, d as usize))
 }
 
 // The section that d stands in.
@@ -174,7 +189,7 @@ pub fn section_at(tape: &[u32], d: u32) -> Section
 {
     let role = role_at(tape, d as usize);
     if is_parameter_role(role) {
-        return Section::Parameter(name_at(tape, last_with(tape, 2, d as usize)));
+        return Section::Parameter(name_at(tape, last_with(tape, roles::PARAMETER, d as usize)));
     }
     if is_export_role(role) {
         return Section::Export;

@@ -1,6 +1,7 @@
 // Items, origins and sorts as words of the working memory: rows moved in and out as structs by value, and the tests on them.
 pub mod declarations;
 pub mod entries;
+pub mod kinds;
 pub mod rows;
 pub mod sections;
 pub mod sorts;
@@ -19,7 +20,7 @@ pub struct Origin {
     pub place: u32,
 }
 
-// An item: kind is 0 for a sort, 1 for a variable, 2 + n for a function of n inputs. The output, or a variable's sort, is the last of sorts.
+// An item, of one of the `kinds`. The output, or a variable's sort, is the last of sorts.
 pub struct Row {
     pub standing: Section,
     pub name: u32,
@@ -27,3 +28,8 @@ pub struct Row {
     pub origin: Origin,
     pub sorts: [u32; 9],
 }
+
+// The words of an item's row in the working memory, as a count of words and as a step from place to place.
+pub const ROW_SIZE: u32 = 16;
+
+pub const ROW_STEP: usize = ROW_SIZE as usize;

@@ -1,5 +1,6 @@
 // Rows of sixteen words, moved in and out by value.
 use super::Origin;
+use super::ROW_STEP;
 use super::Row;
 use super::entries::put_word;
 use super::entries::word_at;
@@ -8,14 +9,14 @@ use super::sections::word_section;
 ghost use mathlib.Core.Path.{_≡_};
 ghost use Prim.Native.Nat.{_+_, _*_, _^_, _<_};
 ghost use lib.Seq.{sets};
-ghost use Rattle.tables.specs.Rows.{words-from, row-at, row-words};
+ghost use Rattle.tables.specs.Rows.{words-from, row-at, row-words, row-size};
 ghost use Rattle.tables.specs.Kinds.{origin-words, read-origin};
 
 // Row i of a table that starts at `base`.
 fn row_place(base: u32, i: u32) -> usize
-    ensures { λ r. ⌜ r ≡ base + i * 16 ⌝ }
+    ensures { λ r. ⌜ r ≡ base + i * row-size ⌝ }
 {
-    base as usize + i as usize * 16
+    base as usize + i as usize * ROW_STEP
 }
 
 // Nine words from b on.
@@ -48,7 +49,7 @@ fn read_origin(w: &[u32], b: usize) -> Origin
 
 // The row at i of the table that starts at `base`.
 pub fn read_row(w: &[u32], base: u32, i: u32) -> Row
-    ensures { λ r. ⌜ r ≡ row-at (now (w .entry)) (base + i * 16) ⌝ }
+    ensures { λ r. ⌜ r ≡ row-at (now (w .entry)) (base + i * row-size) ⌝ }
 {
     let b = row_place(base, i);
     let standing = word_section(word_at(w, b));
@@ -88,7 +89,7 @@ fn write_origin(w: &mut [u32], b: usize, origin: Origin)
 
 // The row at i of the table that starts at `base`, stored.
 pub fn write_row(w: &mut [u32], base: u32, i: u32, row: Row)
-    ensures { λ r. ⌜ now (w .exit) ≡ sets (now (w .entry)) (base + i * 16) (row-words row) ⌝ }
+    ensures { λ r. ⌜ now (w .exit) ≡ sets (now (w .entry)) (base + i * row-size) (row-words row) ⌝ }
 {
     let b = row_place(base, i);
     let standing = row.standing;

@@ -4,6 +4,7 @@ use super::declarations::same_origin;
 use super::entries::home_at;
 use super::entries::same_name_at;
 use super::entries::same_word;
+use super::kinds;
 use super::sections::same_section;
 ghost use mathlib.Core.Path.{_≡_};
 ghost use mathlib.Core.List.{map};
@@ -69,16 +70,16 @@ pub fn same_sorts(
 }
 
 // How many of the nine sorts of a row are a function's inputs.
-fn inputs_of(kind: u32) -> usize
+pub fn inputs_of(kind: u32) -> usize
     ensures { λ r. ⌜ r ≡ min (kind - 2) 9 ⌝ }
 {
-    if kind < 2 {
+    if kind < kinds::FUNCTION {
         return 0;
     }
     if 11 < kind {
         return 9;
     }
-    (kind - 2) as usize
+    (kind - kinds::FUNCTION) as usize
 }
 
 // Are the function types of the kinds k and l and of the sorts a and b one?
@@ -115,19 +116,19 @@ fn same_shapes(
 ) -> bool
     ensures { λ r. ⌜ r ≡ same-shape (shape-of (joint (now (library .entry)) (now (text .entry))) (now (tape .entry)) k a) (shape-of (joint (now (library .entry)) (now (text .entry))) (now (tape .entry)) l b) ⌝ }
 {
-    if k == 0 {
-        return l == 0;
+    if k == kinds::SORT {
+        return l == kinds::SORT;
     }
-    if l == 0 {
+    if l == kinds::SORT {
         return false;
     }
-    if k == 1 {
-        if l == 1 {
+    if k == kinds::VARIABLE {
+        if l == kinds::VARIABLE {
             return same_sort(library, text, tape, a[8], b[8]);
         }
         return false;
     }
-    if l == 1 {
+    if l == kinds::VARIABLE {
         return false;
     }
     same_type(library, text, tape, k, a, l, b)

@@ -1,1 +1,2 @@
-// The tape's entries as definitions: this crate has no code.
+// The tape's entries as definitions; the code that belongs to them are the roles.
+pub mod roles;

@@ -6,7 +6,7 @@ use Rattle.meaning.specs.Lists.{each, agree}
 use Rattle.meaning.specs.Syntax.{Signature, Parameter, Import, Module}
 use Rattle.promises.specs.Deciding.{Decides}
 use Rattle.asking_again.specs.Same.{same-signature, same-parameter, same-import, same-module, signatures-decided, parameters-decided, imports-decided, modules-decided}
-use Rattle.tape.specs.Tape.{Entry, flat-signature, flat-parameter, flat-import, flat-module}
+use Rattle.tape.specs.Tape.{Entry, flat-signature, flat-parameter, flat-import, flat-module, export-sort, export-function}
 use Rattle.alike.specs.Alike.{same-entry}
 use Rattle.alike.specs.AlikeLaws.{runs-decided}
 use Rattle.tape_told.specs.Told.{exports-told, parameters-told, imports-told, module-told}
@@ -27,8 +27,9 @@ module _ {A : Type 0} (flat : A → List Entry) (test : A → A → Bool) (d : D
 pub modules-compared : (a b : Module) → agree same-entry (flat-module a) (flat-module b) ≡ same-module a b
 modules-compared = compared flat-module same-module modules-decided module-told
 
-pub exports-compared : (a b : Signature) → agree same-entry (flat-signature 5 6 a) (flat-signature 5 6 b) ≡ same-signature a b
-exports-compared = compared (flat-signature 5 6) same-signature signatures-decided exports-told
+pub exports-compared : (a b : Signature)
+    → agree same-entry (flat-signature export-sort export-function a) (flat-signature export-sort export-function b) ≡ same-signature a b
+exports-compared = compared (flat-signature export-sort export-function) same-signature signatures-decided exports-told
 
 pub imports-compared : (as′ bs : List Import) → agree same-entry (each flat-import as′) (each flat-import bs) ≡ agree same-import as′ bs
 imports-compared = compared (each flat-import) (agree same-import) imports-decided imports-told

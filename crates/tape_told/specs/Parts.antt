@@ -7,8 +7,8 @@ use mathlib.Core.List.{List, [], _∷_, _++_, map}
 use lib.Dec.{eqb}
 use Rattle.meaning.specs.Lists.{pick, each}
 use Rattle.meaning.specs.Names.{Name}
+use Rattle.tape.specs.Roles.{All, all-map}
 use Rattle.tape.specs.Tape.{Entry, entry}
-use Rattle.walks.specs.Flat.{All, all-map}
 
 -- the entries up to the first whose role fails
 unfoldable front : (ℕ → Bool) → List Entry → List Entry

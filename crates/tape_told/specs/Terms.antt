@@ -10,8 +10,8 @@ use borrow.Author.Tests.{eqb-true}
 use Rattle.meaning.specs.Lists.{pick, each}
 use Rattle.meaning.specs.Names.{Name, is-operator}
 use Rattle.meaning.specs.Syntax.{Term, node, Terms, no-terms, _then_, Sides, Equation}
-use Rattle.tape.specs.Tape.{Entry, entry, role-with, closing, flat-node, how-many, flat-term, flat-terms, flat-sides, flat-equation}
-use Rattle.walks.specs.Flat.{all-role, all-behind-tag}
+use Rattle.tape.specs.Roles.{all-role, all-behind-tag}
+use Rattle.tape.specs.Tape.{Entry, entry, role-with, closing, flat-node, how-many, flat-term, flat-terms, flat-sides, flat-equation, alone-role, close-role}
 use Rattle.tape_told.specs.Parts.{Passing, Ends, cons-cut, entry-name, no-cons, other-role, but, blocks-told}
 
 -- ---- roles
@@ -84,8 +84,8 @@ module _ (f g : Name) (ts us : Terms) (xs ys : List Entry) (later : TermsTold ts
     where
       go : (b : Bool) → eqb r 21 ≡ b → eqb s 21 ≡ b → flat-terms ts ++ (closing r ++ xs) ≡ flat-terms us ++ (closing s ++ ys) → (ts ≡ us) × (xs ≡ ys)
       go true e e′ q =
-          let h : flat-terms ts ++ (entry 22 [] ∷ xs) ≡ flat-terms us ++ (entry 22 [] ∷ ys) = rw (e, e′) at q in
-          let k = later (entry 22 [] ∷ xs) (entry 22 [] ∷ ys) (inr (refl, refl)) h in
+          let h : flat-terms ts ++ (entry close-role [] ∷ xs) ≡ flat-terms us ++ (entry close-role [] ∷ ys) = rw (e, e′) at q in
+          let k = later (entry close-role [] ∷ xs) (entry close-role [] ∷ ys) (inr (refl, refl)) h in
           (k .0, cons-cut _ _ xs ys (k .1) .1)
       go false e e′ q =
           let h : flat-terms ts ++ xs ≡ flat-terms us ++ ys = rw (e, e′) at q in
@@ -110,7 +110,7 @@ module _ (f g : Name) (ts us : Terms) (xs ys : List Entry) (later : TermsTold ts
       go : (n m : ℕ) → how-many ts ≡ n → how-many us ≡ m → flat-node f n (flat-terms ts) ++ xs ≡ flat-node g m (flat-terms us) ++ ys
           → (node f ts ≡ node g us) × (xs ≡ ys)
       go zero zero e e′ q =
-          let h = cons-cut (entry 20 f) (entry 20 g) xs ys q in
+          let h = cons-cut (entry alone-role f) (entry alone-role g) xs ys q in
           let name = entry-name 20 20 f g (h .0) in
           let none-left = no-arguments ts e ∙ sym (no-arguments us e′) in
           ((λ i. node (name i) (none-left i)), h .1)

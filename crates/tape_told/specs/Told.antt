@@ -6,10 +6,11 @@ use mathlib.Core.List.{List, [], _∷_, _++_, map, append-assoc}
 use lib.Dec.{eqb, leb}
 use Rattle.meaning.specs.Lists.{pick, each}
 use Rattle.meaning.specs.Syntax.{Function, Signature, Parameter, Pair, Clause, renamed-by, bound-by, Import, VariableGroup, Module}
-use Rattle.tape.specs.Tape.{Entry, entry, flat-function, flat-signature, flat-parameter, flat-pair, flat-clause, flat-import, flat-group, flat-equation, flat-module}
+use Rattle.tape.specs.Roles.{all-type, all-signature, all-parameters, all-groups, all-pairs, all-bound, all-clauses}
+use Rattle.tape.specs.Tape.{Entry, entry, flat-function, flat-signature, flat-parameter, flat-pair, flat-clause, flat-import, flat-group, flat-equation, flat-module, module-role, export-sort, export-function, hidden-sort, hidden-function, input-role, variable-role, variable-sort}
 use Rattle.tape_told.specs.Parts.{but, Passing, Passes, Ends, cut, ends-append, ends-each, ends-names, passes-names, cons-cut, entry-name, no-cons, other-role, names-told, Block, blocks-told}
 use Rattle.tape_told.specs.Terms.{equations-told}
-use Rattle.walks.specs.Flat.{all-type, all-signature, all-parameters, all-groups, all-pairs, all-bound, all-clauses, each-import}
+use Rattle.walks.specs.Flat.{each-import}
 
 -- ---- functions: after the name the inputs, and then the output
 
@@ -17,7 +18,7 @@ function-told : (role : ℕ) (f g : Function) → flat-function role f ≡ flat-
 unfolding flat-function
 function-told role f g q =
     let h = cons-cut (entry role (f .name)) (entry role (g .name)) _ _ q in
-    let k = cut (eqb 9) (map (entry 9) (f .inputs)) _ (map (entry 9) (g .inputs)) _
+    let k = cut (eqb 9) (map (entry input-role) (f .inputs)) _ (map (entry input-role) (g .inputs)) _
     (passes-names (eqb 9) 9 refl (f .inputs)) (passes-names (eqb 9) 9 refl (g .inputs)) refl refl (h .1) in
     let name = entry-name role role _ _ (h .0) in
     let inputs = names-told 9 _ _ (k .0) in
@@ -42,7 +43,7 @@ signature-told sr fr self other head h9 h10 a b q =
     let functions = blocks-told (but fr) (flat-function fr) (λ f. (head, all-type (Passing (but fr)) h9 h10 f)) (function-told fr) _ _ (h .1) in
     λ i. record { sorts = sorts i; functions = functions i }
 
-pub exports-told : (a b : Signature) → flat-signature 5 6 a ≡ flat-signature 5 6 b → a ≡ b
+pub exports-told : (a b : Signature) → flat-signature export-sort export-function a ≡ flat-signature export-sort export-function b → a ≡ b
 exports-told a b q = signature-told 5 6 refl refl refl refl refl a b q
 
 -- ---- parameters
@@ -118,13 +119,14 @@ some-entries (x ∷ xs) e ys q = no-cons x _ q
 groups-told : (as′ bs : List VariableGroup) → each flat-group as′ ≡ each flat-group bs → as′ ≡ bs
 unfolding each flat-group
 groups-told [] [] q = refl
-groups-told [] (b ∷ bs) q = some-entries (map (entry 17) (b .names)) (entry 18 (b .sort)) (each flat-group bs) q
-groups-told (a ∷ as′) [] q = some-entries (map (entry 17) (a .names)) (entry 18 (a .sort)) (each flat-group as′) (sym q)
+groups-told [] (b ∷ bs) q = some-entries (map (entry variable-role) (b .names)) (entry variable-sort (b .sort)) (each flat-group bs) q
+groups-told (a ∷ as′) [] q = some-entries (map (entry variable-role) (a .names)) (entry variable-sort (a .sort)) (each flat-group as′) (sym q)
 groups-told (a ∷ as′) (b ∷ bs) q =
-    let h = cut (eqb 17) (map (entry 17) (a .names)) (entry 18 (a .sort) ∷ _) (map (entry 17) (b .names)) (entry 18 (b .sort) ∷ _)
+    let h = cut (eqb 17) (map (entry variable-role) (a .names)) (entry variable-sort (a .sort) ∷ _) (map (entry variable-role) (b .names))
+    (entry variable-sort (b .sort) ∷ _)
     (passes-names (eqb 17) 17 refl (a .names)) (passes-names (eqb 17) 17 refl (b .names)) refl refl
-    (sym (append-assoc (map (entry 17) (a .names)) (entry 18 (a .sort) ∷ []) (each flat-group as′)) ∙ q
-    ∙ append-assoc (map (entry 17) (b .names)) (entry 18 (b .sort) ∷ []) (each flat-group bs)) in
+    (sym (append-assoc (map (entry variable-role) (a .names)) (entry variable-sort (a .sort) ∷ []) (each flat-group as′)) ∙ q
+    ∙ append-assoc (map (entry variable-role) (b .names)) (entry variable-sort (b .sort) ∷ []) (each flat-group bs)) in
     let k = cons-cut _ _ _ _ (h .1) in
     let names = names-told 17 _ _ (h .0) in
     let sort = entry-name 18 18 _ _ (k .0) in
@@ -139,7 +141,7 @@ in-part low high r =
     pick (eqb r 9) true (pick (eqb r 10) true own)
 
 abbrev head-part : Module → List Entry
-head-part m = entry 1 (m .name) ∷ each flat-parameter (m .parameters)
+head-part m = entry module-role (m .name) ∷ each flat-parameter (m .parameters)
 
 abbrev after-groups : Module → List Entry
 after-groups m = each flat-equation (m .equations)
@@ -148,13 +150,13 @@ abbrev after-hidden : Module → List Entry
 after-hidden m = each flat-group (m .groups) ++ after-groups m
 
 abbrev after-imports : Module → List Entry
-after-imports m = flat-signature 7 8 (m .hidden) ++ after-hidden m
+after-imports m = flat-signature hidden-sort hidden-function (m .hidden) ++ after-hidden m
 
 abbrev after-exports : Module → List Entry
 after-exports m = each flat-import (m .imports) ++ after-imports m
 
 abbrev after-head : Module → List Entry
-after-head m = flat-signature 5 6 (m .exports) ++ after-exports m
+after-head m = flat-signature export-sort export-function (m .exports) ++ after-exports m
 
 -- each part passes its test
 module _ (m : Module) where
@@ -162,7 +164,7 @@ module _ (m : Module) where
   unfolding in-part pick
   head-passes = (refl, all-parameters (Passing (in-part 1 4)) refl refl refl refl refl (m .parameters))
 
-  exports-pass : Passes (in-part 5 6) (flat-signature 5 6 (m .exports))
+  exports-pass : Passes (in-part 5 6) (flat-signature export-sort export-function (m .exports))
   unfolding in-part pick
   exports-pass = all-signature (Passing (in-part 5 6)) 5 6 refl refl refl refl (m .exports)
 
@@ -170,7 +172,7 @@ module _ (m : Module) where
   unfolding in-part pick
   imported-pass = each-import (Passing (in-part 11 16)) refl refl refl refl refl refl (m .imports)
 
-  hidden-passes : Passes (in-part 7 8) (flat-signature 7 8 (m .hidden))
+  hidden-passes : Passes (in-part 7 8) (flat-signature hidden-sort hidden-function (m .hidden))
   unfolding in-part pick
   hidden-passes = all-signature (Passing (in-part 7 8)) 7 8 refl refl refl refl (m .hidden)
 
@@ -188,11 +190,12 @@ module _ (p : ℕ → Bool) (m : Module) where
   unfolding flat-group
   hidden-ends h17 h18 h19 =
       ends-append p (each flat-group (m .groups)) _
-      (ends-each p flat-group (λ g. ends-append p (map (entry 17) (g .names)) _ (ends-names p 17 h17 (g .names)) h18) (m .groups)) (groups-end h19)
+      (ends-each p flat-group (λ g. ends-append p (map (entry variable-role) (g .names)) _ (ends-names p 17 h17 (g .names)) h18) (m .groups)) (groups-end h19)
 
   pub imports-end : p 7 ≡ false → p 8 ≡ false → p 17 ≡ false → p 18 ≡ false → p 19 ≡ false → Ends p (after-imports m)
   imports-end h7 h8 h17 h18 h19 =
-      ends-append p (flat-signature 7 8 (m .hidden)) _ (signature-ends p 7 8 h7 h8 (m .hidden)) (hidden-ends h17 h18 h19)
+      ends-append p (flat-signature hidden-sort hidden-function (m .hidden)) _ (signature-ends p hidden-sort hidden-function h7 h8 (m .hidden))
+      (hidden-ends h17 h18 h19)
 
   pub exports-end : p 11 ≡ false → p 7 ≡ false → p 8 ≡ false → p 17 ≡ false → p 18 ≡ false → p 19 ≡ false → Ends p (after-exports m)
   unfolding flat-import
@@ -202,7 +205,8 @@ module _ (p : ℕ → Bool) (m : Module) where
   pub head-ends : p 5 ≡ false → p 6 ≡ false → p 11 ≡ false → p 7 ≡ false → p 8 ≡ false → p 17 ≡ false → p 18 ≡ false → p 19 ≡ false
       → Ends p (after-head m)
   head-ends h5 h6 h11 h7 h8 h17 h18 h19 =
-      ends-append p (flat-signature 5 6 (m .exports)) _ (signature-ends p 5 6 h5 h6 (m .exports)) (exports-end h11 h7 h8 h17 h18 h19)
+      ends-append p (flat-signature export-sort export-function (m .exports)) _ (signature-ends p export-sort export-function h5 h6 (m .exports))
+      (exports-end h11 h7 h8 h17 h18 h19)
 
 module _ (m : Module) where
   after-head-ends : Ends (in-part 1 4) (after-head m)
@@ -232,11 +236,11 @@ unfolding flat-module
 module-told a b q =
     let h = cut (in-part 1 4) (head-part a) (after-head a) (head-part b) (after-head b)
     (head-passes a) (head-passes b) (after-head-ends a) (after-head-ends b) q in
-    let e = cut (in-part 5 6) (flat-signature 5 6 (a .exports)) _ (flat-signature 5 6 (b .exports)) _
+    let e = cut (in-part 5 6) (flat-signature export-sort export-function (a .exports)) _ (flat-signature export-sort export-function (b .exports)) _
     (exports-pass a) (exports-pass b) (after-exports-ends a) (after-exports-ends b) (h .1) in
     let i = cut (in-part 11 16) (each flat-import (a .imports)) _ (each flat-import (b .imports)) _
     (imported-pass a) (imported-pass b) (after-imports-ends a) (after-imports-ends b) (e .1) in
-    let s = cut (in-part 7 8) (flat-signature 7 8 (a .hidden)) _ (flat-signature 7 8 (b .hidden)) _
+    let s = cut (in-part 7 8) (flat-signature hidden-sort hidden-function (a .hidden)) _ (flat-signature hidden-sort hidden-function (b .hidden)) _
     (hidden-passes a) (hidden-passes b) (after-hidden-ends a) (after-hidden-ends b) (i .1) in
     let g = cut (in-part 17 18) (each flat-group (a .groups)) _ (each flat-group (b .groups)) _
     (groups-pass a) (groups-pass b) (after-groups-ends a) (after-groups-ends b) (s .1) in

@@ -1,12 +1,12 @@
 // Where reading is, kept as six words that a term's functions hand on as one reference: what each open bracket has on the stack stays small.
 use entries::Place;
 use entries::Reading;
-use entries::numbers;
 use entries::steps::begins_term;
 use entries::steps::expect;
 use entries::steps::next_is;
 use entries::steps::refuse;
 use entries::steps::unexpected;
+use meaning::numbers;
 use types::Token;
 ghost use mathlib.Core.Path.{_≡_};
 ghost use Rattle.meaning.specs.Grammar.{is, begins-term};

@@ -14,7 +14,7 @@ use Rattle.names.specs.Word.{name-of}
 use Rattle.tables.specs.declared.Section.{Section}
 use Rattle.tables.specs.declared.Section.the-variants.{Export, Hidden, Parameter}
 use Rattle.tables.specs.declared.Row.{Row}
-use Rattle.tables.specs.Rows.{section-of, shape-of, item-of, row-at}
+use Rattle.tables.specs.Rows.{section-of, shape-of, item-of, row-at, row-size}
 use Rattle.forms.specs.Forms.{items-at}
 use Rattle.walks.specs.Lists.{any-keep}
 use Rattle.walks.specs.Shapes.{is-sort-kind}
@@ -112,7 +112,7 @@ module _ (text tape w : List ℕ) (b n p a : ℕ) where
   formal-sort-there = is-formal-sort (formals-at text tape w b n (name-of text p)) (name-of text a)
 
   pub sort-there : (i : ℕ) (y : Row) (r : Bool) → i < n → Finding (formal-sort (name-of text p) (name-of text a)) text tape w b n i
-      → y ≡ row-at w (b + i * 16) → r ≡ formal-sort (name-of text p) (name-of text a) (item-of text tape y) → r ≡ true → true ≡ formal-sort-there
+      → y ≡ row-at w (b + i * row-size) → r ≡ formal-sort (name-of text p) (name-of text a) (item-of text tape y) → r ≡ true → true ≡ formal-sort-there
   sort-there i y r h inv e f q = somewhere _ text tape w b n i y r h inv e f q ∙ sym (sorts-asked text tape w b n p a)
 
   pub sort-nowhere : (i : ℕ) → n ≤ i → Finding (formal-sort (name-of text p) (name-of text a)) text tape w b n i → false ≡ formal-sort-there
@@ -123,7 +123,8 @@ module _ (text tape w : List ℕ) (b n p a : ℕ) (s : Shape) where
   formal-function-there = is-formal-function (formals-at text tape w b n (name-of text p)) (name-of text a) s
 
   pub function-there : (i : ℕ) (y : Row) (r : Bool) → i < n → Finding (formal-function (name-of text p) (name-of text a) s) text tape w b n i
-      → y ≡ row-at w (b + i * 16) → r ≡ formal-function (name-of text p) (name-of text a) s (item-of text tape y) → r ≡ true → true ≡ formal-function-there
+      → y ≡ row-at w (b + i * row-size) → r ≡ formal-function (name-of text p) (name-of text a) s (item-of text tape y) → r ≡ true
+      → true ≡ formal-function-there
   function-there i y r h inv e f q = somewhere _ text tape w b n i y r h inv e f q ∙ sym (functions-asked text tape w b n p a s)
 
   pub function-nowhere : (i : ℕ) → n ≤ i → Finding (formal-function (name-of text p) (name-of text a) s) text tape w b n i → false ≡ formal-function-there

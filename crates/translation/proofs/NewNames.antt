@@ -11,6 +11,7 @@ use Rattle.meaning.specs.Names.{same}
 use Rattle.meaning.specs.Origins.{Shape}
 use Rattle.meaning.specs.Clauses.{paired, otherwise, renaming, is-formal-sort, new-sort}
 use Rattle.names.specs.Word.{name-of}
+use Rattle.tape.specs.Tape.{old-role}
 use Rattle.tables.specs.Entries.{role-at, word-at}
 use Rattle.translation.specs.declared.Mode.{Mode}
 use Rattle.translation.specs.Translation.{pairs-from, pairs-at, mode-formals, sort-name}
@@ -37,14 +38,14 @@ module _ (text tape : List ℕ) (pairs w : ℕ) where
     one-left : left ≡ suc (left - 1)
     one-left = omega arith
 
-    pub pairs-stop : (r ≡ 14 → ⊥) → Renamed text tape pairs w w
+    pub pairs-stop : (r ≡ old-role → ⊥) → Renamed text tape pairs w w
     unfolding renaming paired otherwise pairs-from pick
-    pairs-stop q = stays i left inv (rw (one-left, ne-eqb (role-at tape i) 14 (λ u. q (e ∙ u))))
+    pairs-stop q = stays i left inv (rw (one-left, ne-eqb (role-at tape i) old-role (λ u. q (e ∙ u))))
 
-    module _ (q : r ≡ 14) (a : ℕ) (f : a ≡ word-at tape i) (b : Bool) (g : b ≡ same (name-of text a) (name-of text w)) where
+    module _ (q : r ≡ old-role) (a : ℕ) (f : a ≡ word-at tape i) (b : Bool) (g : b ≡ same (name-of text a) (name-of text w)) where
       other : (c : ℕ) → b ≡ false → renaming (pairs-from text tape i (suc c)) (name-of text w) ≡ renaming (pairs-from text tape (i + 2) c) (name-of text w)
       unfolding renaming paired pairs-from pick
-      other c h = rw (eq-eqb (role-at tape i) 14 (sym e ∙ q), ← f, ← g, h)
+      other c h = rw (eq-eqb (role-at tape i) old-role (sym e ∙ q), ← f, ← g, h)
 
       pub pairs-again : b ≡ false → Pairing text tape pairs w (i + 2) (left - 1)
       pairs-again h = record {
@@ -55,7 +56,7 @@ module _ (text tape : List ℕ) (pairs w : ℕ) where
       pub pairs-found : (n : ℕ) → b ≡ true → SmallWord tape (i + 1) n → Renamed text tape pairs w n
       unfolding renaming paired otherwise pairs-from pick
       pairs-found n h k = record {
-        name = sym (inv .rest ∙ rw (one-left, eq-eqb (role-at tape i) 14 (sym e ∙ q), ← f, ← g, h, ← k .word));
+        name = sym (inv .rest ∙ rw (one-left, eq-eqb (role-at tape i) old-role (sym e ∙ q), ← f, ← g, h, ← k .word));
         small = λ u. k .small;
       }
 

@@ -2,14 +2,14 @@
 use mathlib.Core.Path.{_≡_}
 use Prim.Native.Nat.{ℕ, _^_, _<_}
 use mathlib.Core.Bool.{Bool, false, _&&_}
-use mathlib.Core.List.{List, []}
+use mathlib.Core.List.{List}
 use lib.Dec.{eqb}
 use lib.ListN.{length}
 use Rattle.meaning.specs.Lists.{pick, any}
 use Rattle.meaning.specs.Names.{Name, same}
 use Rattle.meaning.specs.Origins.{Shape, same-shape, is-sort, Item, in-parameter}
 use Rattle.meaning.specs.Normal.{is-called, move-type}
-use Rattle.meaning.specs.Clauses.{renaming, is-formal-sort}
+use Rattle.meaning.specs.Clauses.{renaming}
 use Rattle.names.specs.Word.{name-of}
 use Rattle.tables.specs.declared.Row.{Row}
 use Rattle.tables.specs.Entries.{word-at}

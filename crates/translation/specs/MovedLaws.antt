@@ -8,8 +8,7 @@ use borrow.Author.Tests.{eq-eqb, ne-eqb}
 use Rattle.meaning.specs.Lists.{pick}
 use Rattle.meaning.specs.Names.{Name}
 use Rattle.meaning.specs.Origins.{Sort, visible-sort, hidden-sort, FunctionType, Head, visible-head, hidden-head, ResolvedTerm, var, app, ResolvedTerms, none-left, _and-then_, ResolvedSides, ResolvedEquation, Shape, sort-shape, function-shape, variable-shape, Item}
-use Rattle.meaning.specs.Syntax.{Pair}
-use Rattle.meaning.specs.Normal.{Visible, move-sort, move-type, move-shape, move-name, move-item, move-hidden-item, move-head, move-term, move-terms, move-sides, move-equation}
+use Rattle.meaning.specs.Normal.{move-sort, move-type, move-shape, move-name, move-item, move-hidden-item, move-head, move-term, move-terms, move-sides, move-equation}
 use Rattle.meaning.specs.Clauses.{renaming, is-formal-sort, new-sort, new-function}
 use Rattle.names.specs.Word.{name-of}
 use Rattle.forms.specs.Forms.{items-at}

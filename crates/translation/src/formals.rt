@@ -3,6 +3,7 @@ use super::Mode;
 use tables::Row;
 use tables::Section;
 use tables::entries::same_word;
+use tables::kinds;
 use tables::rows::read_row;
 use tables::sections::same_section;
 use tables::sorts::same_shape;
@@ -30,7 +31,7 @@ fn is_such_sort(library: &[u8], text: &[u8], tape: &[u32], p: u32, w: u32, row: 
     ensures { λ r. ⌜ r ≡ formal-sort (name-of (joint (now (library .entry)) (now (text .entry))) p) (name-of (joint (now (library .entry)) (now (text .entry))) w) (item-of (joint (now (library .entry)) (now (text .entry))) (now (tape .entry)) row) ⌝ }
 {
     let kind = row.kind;
-    if kind == 0 {
+    if kind == kinds::SORT {
         let standing = row.standing;
         if in_parameter(library, text, p, standing) {
             let name = row.name;

@@ -3,6 +3,7 @@ use tables::entries::name_at;
 use tables::entries::role_at;
 use tables::entries::same_word;
 use tables::entries::word_at;
+use tape::roles;
 ghost use Rattle.names.specs.Joint.{joint};
 ghost use Rattle.translation.specs.Moved.{SmallWord, Renamed};
 
@@ -20,7 +21,7 @@ pub fn renaming_word(library: &[u8], text: &[u8], tape: &[u32], pairs: u32, w: u
     let mut i = pairs as usize;
     let mut left: u32 = 32;
     while 0 < left {
-        if role_at(tape, i) == 14 {
+        if role_at(tape, i) == roles::OLD {
             if same_word(library, text, name_at(tape, i), w) {
                 return small_word(tape, i + 1);
             }

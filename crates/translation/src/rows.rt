@@ -2,8 +2,10 @@
 use super::Mode;
 use super::formals::is_formal_function;
 use super::formals::is_formal_sort;
+use super::modes;
 use super::pairs::renaming_word;
 use tables::Row;
+use tables::kinds;
 ghost use mathlib.Core.Path.{_≡_};
 ghost use mathlib.Core.Bool.{true, false};
 ghost use Prim.Native.Nat.{_-_, _≤_, min};
@@ -23,10 +25,10 @@ pub fn new_sort_word(library: &[u8], text: &[u8], work: &[u32], t: usize, m: Mod
 {
     let kind = m.kind;
     let pairs = m.pairs;
-    if kind == 0 {
+    if kind == modes::AS_IS {
         return w;
     }
-    if kind == 1 {
+    if kind == modes::RENAMING {
         return renaming_word(library, text, &work[0..t], pairs, w);
     }
     if is_formal_sort(library, text, work, t, m, w) {
@@ -50,10 +52,10 @@ pub fn new_function_word(
     let kind = m.kind;
     let pairs = m.pairs;
     let name = row.name;
-    if kind == 0 {
+    if kind == modes::AS_IS {
         return name;
     }
-    if kind == 1 {
+    if kind == modes::RENAMING {
         return renaming_word(library, text, &work[0..t], pairs, name);
     }
     if is_formal_function(library, text, work, t, m, row) {
@@ -77,13 +79,13 @@ pub fn moved_sort(library: &[u8], text: &[u8], work: &[u32], t: usize, m: Mode, 
 fn input_count(kind: u32) -> usize
     ensures { λ r. ⌜ r ≡ min (kind - 2) 8 ⌝ }
 {
-    if kind < 2 {
+    if kind < kinds::FUNCTION {
         return 0;
     }
     if 10 < kind {
         return 8;
     }
-    (kind - 2) as usize
+    (kind - kinds::FUNCTION) as usize
 }
 
 // The sorts of a row of the kind under their new names.
@@ -117,10 +119,10 @@ fn moved_name(library: &[u8], text: &[u8], work: &[u32], t: usize, m: Mode, row:
 {
     let kind = row.kind;
     let name = row.name;
-    if kind == 0 {
+    if kind == kinds::SORT {
         return new_sort_word(library, text, work, t, m, name);
     }
-    if kind == 1 {
+    if kind == kinds::VARIABLE {
         return name;
     }
     new_function_word(library, text, work, t, m, row)
@@ -179,7 +181,7 @@ pub fn moved_row(
     ensures { λ r. ⌜ MovedRow (joint (now (library .entry)) (now (text .entry))) (part (now (work .entry)) 0 t) (now (work .entry)) m visible row r ⌝ }
 {
     let kind = m.kind;
-    if kind == 0 {
+    if kind == modes::AS_IS {
         return row;
     }
     if visible {

@@ -6,6 +6,7 @@ use native.Mathlib.Omega.{arith}
 use borrow.Author.Needs.{needs}
 use lib.ListN.{length, drop, length-take}
 use Rattle.forms.specs.Memory.{part}
+use Rattle.forms.specs.Forms.{form-size}
 use Rattle.layout.specs.Layout.{kept-start, table-start}
 use Rattle.module_set.specs.ModuleSet.{holds}
 use Rattle.modules.specs.declared.Heads.{Heads}
@@ -24,7 +25,7 @@ module _ (text : List ℕ) (t : ℕ) (w : List ℕ) (h : Heads) where
   pub given-tape : Given text t w h → t ≤ length w
   given-tape g = omega (arith, g .told .spells .within, length-take (t - 0) (drop 0 w))
 
-  pub given-table : (table rows : ℕ) → Given text t w h → table ≡ table-start → rows ≤ 65 * 16 → table + rows ≤ length w
+  pub given-table : (table rows : ℕ) → Given text t w h → table ≡ table-start → rows ≤ 65 * form-size → table + rows ≤ length w
   given-table table rows g e l = omega (arith, e, l, table-there w (g .size))
 
   pub asked-there : (k set : ℕ) → Given text t w h → holds set ≡ reached-set text (part w 0 t) h k → k < h .count → Asked h set k

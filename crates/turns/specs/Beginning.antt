@@ -14,7 +14,7 @@ use Rattle.meaning.specs.Names.{Name, same}
 use Rattle.meaning.specs.Reached.{Placed, in-turn, reached, total-of, module-names}
 use Rattle.forms.specs.declared.Form.{Form}
 use Rattle.forms.specs.Memory.{part}
-use Rattle.forms.specs.Forms.{Stands}
+use Rattle.forms.specs.Forms.{Stands, form-size}
 use Rattle.forms.specs.FormLaws.{tape-same}
 use Rattle.layout.specs.Layout.{tape-end, kept-start, table-start, memory-laid}
 use Rattle.module_set.specs.ModuleSet.{holds}
@@ -39,7 +39,7 @@ table-behind : tape-end ≤ table-start
 unfolding tape-end table-start
 table-behind = omega arith
 
-pub table-there : (w : List ℕ) → memory-size ≤ length w → table-start + 65 * 16 ≤ length w
+pub table-there : (w : List ℕ) → memory-size ≤ length w → table-start + 65 * form-size ≤ length w
 unfolding memory-size table-start
 table-there w h = omega arith
 

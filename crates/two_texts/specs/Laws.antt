@@ -1,36 +1,35 @@
 -- From the tape of each text to the tape of both.
 use mathlib.Core.Path.{_≡_, refl, sym, ap, subst, _∙_}
-use Prim.Native.Nat.{ℕ, _+_, _-_, _*_, _<_, _≤_, min}
+use Prim.Native.Nat.{ℕ, _+_, _-_, _*_, _≤_, min}
 use native.Mathlib.Omega.{arith}
 use mathlib.Core.Bool.{true, false}
 use mathlib.Core.List.{List, [], _∷_, _++_, map}
-use lib.Dec.{eqb}
 use lib.ListN.{length, take, drop, length-append, length-drop, length-take, length-map}
-use lib.Seq.{take-append-add, take-append-le, take-at, drop-at, take-all, take-add, length-take-le}
+use lib.Seq.{take-append-add, take-append-le, take-at, drop-at, length-take-le}
 use borrow.Author.Tests.{eq-eqb, ne-eqb}
 use mir.Syntax.{w32, w64}
 use mir.Val.{Fits}
 use Rattle.meaning.specs.Lists.{pick, each}
 use Rattle.meaning.specs.Names.{Name}
-use Rattle.meaning.specs.Numbers.{text-size, module-limit}
+use Rattle.meaning.specs.Numbers.{text-size}
 use Rattle.meaning.specs.Syntax.{Module}
-use Rattle.meaning.specs.Grammar.{State, Result, done, refused}
+use Rattle.meaning.specs.Grammar.{Result}
 use Rattle.meaning.specs.Grammar
 use Rattle.meaning.specs.Reached.{module-names}
-use Rattle.meaning.specs.Texts.{two-texts, Reading, all-read, refused-in, behind, read-behind, library-first, read-texts}
+use Rattle.meaning.specs.Texts.{two-texts, Reading, refused-in, behind, read-behind, library-first, read-texts}
 use Rattle.meaning.specs.OrderLaws.{Every}
-use Rattle.limits.specs.EveryLaws.{every-append}
+use Rattle.laws.specs.EveryLaws.{every-append}
 use Rattle.limits.specs.Limits.{text-few}
 use Rattle.names.specs.Word.{name-of}
 use Rattle.names.specs.Joint.{joint}
 use Rattle.tape.specs.Tape.{Entry, entries, spelled, flat-module, flat-modules}
-use Rattle.tables.specs.Entries.{word-at, name-at}
+use Rattle.tables.specs.Entries.{word-at}
 use Rattle.entries.specs.declared.Place.{Place}
 use Rattle.entries.specs.declared.Reading as Entries
 use Rattle.entries.specs.declared.Reading.the-variants.{Done, Refused}
 use Rattle.entries.specs.Model.{Out, out}
 use Rattle.entries.specs.Model
-use Rattle.meant.specs.Matches.{Inside, state}
+use Rattle.meant.specs.Matches.{state}
 use Rattle.meant.specs.Meant.{Says, Meant, done-meant, refused-meant}
 use Rattle.reading.specs.Known.{named-so}
 use Rattle.modules.specs.declared.Heads.{Heads}

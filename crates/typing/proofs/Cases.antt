@@ -11,8 +11,9 @@ use lib.Dec.{eqb, ltb}
 use lib.ListN.{length, getD, set, take, drop, length-take, length-drop, List·getD-eq-default}
 use Rattle.meaning.specs.Lists.{pick, before}
 use Rattle.names.specs.Word.{name-of}
+use Rattle.tape.specs.Tape.{alone-role, head-role, close-role, prefix-role, infix-role}
 use Rattle.tables.specs.Entries.{role-at, word-at}
-use Rattle.tables.specs.Rows.{sort-of, words-from, row-at}
+use Rattle.tables.specs.Rows.{sort-of, words-from, row-at, row-size}
 use Rattle.typing.specs.declared.Known.{Known}
 use Rattle.typing.specs.declared.Answer.{Answer}
 use Rattle.typing.specs.declared.Answer.the-variants.{Sorted, Ill}
@@ -30,11 +31,11 @@ module _ (k : Known) (row n : ℕ) where
   unfolding node-word pick
   node-hidden h = rw (le-ltb row (k .visible) h)
 
-  pub settle-done : (q next free : ℕ) (w u : List ℕ) (s v : ℕ) → s ≡ getD w (k .base + row * 16 + 14) 0 → v ≡ node-word k row n → u ≡ set w q v
+  pub settle-done : (q next free : ℕ) (w u : List ℕ) (s v : ℕ) → s ≡ getD w (k .base + row * row-size + 14) 0 → v ≡ node-word k row n → u ≡ set w q v
       → out (Sorted s next free) u ≡ settled k q row n next free w
   unfolding settled row-at words-from
   settle-done q next free w u s v e f g =
-      let place : k .base + row * 16 + 14 ≡ suc (suc (suc (suc (suc (suc (suc (suc (k .base + row * 16 + 6)))))))) = omega arith in
+      let place : k .base + row * row-size + 14 ≡ suc (suc (suc (suc (suc (suc (suc (suc (k .base + row * row-size + 6)))))))) = omega arith in
       rw (← f, g, e, place)
 
 -- ---- a name: a is its word, v and f are the rows found
@@ -71,34 +72,34 @@ module _ (text : List ℕ) (k : Known) (i q : ℕ) (w : List ℕ) where
 -- ---- how many arguments there are, and where they end
 
 module _ (role : ℕ) where
-  pub arguments-head : role ≡ 21 → 9 ≡ arguments-of role
+  pub arguments-head : role ≡ head-role → 9 ≡ arguments-of role
   unfolding arguments-of pick
-  arguments-head h = rw (eq-eqb role 21 h)
+  arguments-head h = rw (eq-eqb role head-role h)
 
-  pub closers-head : role ≡ 21 → 1 ≡ closers-of role
+  pub closers-head : role ≡ head-role → 1 ≡ closers-of role
   unfolding closers-of pick
-  closers-head h = rw (eq-eqb role 21 h)
+  closers-head h = rw (eq-eqb role head-role h)
 
-  module _ (h : role ≡ 21 → ⊥) where
-    pub arguments-prefix : role ≡ 25 → 1 ≡ arguments-of role
+  module _ (h : role ≡ head-role → ⊥) where
+    pub arguments-prefix : role ≡ prefix-role → 1 ≡ arguments-of role
     unfolding arguments-of pick
-    arguments-prefix g = rw (ne-eqb role 21 h, eq-eqb role 25 g)
+    arguments-prefix g = rw (ne-eqb role head-role h, eq-eqb role prefix-role g)
 
-    pub arguments-infix : (role ≡ 25 → ⊥) → role ≡ 26 → 2 ≡ arguments-of role
+    pub arguments-infix : (role ≡ prefix-role → ⊥) → role ≡ infix-role → 2 ≡ arguments-of role
     unfolding arguments-of pick
-    arguments-infix g f = rw (ne-eqb role 21 h, ne-eqb role 25 g, eq-eqb role 26 f)
+    arguments-infix g f = rw (ne-eqb role head-role h, ne-eqb role prefix-role g, eq-eqb role infix-role f)
 
-    pub arguments-none : (role ≡ 25 → ⊥) → (role ≡ 26 → ⊥) → 0 ≡ arguments-of role
+    pub arguments-none : (role ≡ prefix-role → ⊥) → (role ≡ infix-role → ⊥) → 0 ≡ arguments-of role
     unfolding arguments-of pick
-    arguments-none g f = rw (ne-eqb role 21 h, ne-eqb role 25 g, ne-eqb role 26 f)
+    arguments-none g f = rw (ne-eqb role head-role h, ne-eqb role prefix-role g, ne-eqb role infix-role f)
 
     pub closers-none : 0 ≡ closers-of role
     unfolding closers-of pick
-    closers-none = rw (ne-eqb role 21 h)
+    closers-none = rw (ne-eqb role head-role h)
 
   pub arguments-few : (a : ℕ) → a ≡ arguments-of role → a ≤ 9
   unfolding arguments-of pick
-  arguments-few a e = rw e (go (eqb role 21) (eqb role 25) (eqb role 26))
+  arguments-few a e = rw e (go (eqb role head-role) (eqb role prefix-role) (eqb role infix-role))
     where
       go : (x y z : Bool) → pick x 9 (pick y 1 (pick z 2 0)) ≤ 9
       go true y z = omega arith
@@ -108,7 +109,7 @@ module _ (role : ℕ) where
 
   pub closers-few : (c : ℕ) → c ≡ closers-of role → c ≤ 1
   unfolding closers-of pick
-  closers-few c e = rw e (go (eqb role 21))
+  closers-few c e = rw e (go (eqb role head-role))
     where
       go : (x : Bool) → pick x 1 0 ≤ 1
       go true = omega arith
@@ -119,7 +120,7 @@ module _ (tape : List ℕ) (c left i : ℕ) where
   unfolding ends-at pick
   ends-counted h = rw (eq-eqb c 0 h)
 
-  pub ends-closed : (role : ℕ) → role ≡ role-at tape i → (c ≡ 0 → ⊥) → eqb role 22 ≡ ends-at tape c left i
+  pub ends-closed : (role : ℕ) → role ≡ role-at tape i → (c ≡ 0 → ⊥) → eqb role close-role ≡ ends-at tape c left i
   unfolding ends-at pick
   ends-closed role e h = rw (ne-eqb c 0 h, e)
 
@@ -215,18 +216,18 @@ module _ (text : List ℕ) (k : Known) (d i q : ℕ) (w : List ℕ) where
       term-full g = rw (term-any z, lt-ltb i (k .tape) h, le-ltb q (length w) g)
 
       module _ (g : q < length w) (role : ℕ) (e : role ≡ role-at (tape-in k w) i) where
-        pub term-alone : (o : Out) → role ≡ 20 → o ≡ alone-at text k i q w → o ≡ term-at text k d i q w
+        pub term-alone : (o : Out) → role ≡ alone-role → o ≡ alone-at text k i q w → o ≡ term-at text k d i q w
         unfolding term-by pick
-        term-alone o y t = rw (term-any z, lt-ltb i (k .tape) h, lt-ltb q (length w) g, ← e, eq-eqb role 20 y) t
+        term-alone o y t = rw (term-any z, lt-ltb i (k .tape) h, lt-ltb q (length w) g, ← e, eq-eqb role alone-role y) t
 
-        module _ (x : role ≡ 20 → ⊥) (a : ℕ) (y : a ≡ arguments-of role) where
+        module _ (x : role ≡ alone-role → ⊥) (a : ℕ) (y : a ≡ arguments-of role) where
           pub term-args : (c : ℕ) (o : Out) → c ≡ closers-of role → (a ≡ 0 → ⊥) → o ≡ args-at text k (d - 1) i q c a (i + 1) (q + 1) 0 no-sorts w → o ≡ term-at text k d i q w
           unfolding term-by pick
-          term-args c o f p t = rw (term-any z, lt-ltb i (k .tape) h, lt-ltb q (length w) g, ← e, ne-eqb role 20 x, ← y, ← f, ne-eqb a 0 p) t
+          term-args c o f p t = rw (term-any z, lt-ltb i (k .tape) h, lt-ltb q (length w) g, ← e, ne-eqb role alone-role x, ← y, ← f, ne-eqb a 0 p) t
 
           pub term-other : a ≡ 0 → out Ill w ≡ term-at text k d i q w
           unfolding term-by pick
-          term-other p = rw (term-any z, lt-ltb i (k .tape) h, lt-ltb q (length w) g, ← e, ne-eqb role 20 x, ← y, eq-eqb a 0 p)
+          term-other p = rw (term-any z, lt-ltb i (k .tape) h, lt-ltb q (length w) g, ← e, ne-eqb role alone-role x, ← y, eq-eqb a 0 p)
 
 -- what the answers of this crate hand to `search`
 pub ruleset cases = (node-visible, node-hidden, settle-done, row-of-variable, row-of-function, alone-variable, alone-constant, applied-found, applied-ill, arguments-head, arguments-prefix, arguments-infix, arguments-none, closers-head, closers-none, ends-counted, ends-closed, needs)

@@ -8,6 +8,7 @@ use native.Mathlib.Omega.{arith}
 use borrow.Author.Needs.{needs}
 use lib.ListN.{length, getD, set}
 use Rattle.meaning.specs.Lists.{pick}
+use Rattle.tape.specs.Tape.{alone-role}
 use Rattle.tables.specs.Entries.{role-at}
 use Rattle.forms.specs.Memory.{part}
 use Rattle.typing.specs.declared.Known.{Known}
@@ -184,13 +185,14 @@ module _ (text k : List ℕ) (d : ℕ) (p w : List ℕ) where
       deep-full g = reached-ill sought p w (term-full text (known-of k) d (getD p 0 0) (getD p 1 0) w z h g)
 
       module _ (g : getD p 1 0 < length w) (role : ℕ) (e : role ≡ role-at (part w 0 (getD k 0 0)) (getD p 0 0)) where
-        pub deep-leaf : (r : ℕ) (p′ u : List ℕ) → role ≡ 20 → Reached (alone-at text (known-of k) (getD p 0 0) (getD p 1 0) w) r p′ u → Reached sought r p′ u
+        pub deep-leaf : (r : ℕ) (p′ u : List ℕ) → role ≡ alone-role → Reached (alone-at text (known-of k) (getD p 0 0) (getD p 1 0) w) r p′ u
+            → Reached sought r p′ u
         unfolding known-of
         deep-leaf r p′ u y t =
             let o = alone-at text (known-of k) (getD p 0 0) (getD p 1 0) w in
             reached-as o sought r p′ u (term-alone text (known-of k) d (getD p 0 0) (getD p 1 0) w z h g role e o y refl) t
 
-        module _ (x : role ≡ 20 → ⊥) (a : ℕ) (y : a ≡ arguments-of role) where
+        module _ (x : role ≡ alone-role → ⊥) (a : ℕ) (y : a ≡ arguments-of role) where
           pub deep-args : (c r : ℕ) (p′ u : List ℕ) → c ≡ closers-of role → (a ≡ 0 → ⊥)
               → Reached (args-at text (known-of k) (d - 1) (getD p 0 0) (getD p 1 0) c a (getD p 0 0 + 1) (getD p 1 0 + 1) 0 no-sorts w) r p′ u → Reached sought r p′ u
           unfolding known-of

@@ -1,10 +1,10 @@
 -- One law for each way through the typer of equations, in the code's terms.
 use mathlib.Core.Path.{_≡_, refl, sym, ap, _∙_}
 use mathlib.Core.Bool.{Bool, true, false}
-use mathlib.Core.List.{List, [], _∷_}
+use mathlib.Core.List.{List}
 use Prim.Native.Nat.{ℕ, suc, _+_, _-_, _*_, _<_, _≤_}
 use native.Mathlib.Omega.{arith}
-use lib.ListN.{length, set}
+use lib.ListN.{length}
 use lib.Seq.{sets}
 use borrow.Author.Needs.{needs}
 use borrow.Author.Tests.{eq-eqb, ne-eqb, lt-ltb, le-ltb}
@@ -21,7 +21,8 @@ use Rattle.typing.specs.declared.Answer.the-variants.{Sorted, Ill}
 use Rattle.typing.specs.declared.Passed.{Passed}
 use Rattle.typing.specs.declared.Passed.the-variants.{Counted, Wrong}
 use Rattle.typing.specs.Typing.{Out, out, tape-in, term-at}
-use Rattle.typing.specs.Equations.{Pass, passed, right-checked, right-at, left-checked, sides-at, begins-at, after-sides, sides-from, after-conclusion, equation-at, equation-words, span, row-of, stored, after-equation, turn-at, told, after-turn, equations-from}
+use Rattle.typing.specs.Equations.{Pass, passed, right-checked, right-at, left-checked, sides-at, begins-at, after-sides, sides-from, after-conclusion, equation-at, span, row-of, stored, after-equation, turn-at, told, after-turn, equations-from}
+use Rattle.forms.specs.Forms.{equation-words, equation-size}
 
 -- ---- two sides; r is the answer to the term that was typed
 
@@ -132,19 +133,9 @@ pub row-told : (m : Module) (position tag conditions q free start count : ℕ) �
 unfolding row-of
 row-told m position tag conditions q free start count e f = rw (e, f)
 
-pub three-written : (w w₁ w₂ w₃ : List ℕ) (b x y z : ℕ) → w₁ ≡ set w b x → w₂ ≡ set w₁ (b + 1) y → w₃ ≡ set w₂ (b + 2) z → w₃ ≡ sets w b (x ∷ y ∷ z ∷ [])
-three-written w w₁ w₂ w₃ b x y z e f g =
-    let h : b + 1 ≡ suc b = omega arith in
-    let i : b + 2 ≡ suc (suc b) = omega arith in
-    rw (g, f, e, h, i)
-
-pub equation-written : (w u v : List ℕ) (b : ℕ) (r : EquationRow) → u ≡ sets w b (r .home ∷ r .position ∷ r .tag ∷ []) → v ≡ sets u (b + 3) (r .conditions ∷ r .start ∷ r .count ∷ [])
-    → v ≡ sets w b (equation-words r)
-unfolding equation-words
-equation-written w u v b r e f = let h : b + 3 ≡ suc (suc (suc b)) = omega arith in rw (f, e, h)
-
 pub row-stored : (k : Known) (m : Module) (position i q n free : ℕ) (w u : List ℕ) (tag : ℕ) (row : EquationRow) → tag ≡ word-at (tape-in k w) i
-    → row ≡ row-of m position tag n q free → u ≡ sets w (m .rows + position * 8) (equation-words row) → u ≡ stored k m position i q n free w
+    → row ≡ row-of m position tag n q free → u ≡ sets w (m .rows + position * equation-size) (equation-words row (row .start))
+    → u ≡ stored k m position i q n free w
 unfolding stored
 row-stored k m position i q n free w u tag row e f g = rw (← e, ← f) g
 
@@ -193,7 +184,7 @@ module _ (text : List ℕ) (k : Known) (m : Module) (i₀ q₀ : ℕ) (w₀ : Li
           }
 
 -- what the answers of the typer of equations hand to `search`
-pub ruleset passes = (right-ill, right-one, right-other, left-ill, left-well, equation-wrong, equation-on, span-none, span-told, span-over, row-told, three-written, equation-written, row-stored, turn-wrong, turn-done, needs)
+pub ruleset passes = (right-ill, right-one, right-other, left-ill, left-well, equation-wrong, equation-on, span-none, span-told, span-over, row-told, row-stored, turn-wrong, turn-done, needs)
 
 pub ruleset passing = (pass-start, pass-full, pass-end, pass-ill, pass-past, pass-kept, pass-dropped, needs)
 

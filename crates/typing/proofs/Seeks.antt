@@ -15,11 +15,11 @@ use Rattle.meaning.specs.Normal.{is-called}
 use Rattle.meaning.specs.Typing.{takes, is-variable}
 use Rattle.names.specs.Word.{name-of}
 use Rattle.tables.specs.declared.Row.{Row}
-use Rattle.tables.specs.Rows.{sort-of, type-of, shape-of, item-of, row-at}
-use Rattle.walks.specs.Lists.{agree-lengths, take-nine}
+use Rattle.tables.specs.Rows.{sort-of, type-of, shape-of, item-of, row-at, row-size}
 use Rattle.walks.specs.Shapes.{shape-function, by-kind}
 use Rattle.walks.specs.Rows.{find-start, find-end, find-again, find-here}
 use Rattle.typing.specs.Known.{variable-called, function-called}
+use Rattle.tables.specs.RowLaws.{take-nine, agree-lengths}
 
 -- ---- one row
 
@@ -78,9 +78,9 @@ module _ (text tape : List ℕ) (a : ℕ) (sorts : List ℕ) (n : ℕ) (x : Row)
   function-told r h t = rw (← e, h) t
 
 -- the same of row i of a table: v is the word of its name, and y the row
-module _ (text tape w : List ℕ) (a b i v : ℕ) (c : Bool) (e : v ≡ getD w (b + i * 16 + 1) 0) (f : c ≡ same (name-of text a) (name-of text v)) where
+module _ (text tape w : List ℕ) (a b i v : ℕ) (c : Bool) (e : v ≡ getD w (b + i * row-size + 1) 0) (f : c ≡ same (name-of text a) (name-of text v)) where
   abbrev row : Row
-  row = row-at w (b + i * 16)
+  row = row-at w (b + i * row-size)
 
   called : c ≡ same (name-of text a) (name-of text (row .name))
   unfolding row-at
@@ -89,7 +89,7 @@ module _ (text tape w : List ℕ) (a b i v : ℕ) (c : Bool) (e : v ≡ getD w (
   pub variable-off : c ≡ false → false ≡ variable-called (name-of text a) (item-of text tape row)
   variable-off h = variable-other text tape a row c called h
 
-  pub variable-there : (kind : ℕ) → kind ≡ getD w (b + i * 16 + 2) 0 → c ≡ true → eqb kind 1 ≡ variable-called (name-of text a) (item-of text tape row)
+  pub variable-there : (kind : ℕ) → kind ≡ getD w (b + i * row-size + 2) 0 → c ≡ true → eqb kind 1 ≡ variable-called (name-of text a) (item-of text tape row)
   unfolding row-at
   variable-there kind g h = rw g (variable-told text tape a row c called h)
 

@@ -15,7 +15,7 @@ use Rattle.meaning.specs.OrderLaws.{Every}
 use Rattle.meaning.specs.Syntax.{Sides}
 use Rattle.meaning.specs.Origins.{ResolvedSides}
 use Rattle.meaning.specs.Typing.{typed-sides}
-use Rattle.limits.specs.EveryLaws.{every-append}
+use Rattle.laws.specs.EveryLaws.{every-append}
 use Rattle.tape.specs.Tape.{Entry, entry}
 use Rattle.tape.specs.Tape as on-tape
 use Rattle.tables.specs.Entries.{role-at}

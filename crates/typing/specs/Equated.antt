@@ -15,7 +15,7 @@ use Rattle.meaning.specs.Syntax.{Sides, Equation, conditions-of}
 use Rattle.meaning.specs.Origins.{ResolvedSides, ResolvedEquation, Item}
 use Rattle.meaning.specs.Checks.{Outcome, fine, stop}
 use Rattle.meaning.specs.Typing.{typed-sides, typed-conditions, joined-sides, made-equation}
-use Rattle.limits.specs.EveryLaws.{every-append}
+use Rattle.laws.specs.EveryLaws.{every-append}
 use Rattle.tape.specs.Tape.{Entry, entry, tag-role, condition-role, conclusion-role}
 use Rattle.forms.specs.Memory.{Kept}
 use Rattle.forms.specs.Forms.{flat-sides, flat-equation}

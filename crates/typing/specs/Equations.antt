@@ -2,7 +2,7 @@
 -- then the conditions'.
 use Prim.Native.Nat.{ℕ, zero, suc, _+_, _-_, _*_}
 use mathlib.Core.Bool.{Bool, true, false}
-use mathlib.Core.List.{List, [], _∷_}
+use mathlib.Core.List.{List}
 use lib.Dec.{eqb, ltb}
 use lib.Seq.{sets}
 use Rattle.meaning.specs.Lists.{pick}
@@ -12,6 +12,7 @@ use Rattle.tables.specs.Entries.{role-at, word-at}
 use Rattle.tables.specs.Rows.{sort-of}
 use Rattle.typing.specs.declared.Known.{Known}
 use Rattle.forms.specs.declared.EquationRow.{EquationRow}
+use Rattle.forms.specs.Forms.{equation-words, equation-size}
 use Rattle.typing.specs.declared.Module.{Module}
 use Rattle.typing.specs.declared.Equated.{Equated}
 use Rattle.typing.specs.declared.Equated.the-variants.{All, Stop}
@@ -84,9 +85,6 @@ equation-at text k end i q w =
 
 -- ---- the equations of a module, each with its row of eight words
 
-unfoldable pub equation-words : EquationRow → List ℕ
-equation-words r = r .home ∷ r .position ∷ r .tag ∷ r .conditions ∷ r .start ∷ r .count ∷ []
-
 -- a - b as a word
 unfoldable pub span : ℕ → ℕ → ℕ
 span a b = pick (ltb (a - b) 4294967295) (a - b) 0
@@ -104,7 +102,8 @@ row-of m position tag conditions q free = record {
 
 -- the row stored, of the equation whose tag is at i
 unfoldable pub stored : Known → Module → ℕ → ℕ → ℕ → ℕ → ℕ → List ℕ → List ℕ
-stored k m position i q n free w = sets w (m .rows + position * 8) (equation-words (row-of m position (word-at (tape-in k w) i) n q free))
+stored k m position i q n free w =
+    let row = row-of m position (word-at (tape-in k w) i) n q free in sets w (m .rows + position * equation-size) (equation-words row (row .start))
 
 -- an equation that is typed has its row written
 unfoldable pub after-equation : Known → Module → ℕ → ℕ → ℕ → Passed → List ℕ → Pass

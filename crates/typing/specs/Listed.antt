@@ -20,6 +20,7 @@ use Rattle.names.specs.Word.{name-of}
 use Rattle.tape.specs.Tape as on-tape
 use Rattle.tables.specs.Entries.{word-at, name-at}
 use Rattle.forms.specs.Memory.{Kept}
+use Rattle.forms.specs.Forms.{equation-size}
 use Rattle.typing.specs.declared.Known.{Known}
 use Rattle.typing.specs.declared.Module.{Module}
 use Rattle.typing.specs.declared.Equated.the-variants.{All, Stop}
@@ -34,7 +35,7 @@ module _ (text : List ℕ) (k : Known) (w₀ : List ℕ) (m : Module) where
   -- the rows from a position on are those of the equations
   abbrev pub RowsStand : List ResolvedEquation → ℕ → ℕ → List ℕ → Type 0
   RowsStand [] position end w = Unit {0}
-  RowsStand (r ∷ rs) position end w = RowStands text k w₀ m r (m .rows + position * 8) end w × RowsStand rs (position + 1) end w
+  RowsStand (r ∷ rs) position end w = RowStands text k w₀ m r (m .rows + position * equation-size) end w × RowsStand rs (position + 1) end w
 
   pub record AllTyped (rs : List ResolvedEquation) (position q q₀ e₀ : ℕ) (w : List ℕ) (o : Told) : Type 0 where
     pub free : ℕ
@@ -44,7 +45,7 @@ module _ (text : List ℕ) (k : Known) (w₀ : List ℕ) (m : Module) where
     pub counted : free ≡ q + sum equation-nodes rs
     pub inside : free ≤ e₀
     pub pointed : (j : ℕ) → q ≤ j → j < free → Pointed text k w₀ (getD (o .memory) j 0)
-    pub below : (j : ℕ) → j < m .rows + position * 8 → getD (o .memory) j 0 ≡ getD w j 0
+    pub below : (j : ℕ) → j < m .rows + position * equation-size → getD (o .memory) j 0 ≡ getD w j 0
     pub stays : (j : ℕ) → m .nodes ≤ j → j < q → getD (o .memory) j 0 ≡ getD w j 0
 
   -- the tag of the first that is ill typed
@@ -76,7 +77,7 @@ module _ (text : List ℕ) (k : Known) (w₀ : List ℕ) (m : Module) where
   module _ (q₀ e₀ : ℕ) (l : Layout text k w₀ q₀ e₀) (size-of-memory : e₀ < 4294967295) where
     -- an equation and those behind it
     one-more : (c : Option ResolvedSides) (ks : Option (List ResolvedSides)) (name : Name) (rest : Outcome (List ResolvedEquation)) (left position i size q tag : ℕ) (w : List ℕ) (o : Pass)
-        → AgreeTurn text k w₀ m (made-equation (m .home) position name c ks) position i size q q₀ e₀ w o → m .rows + position * 8 + 6 ≤ m .nodes → m .nodes ≤ q → name-of text tag ≡ name
+        → AgreeTurn text k w₀ m (made-equation (m .home) position name c ks) position i size q q₀ e₀ w o → m .rows + position * equation-size + 6 ≤ m .nodes → m .nodes ≤ q → name-of text tag ≡ name
         → ((free : ℕ) (u : List ℕ) → Kept q₀ e₀ w₀ u → q ≤ free → free ≤ q + (size + size)
         → AgreeAll rest (position + 1) free q₀ e₀ u (equations-from text k m left (position + 1) (i + size) free u))
         → AgreeAll (made-equation (m .home) position name c ks >>= (λ x. rest >>= (λ xs. fine (x ∷ xs)))) position q q₀ e₀ w
@@ -98,7 +99,7 @@ module _ (text : List ℕ) (k : Known) (w₀ : List ℕ) (m : Module) where
               free = a .free;
               answer = a .answer ∙ ap (λ (n : ℕ). All n (a .free)) s;
               kept = a .kept;
-              rows = (row-stays r (m .rows + position * 8) (h .free) (a .free) (o .memory) _ (h .row) (omega (arith, a .counted)) (λ j b. a .below j (omega arith)) (a .stays), a .rows);
+              rows = (row-stays r (m .rows + position * equation-size) (h .free) (a .free) (o .memory) _ (h .row) (omega (arith, a .counted)) (λ j b. a .below j (omega arith)) (a .stays), a .rows);
               counted = omega (arith, a .counted, h .counted);
               inside = a .inside;
               pointed = λ j b d. by-place j b d (ltb j (h .free)) refl;
@@ -133,7 +134,7 @@ module _ (text : List ℕ) (k : Known) (w₀ : List ℕ) (m : Module) where
         rw (lt-ltb i (m .end) (omega (arith, d, c)), t .1)
 
     pub equations-typed : (es : List Equation) (left position i q : ℕ) (w : List ℕ) → length es < left → Spells text k w₀ i (each on-tape.flat-equation es) → Kept q₀ e₀ w₀ w
-        → q₀ ≤ m .rows → m .rows + (position + length es) * 8 ≤ m .nodes → m .nodes ≤ q
+        → q₀ ≤ m .rows → m .rows + (position + length es) * equation-size ≤ m .nodes → m .nodes ≤ q
         → q + (length (each on-tape.flat-equation es) + length (each on-tape.flat-equation es)) ≤ e₀ → i + length (each on-tape.flat-equation es) ≡ m .end → m .end ≤ k .tape
         → AgreeAll (typed-equations (items-in text k w₀) (m .home) position es) position q q₀ e₀ w (equations-from text k m left position i q w)
     unfolding each typed-equations sum

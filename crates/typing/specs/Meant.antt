@@ -18,16 +18,17 @@ use Rattle.meaning.specs.Syntax.{Term, node, Terms, no-terms, _then_}
 use Rattle.meaning.specs.Origins.{Section, export-section, hidden-section, parameter-section, Origin, Sort, FunctionType, visible-head, hidden-head, var, app, Shape, function-shape, variable-shape, is-sort, is-function, Item}
 use Rattle.meaning.specs.Typing.{Typed, TypedList, head-of, of-shape, found-with, no-arguments, takes, is-variable}
 use Rattle.tape.specs.Tape.{Entry, entry, alone-role, head-role, close-role, prefix-role, infix-role, role-with, closing, flat-node}
-use Rattle.tape.specs.Tape as on-tape
 use Rattle.tables.specs.Entries.{role-at, name-at}
-use Rattle.tables.specs.Rows.{sort-of, type-of, shape-of, item-of, row-at}
+use Rattle.tables.specs.Rows.{sort-of, type-of, shape-of, item-of, row-at, row-size}
 use Rattle.forms.specs.Memory.{Kept}
-use Rattle.forms.specs.FormLaws.{Apart, kept-then, kept-wider, kept-sets, kept-same, items-same, tape-same, row-same}
+use Rattle.forms.specs.FormLaws.{Apart, kept-then, kept-wider, kept-sets, kept-same, items-same, tape-same}
 use Rattle.forms.specs.Forms.{items-at, Node, how-many, flat-term, flat-terms, node-shape, node-of}
 use Rattle.walks.specs.Shapes.{by-kind}
 use Rattle.typing.specs.declared.Known.{Known}
 use Rattle.typing.specs.Typing.{tape-in, items-in, node-word, arguments-of, closers-of}
 use Rattle.typing.specs.Equations.{is-opening}
+use Rattle.tables.specs.RowLaws.{row-same}
+use Rattle.tape.specs.Tape as on-tape
 
 -- ---- lists and stores
 
@@ -84,7 +85,7 @@ module _ (text tape : List ℕ) (kind : ℕ) (sorts : List ℕ) where
 module _ (text : List ℕ) (k : Known) (w₀ : List ℕ) where
   -- the item of a known row, and the node of a word
   abbrev pub known-item : ℕ → Item
-  known-item row = item-of text (tape-in k w₀) (row-at w₀ (k .base + row * 16))
+  known-item row = item-of text (tape-in k w₀) (row-at w₀ (k .base + row * row-size))
 
   unfoldable pub node-here : ℕ → Node
   node-here v = node-of (eqb (v / 16 % 2) 0) (v % 16) (known-item (known-row k v))
@@ -142,7 +143,8 @@ module _ (text : List ℕ) (k : Known) (w₀ : List ℕ) where
         behind = rw (t .row-is) (λ e. t .seen ∙ le-ltb row (k .visible) (s .behind e));
       }
 
-  item-shape : (row : ℕ) → known-item row .shape ≡ shape-of text (tape-in k w₀) (row-at w₀ (k .base + row * 16) .kind) (row-at w₀ (k .base + row * 16) .sorts)
+  item-shape : (row : ℕ)
+      → known-item row .shape ≡ shape-of text (tape-in k w₀) (row-at w₀ (k .base + row * row-size) .kind) (row-at w₀ (k .base + row * row-size) .sorts)
   unfolding item-of
   item-shape row = refl
 
@@ -150,7 +152,7 @@ module _ (text : List ℕ) (k : Known) (w₀ : List ℕ) where
   pub record Settles (row : ℕ) (ts : TypedList) (r : Option Typed) : Type 0 where
     pub result : Typed
     pub found : r ≡ some result
-    pub sort : sort-of text (tape-in k w₀) (getD (row-at w₀ (k .base + row * 16) .sorts) 8 0) ≡ result .sort
+    pub sort : sort-of text (tape-in k w₀) (getD (row-at w₀ (k .base + row * row-size) .sorts) 8 0) ≡ result .sort
     pub flat : (node-of (ltb row (k .visible)) (how-many (ts .terms)) (known-item row) ∷ flat-terms (ts .terms)) ≡ flat-term (result .term)
     pub standing : Standing row (how-many (ts .terms))
 
@@ -158,7 +160,7 @@ module _ (text : List ℕ) (k : Known) (w₀ : List ℕ) where
       → takes ss (known-item row .shape) ≡ true → Settles row ts (found-with ts (some (known-item row)))
   unfolding found-with of-shape node-of node-shape flat-term is-sort is-function
   function-settles row ts ss stands p =
-      let r = row-at w₀ (k .base + row * 16) in
+      let r = row-at w₀ (k .base + row * row-size) in
       let t = type-of text (tape-in k w₀) (r .kind - 2) (r .sorts) in
       let i = known-item row in
       let e : i .shape ≡ function-shape t = item-shape row ∙ function-here text (tape-in k w₀) (r .kind) (r .sorts) ss (rw (item-shape row) at p) in
@@ -173,7 +175,7 @@ module _ (text : List ℕ) (k : Known) (w₀ : List ℕ) where
   pub variable-settles : (row : ℕ) → is-variable (known-item row .shape) ≡ true → k .visible ≤ row → Settles row no-arguments (found-with no-arguments (some (known-item row)))
   unfolding found-with of-shape node-of node-shape flat-term flat-terms how-many no-arguments is-sort
   variable-settles row p b =
-      let r = row-at w₀ (k .base + row * 16) in
+      let r = row-at w₀ (k .base + row * row-size) in
       let s = sort-of text (tape-in k w₀) (getD (r .sorts) 8 0) in
       let i = known-item row in
       let e : i .shape ≡ variable-shape s = item-shape row ∙ variable-here text (tape-in k w₀) (r .kind) (r .sorts) (rw (item-shape row) at p) in
@@ -279,7 +281,7 @@ module _ (text : List ℕ) (k : Known) (w₀ : List ℕ) (q₀ e₀ : ℕ) where
   -- are no variables
   pub record Layout : Type 0 where
     pub tape : k .tape ≤ q₀
-    pub rows : Apart q₀ e₀ (k .base) (k .base + k .count * 16)
+    pub rows : Apart q₀ e₀ (k .base) (k .base + k .count * row-size)
     pub inside : e₀ ≤ length w₀
     pub standing : (row : ℕ) → row < k .count → visibly (known-item text k w₀ row .standing) ≡ ltb row (k .visible)
     pub variables : (row : ℕ) → row < k .visible → is-variable (known-item text k w₀ row .shape) ≡ false
@@ -299,12 +301,12 @@ module _ (text : List ℕ) (k : Known) (w₀ : List ℕ) (q₀ e₀ : ℕ) where
       pub items-stay : items-in text k w ≡ items-in text k w₀
       items-stay =
           ap (λ (t : List ℕ). items-at text t w (k .base) (k .count)) tape-stays
-          ∙ items-same w₀ w text (tape-in k w₀) (k .base) (k .count) (kept-same q₀ e₀ (k .base) (k .base + k .count * 16) w₀ w (l .rows) kept)
+          ∙ items-same w₀ w text (tape-in k w₀) (k .base) (k .count) (kept-same q₀ e₀ (k .base) (k .base + k .count * row-size) w₀ w (l .rows) kept)
 
-      pub row-stays : (row : ℕ) → row < k .count → row-at w (k .base + row * 16) ≡ row-at w₀ (k .base + row * 16)
+      pub row-stays : (row : ℕ) → row < k .count → row-at w (k .base + row * row-size) ≡ row-at w₀ (k .base + row * row-size)
       row-stays row h =
-          row-same w₀ w (k .base + row * 16)
-          (λ i a b. kept-same q₀ e₀ (k .base) (k .base + k .count * 16) w₀ w (l .rows) kept i (omega arith) (omega arith))
+          row-same w₀ w (k .base + row * row-size)
+          (λ i a b. kept-same q₀ e₀ (k .base) (k .base + k .count * row-size) w₀ w (l .rows) kept i (omega arith) (omega arith))
 
       pub sets-kept : (q : ℕ) (vs : List ℕ) → q₀ ≤ q → q + length vs ≤ e₀ → Kept q₀ e₀ w₀ (sets w q vs)
       sets-kept q vs a b = kept-then q₀ e₀ w₀ w (sets w q vs) kept (kept-wider q (q + length vs) q₀ e₀ w (sets w q vs) a b (kept-sets vs w q))

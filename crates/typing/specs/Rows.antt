@@ -18,21 +18,21 @@ use Rattle.meaning.specs.Checks.{Outcome, fine, stop, equation-nodes}
 use Rattle.meaning.specs.Typing.{typed-sides, typed-conditions, made-equation}
 use Rattle.meaning.specs.Names.{Name}
 use Rattle.names.specs.Word.{name-of}
-use Rattle.tape.specs.Tape as on-tape
 use Rattle.tables.specs.Entries.{word-at, name-at}
 use Rattle.forms.specs.Memory.{Kept}
 use Rattle.forms.specs.FormLaws.{kept-sets}
-use Rattle.forms.specs.Forms.{flat-equation}
+use Rattle.forms.specs.Forms.{flat-equation, equation-words, equation-size}
 use Rattle.forms.specs.FlatMoves.{equation-count}
 use Rattle.typing.specs.declared.Known.{Known}
 use Rattle.typing.specs.declared.Module.{Module}
 use Rattle.typing.specs.declared.Passed.{Passed}
 use Rattle.typing.specs.declared.Passed.the-variants.{Counted, Wrong}
 use Rattle.typing.specs.Typing.{tape-in, items-in}
-use Rattle.typing.specs.Equations.{Pass, begins-at, equation-at, equation-words, span, row-of, stored, after-equation, turn-at}
+use Rattle.typing.specs.Equations.{Pass, begins-at, equation-at, span, row-of, stored, after-equation, turn-at}
 use Rattle.typing.specs.Meant.{Spells, Layout, node-here, Pointed, tape-stays, sets-kept}
 use Rattle.typing.specs.Chosen.{Stand, stand-stays, stand-sets}
 use Rattle.typing.specs.Equated.{WellEquation, AgreeEquation, equation-entries, equation-typed}
+use Rattle.tape.specs.Tape as on-tape
 
 -- each of the words that stand from q on
 stand-every : (P : ℕ → Type 0) (vs : List ℕ) (q : ℕ) (w : List ℕ) → Stand q vs w → Every P vs → (j : ℕ) → q ≤ j → j < q + length vs → P (getD w j 0)
@@ -63,11 +63,11 @@ module _ (text : List ℕ) (k : Known) (w₀ : List ℕ) (m : Module) where
     pub kept : Kept q₀ e₀ w₀ (o .memory)
     pub counted : free ≡ q + equation-nodes r
     pub room : free ≤ q + (size + size)
-    pub row : RowStands r (m .rows + position * 8) free (o .memory)
+    pub row : RowStands r (m .rows + position * equation-size) free (o .memory)
     pub pointed : (j : ℕ) → q ≤ j → j < free → Pointed text k w₀ (getD (o .memory) j 0)
     pub tape : tape-in k (o .memory) ≡ tape-in k w₀
-    pub below : (j : ℕ) → j < m .rows + position * 8 → getD (o .memory) j 0 ≡ getD w j 0
-    pub between : (j : ℕ) → m .rows + position * 8 + 6 ≤ j → j < q → getD (o .memory) j 0 ≡ getD w j 0
+    pub below : (j : ℕ) → j < m .rows + position * equation-size → getD (o .memory) j 0 ≡ getD w j 0
+    pub between : (j : ℕ) → m .rows + position * equation-size + 6 ≤ j → j < q → getD (o .memory) j 0 ≡ getD w j 0
 
   abbrev pub AgreeTurn : Outcome ResolvedEquation → ℕ → ℕ → ℕ → ℕ → ℕ → ℕ → List ℕ → Pass → Type 0
   AgreeTurn (stop number culprit) position i size q q₀ e₀ w o = o .answer ≡ Wrong
@@ -88,11 +88,11 @@ module _ (text : List ℕ) (k : Known) (w₀ : List ℕ) (m : Module) where
 
     -- rows stand in front of the nodes
     stored-turn : (r : ResolvedEquation) (position i size q : ℕ) (w : List ℕ) (o : Pass) → WellEquation text k w₀ r i size q q₀ e₀ w o → q₀ ≤ m .rows
-        → m .rows + position * 8 + 6 ≤ m .nodes → m .nodes ≤ q → q + (size + size) ≤ e₀ → r .module-number ≡ m .home → r .position ≡ position → name-at text (tape-in k w₀) i ≡ r .tag
+        → m .rows + position * equation-size + 6 ≤ m .nodes → m .nodes ≤ q → q + (size + size) ≤ e₀ → r .module-number ≡ m .home → r .position ≡ position → name-at text (tape-in k w₀) i ≡ r .tag
         → WellTurn r position i size q q₀ e₀ w (after-equation k m position i q (o .answer) (o .memory))
     unfolding after-equation stored equation-words row-of
     stored-turn r position i size q w o h x y z v e f g =
-        let b = m .rows + position * 8 in
+        let b = m .rows + position * equation-size in
         let u = o .memory in
         let s₁ : span q (m .nodes) ≡ q - m .nodes = span-is q (m .nodes) (omega (arith, size-of-memory)) in
         let s₂ : span (q + length (h .words)) q ≡ length (h .words) = span-is (q + length (h .words)) q (omega (arith, h .room, size-of-memory)) ∙ omega arith in
@@ -127,7 +127,7 @@ module _ (text : List ℕ) (k : Known) (w₀ : List ℕ) (m : Module) where
         })
 
     turn-made : (c : Option ResolvedSides) (ks : Option (List ResolvedSides)) (tag : Name) (position i size q : ℕ) (w : List ℕ) (o : Pass)
-        → AgreeEquation text k w₀ (made-equation (m .home) position tag c ks) i size q q₀ e₀ w o → q₀ ≤ m .rows → m .rows + position * 8 + 6 ≤ m .nodes → m .nodes ≤ q
+        → AgreeEquation text k w₀ (made-equation (m .home) position tag c ks) i size q q₀ e₀ w o → q₀ ≤ m .rows → m .rows + position * equation-size + 6 ≤ m .nodes → m .nodes ≤ q
         → q + (size + size) ≤ e₀ → name-at text (tape-in k w₀) i ≡ tag
         → AgreeTurn (made-equation (m .home) position tag c ks) position i size q q₀ e₀ w (after-equation k m position i q (o .answer) (o .memory))
     unfolding made-equation
@@ -138,7 +138,7 @@ module _ (text : List ℕ) (k : Known) (w₀ : List ℕ) (m : Module) where
 
     -- one turn of the loop over a module's equations
     pub turn-typed : (e : Equation) (position i q : ℕ) (w : List ℕ) → i < k .tape → Spells text k w₀ i (on-tape.flat-equation e) → Kept q₀ e₀ w₀ w
-        → q₀ ≤ m .rows → m .rows + position * 8 + 6 ≤ m .nodes → m .nodes ≤ q
+        → q₀ ≤ m .rows → m .rows + position * equation-size + 6 ≤ m .nodes → m .nodes ≤ q
         → q + (length (on-tape.flat-equation e) + length (on-tape.flat-equation e)) ≤ e₀ → i + length (on-tape.flat-equation e) ≤ m .end
         → begins-at (tape-in k w₀) (i + length (on-tape.flat-equation e)) (m .end) ≡ false
         → AgreeTurn (made-equation (m .home) position (e .tag) (typed-sides (items-in text k w₀) (e .conclusion)) (typed-conditions (items-in text k w₀) (conditions-of e)))

@@ -13,7 +13,7 @@ use Rattle.meaning.specs.OrderLaws.{Every}
 use Rattle.meaning.specs.Syntax.{Sides}
 use Rattle.meaning.specs.Origins.{same-sort, ResolvedSides}
 use Rattle.meaning.specs.Typing.{Typed, equated, typed, typed-sides}
-use Rattle.limits.specs.EveryLaws.{every-append}
+use Rattle.laws.specs.EveryLaws.{every-append}
 use Rattle.tape.specs.Tape.{Entry}
 use Rattle.tape.specs.Tape as on-tape
 use Rattle.forms.specs.Memory.{Kept}

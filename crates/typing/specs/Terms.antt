@@ -19,14 +19,14 @@ use Rattle.meaning.specs.Syntax.{Term, node, Terms, no-terms, _then_}
 use Rattle.meaning.specs.Origins.{Sort, same-sort, Shape, function-shape, Item}
 use Rattle.meaning.specs.Normal.{is-called}
 use Rattle.meaning.specs.Typing.{Typed, TypedList, found-with, no-arguments, takes, is-variable, joined-typed, applied, alone, with-arguments, typed, typed-list}
-use Rattle.limits.specs.EveryLaws.{every-append}
+use Rattle.tables.specs.RowLaws.{agree-lengths}
+use Rattle.laws.specs.EveryLaws.{every-append}
 use Rattle.tape.specs.Tape.{Entry, entry, alone-role, close-role, flat-node}
 use Rattle.tape.specs.Tape as on-tape
 use Rattle.tables.specs.Entries.{role-at, name-at}
-use Rattle.tables.specs.Rows.{sort-of, type-of, item-of, words-from, row-at}
+use Rattle.tables.specs.Rows.{sort-of, type-of, item-of, words-from, row-at, row-size}
 use Rattle.forms.specs.Memory.{Kept}
 use Rattle.forms.specs.Forms.{items-at, how-many, flat-term, flat-terms, node-of}
-use Rattle.walks.specs.Lists.{agree-lengths}
 use Rattle.walks.specs.Shapes.{by-kind}
 use Rattle.walks.specs.Rows.{first-row, row-passes, no-row}
 use Rattle.typing.specs.declared.Known.{Known}
@@ -64,7 +64,7 @@ module _ (text tape w : List ℕ) (f : Name) (ss : List Sort) (many : 9 < length
   first-never : (b n : ℕ) → first (function-called f ss) (items-at text tape w b n) ≡ none
   unfolding first items-at pick
   first-never b zero = refl
-  first-never b (suc n) = rw (never b) (first-never (b + 16) n)
+  first-never b (suc n) = rw (never b) (first-never (b + row-size) n)
 
 -- ---- a term that is typed, and a list of terms
 
@@ -178,11 +178,11 @@ module _ (text : List ℕ) (k : Known) (w₀ : List ℕ) (q₀ e₀ : ℕ) (l : 
       let place : q + 1 + length vs ≡ q + suc (length vs) = omega arith in
       rw (s .found)
       (record {
-        sort = getD (row-at w₀ (k .base + row * 16) .sorts) 8 0;
+        sort = getD (row-at w₀ (k .base + row * row-size) .sorts) 8 0;
         words = v ∷ vs;
         same =
             rw (row-stays text k w₀ q₀ e₀ l (sets w (q + 1) vs) kept row h, place)
-            (ap (out (Sorted (getD (row-at w₀ (k .base + row * 16) .sorts) 8 0) (i + size) (q + suc (length vs))))
+            (ap (out (Sorted (getD (row-at w₀ (k .base + row * row-size) .sorts) 8 0) (i + size) (q + suc (length vs))))
             (rw (add-one q) (sets-head vs w q (suc q) v (omega arith))));
         sorted = s .sort;
         nodes = ap₂ _∷_ (node-settled text k w₀ row n few′ ∙ ap (λ (m : ℕ). node-of (ltb row (k .visible)) m (known-item text k w₀ row)) (sym e)) f ∙ s .flat;

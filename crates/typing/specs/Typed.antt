@@ -17,15 +17,16 @@ use Rattle.meaning.specs.OrderLaws.{Every}
 use Rattle.meaning.specs.Normal.{Visible, Normal}
 use Rattle.meaning.specs.Checks.{Outcome, fine, stop, _>>=_, equation-nodes}
 use Rattle.meaning.specs.Typing.{is-variable, typed-equations}
-use Rattle.limits.specs.Nodes.{source-equation, EachWithin, equations-within}
+use Rattle.laws.specs.Reading.{source-equation}
+use Rattle.limits.specs.Nodes.{EachWithin, equations-within}
 use Rattle.tape.specs.Tape as on-tape
-use Rattle.tables.specs.Rows.{item-of, row-at}
+use Rattle.tables.specs.Rows.{item-of, row-at, row-size}
 use Rattle.forms.specs.declared.Form.{Form}
 use Rattle.forms.specs.declared.Made.{Made}
 use Rattle.forms.specs.declared.Made.the-variants.{Done, Refused}
 use Rattle.forms.specs.Memory.{part, Kept}
 use Rattle.forms.specs.FormLaws.{Apart, kept-all, kept-same, slots-same, items-same, items-split}
-use Rattle.forms.specs.Forms.{items-at, node-row, node-of, node-in, nodes-of, flat-equation, equation-row-at, EquationStands, EquationsStand, node-item, VisiblePoint, HiddenPoint, Pointing, visible-at}
+use Rattle.forms.specs.Forms.{items-at, node-row, node-of, node-in, nodes-of, flat-equation, equation-row-at, EquationStands, EquationsStand, node-item, VisiblePoint, HiddenPoint, Pointing, visible-at, equation-size, slot-size}
 use Rattle.forms.specs.Verdicts.{lone-of}
 use Rattle.forms.specs.Blocks.{Makes}
 use Rattle.typing.specs.declared.Known.{Known}
@@ -80,10 +81,10 @@ Unseen i = visibly (i .standing) ≡ false
 -- and up to `high` for twice as many nodes as their entries: a pass writes the nodes that it drops as well
 pub record OwnLaid (text : List ℕ) (t : ℕ) (f : Form) (v : Visible) (hidden : List Item) (equations entries high : ℕ) (w : List ℕ) : Type 0 where
   pub tape : t ≤ f .equations
-  pub behind : f .hidden ≡ f .visible + f .«visible_count» * 16
-  pub items-apart : Apart (f .equations) high (f .visible) (f .visible + (f .«visible_count» + f .«hidden_count») * 16)
-  pub names-apart : Apart (f .equations) high (f .parameters) (f .parameters + f .«parameter_count» * 2)
-  pub rows : f .equations + equations * 8 ≤ f .nodes
+  pub behind : f .hidden ≡ f .visible + f .«visible_count» * row-size
+  pub items-apart : Apart (f .equations) high (f .visible) (f .visible + (f .«visible_count» + f .«hidden_count») * row-size)
+  pub names-apart : Apart (f .equations) high (f .parameters) (f .parameters + f .«parameter_count» * slot-size)
+  pub rows : f .equations + equations * equation-size ≤ f .nodes
   pub nodes : f .nodes + (entries + entries) ≤ high
   pub inside : high ≤ length w
   pub size : high < 4294967295
@@ -103,12 +104,12 @@ pub record OwnTyped (text : List ℕ) (t : ℕ) (f : Form) (high : ℕ) (w w′ 
 -- ---- tables
 
 every-item : (P : Item → Type 0) (text tape w : List ℕ) (b c : ℕ) → Every P (items-at text tape w b c) → (i : ℕ) → i < c
-    → P (item-of text tape (row-at w (b + i * 16)))
+    → P (item-of text tape (row-at w (b + i * row-size)))
 unfolding items-at
 every-item P text tape w b zero h i l = absurd (omega arith)
-every-item P text tape w b (suc c) h zero l = let e : b + 0 * 16 ≡ b = omega arith in rw e (h .0)
+every-item P text tape w b (suc c) h zero l = let e : b + 0 * row-size ≡ b = omega arith in rw e (h .0)
 every-item P text tape w b (suc c) h (suc i) l =
-    let e : b + suc i * 16 ≡ b + 16 + i * 16 = omega arith in rw e (every-item P text tape w (b + 16) c (h .1) i (omega arith))
+    let e : b + suc i * row-size ≡ b + row-size + i * row-size = omega arith in rw e (every-item P text tape w (b + row-size) c (h .1) i (omega arith))
 
 -- words that stand are those taken there
 stand-taken : (vs : List ℕ) (q : ℕ) (w : List ℕ) → q + length vs ≤ length w → Stand q vs w → take (length vs) (drop q w) ≡ vs
@@ -149,7 +150,7 @@ module _ (text : List ℕ) (t : ℕ) (f : Form) (v : Visible) (hidden : List Ite
   unfolding visible-at
   visible-items = ap (λ (u : Visible). u .items) (laid .visible)
 
-  hidden-items : items-at text tape w₀ (f .visible + f .«visible_count» * 16) (f .«hidden_count») ≡ hidden
+  hidden-items : items-at text tape w₀ (f .visible + f .«visible_count» * row-size) (f .«hidden_count») ≡ hidden
   hidden-items = rw (laid .behind) at (laid .hidden-items)
 
   known-are : items-in text k w₀ ≡ v .items ++ hidden
@@ -160,9 +161,9 @@ module _ (text : List ℕ) (t : ℕ) (f : Form) (v : Visible) (hidden : List Ite
 
   hidden-row : (row : ℕ) → f .«visible_count» ≤ row → row < f .«visible_count» + f .«hidden_count» → Unseen (known-item text k w₀ row)
   hidden-row row h l =
-      let e : f .visible + f .«visible_count» * 16 + (row - f .«visible_count») * 16 ≡ f .visible + row * 16 = omega arith in
+      let e : f .visible + f .«visible_count» * row-size + (row - f .«visible_count») * row-size ≡ f .visible + row * row-size = omega arith in
       rw e at
-      (every-item Unseen text tape w₀ (f .visible + f .«visible_count» * 16) (f .«hidden_count») (rw hidden-items unseen) (row - f .«visible_count»)
+      (every-item Unseen text tape w₀ (f .visible + f .«visible_count» * row-size) (f .«hidden_count») (rw hidden-items unseen) (row - f .«visible_count»)
       (omega arith))
 
   layout : Layout text k w₀ (f .equations) high
@@ -188,22 +189,22 @@ module _ (text : List ℕ) (t : ℕ) (f : Form) (v : Visible) (hidden : List Ite
     tape-still : part w 0 t ≡ tape
     tape-still = tape-stays text k w₀ (f .equations) high layout w kept
 
-    row-still : (row : ℕ) → row < f .«visible_count» + f .«hidden_count» → row-at w (f .visible + row * 16) ≡ row-at w₀ (f .visible + row * 16)
+    row-still : (row : ℕ) → row < f .«visible_count» + f .«hidden_count» → row-at w (f .visible + row * row-size) ≡ row-at w₀ (f .visible + row * row-size)
     row-still row h = row-stays text k w₀ (f .equations) high layout w kept row h
 
-    items-still : (b i : ℕ) → f .visible ≤ b → b + i * 16 ≤ f .visible + (f .«visible_count» + f .«hidden_count») * 16
+    items-still : (b i : ℕ) → f .visible ≤ b → b + i * row-size ≤ f .visible + (f .«visible_count» + f .«hidden_count») * row-size
         → items-at text (part w 0 t) w b i ≡ items-at text tape w₀ b i
     items-still b i h l =
         ap (λ (u : List ℕ). items-at text u w b i) tape-still
         ∙ items-same w₀ w text tape b i
-        (λ j x y. kept-same (f .equations) high (f .visible) (f .visible + (f .«visible_count» + f .«hidden_count») * 16) w₀ w (laid .items-apart) kept j
+        (λ j x y. kept-same (f .equations) high (f .visible) (f .visible + (f .«visible_count» + f .«hidden_count») * row-size) w₀ w (laid .items-apart) kept j
         (omega arith) (omega arith))
 
     visible-still : visible-at text (part w 0 t) w g ≡ v
     unfolding visible-at
     visible-still =
         let slots = slots-same w₀ w text (f .parameters) (f .«parameter_count»)
-        (kept-same (f .equations) high (f .parameters) (f .parameters + f .«parameter_count» * 2) w₀ w (laid .names-apart) kept) in
+        (kept-same (f .equations) high (f .parameters) (f .parameters + f .«parameter_count» * slot-size) w₀ w (laid .names-apart) kept) in
         let items = items-still (f .visible) (f .«visible_count») (omega arith) (omega arith) in
         (λ z. record { parameters = slots z; items = items z }) ∙ laid .visible
 
@@ -217,11 +218,11 @@ module _ (text : List ℕ) (t : ℕ) (f : Form) (v : Visible) (hidden : List Ite
     item-there x p = rw tape-still (ap (item-of text tape) (go (eqb (x / 16 % 2) 0) (p .inside)))
       where
         go : (b : Bool) → pick b (x / 32) (f .«visible_count» + (x / 32 - 0)) < f .«visible_count» + f .«hidden_count»
-            → pick b (row-at w (f .visible + x / 32 * 16)) (row-at w (f .hidden + x / 32 * 16))
-            ≡ row-at w₀ (f .visible + pick b (x / 32) (f .«visible_count» + (x / 32 - 0)) * 16)
+            → pick b (row-at w (f .visible + x / 32 * row-size)) (row-at w (f .hidden + x / 32 * row-size))
+            ≡ row-at w₀ (f .visible + pick b (x / 32) (f .«visible_count» + (x / 32 - 0)) * row-size)
         go true h = row-still (x / 32) h
         go false h =
-            let e : f .hidden + x / 32 * 16 ≡ f .visible + (f .«visible_count» + (x / 32 - 0)) * 16 = omega (arith, laid .behind) in
+            let e : f .hidden + x / 32 * row-size ≡ f .visible + (f .«visible_count» + (x / 32 - 0)) * row-size = omega (arith, laid .behind) in
             rw e (row-still (f .«visible_count» + (x / 32 - 0)) h)
 
     nodes-there : (xs : List ℕ) → Every (Pointed text k w₀) xs → nodes-of text (part w 0 t) w g xs ≡ map (node-here text k w₀) xs
@@ -278,11 +279,11 @@ module _ (text : List ℕ) (t : ℕ) (f : Form) (v : Visible) (hidden : List Ite
         })
 
     rows-stand : (rs : List ResolvedEquation) (position : ℕ) → f .nodes + c ≤ high → RowsStand text k w₀ m rs position (f .nodes + c) w
-        → EquationsStand text (part w 0 t) w g (f .equations + position * 8) rs
+        → EquationsStand text (part w 0 t) w g (f .equations + position * equation-size) rs
     rows-stand [] position h s = tt
     rows-stand (r ∷ rs) position h s =
-        let e : f .equations + position * 8 + 8 ≡ f .equations + (position + 1) * 8 = omega arith in
-        (row-stands r (f .equations + position * 8) h (s .0), rw e (rows-stand rs (position + 1) h (s .1)))
+        let e : f .equations + position * equation-size + equation-size ≡ f .equations + (position + 1) * equation-size = omega arith in
+        (row-stands r (f .equations + position * equation-size) h (s .0), rw e (rows-stand rs (position + 1) h (s .1)))
 
   -- ---- the whole form
 
@@ -299,7 +300,7 @@ module _ (text : List ℕ) (t : ℕ) (f : Form) (v : Visible) (hidden : List Ite
       let nodes : span (h .free) (f .nodes) ≡ c = span-is text k w₀ m (h .free) (f .nodes) (omega (arith, h .inside, laid .size)) ∙ omega (arith, h .counted) in
       let none : 0 + length rs ≡ length rs = omega arith in
       let up : f .nodes + c ≤ high = omega (arith, h .inside, h .counted) in
-      let first : f .equations + 0 * 8 ≡ f .equations = omega arith in
+      let first : f .equations + 0 * equation-size ≡ f .equations = omega arith in
       rw (h .answer, nodes, none)
       (record {
         makes = record {

@@ -10,7 +10,7 @@ use Rattle.meaning.specs.Lists.{pick, before}
 use Rattle.meaning.specs.Origins.{Item}
 use Rattle.tape.specs.Tape.{alone-role, head-role, close-role, prefix-role, infix-role}
 use Rattle.tables.specs.Entries.{role-at, name-at}
-use Rattle.tables.specs.Rows.{sort-of, row-at}
+use Rattle.tables.specs.Rows.{sort-of, row-at, row-size}
 use Rattle.forms.specs.Memory.{part}
 use Rattle.forms.specs.Forms.{items-at}
 use Rattle.typing.specs.declared.Known.{Known}
@@ -39,7 +39,7 @@ node-word k row n = pick (ltb row (k .visible)) (row * 32 + n) ((k .hidden + (ro
 
 -- the node at q is of the item of a row
 unfoldable pub settled : Known → ℕ → ℕ → ℕ → ℕ → ℕ → List ℕ → Out
-settled k q row n next free w = out (Sorted (getD (row-at w (k .base + row * 16) .sorts) 8 0) next free) (set w q (node-word k row n))
+settled k q row n next free w = out (Sorted (getD (row-at w (k .base + row * row-size) .sorts) 8 0) next free) (set w q (node-word k row n))
 
 -- the row that is found, or none
 unfoldable pub resolved : Known → ℕ → ℕ → ℕ → ℕ → ℕ → List ℕ → Out

@@ -6,18 +6,17 @@ use super::Module;
 use super::Passed;
 use super::terms::type_term;
 use forms::EquationRow;
+use forms::equations::write_equation;
 use tables::entries::name_at;
-use tables::entries::put_word;
 use tables::entries::role_at;
 use tables::sorts::same_sort;
+use tape::roles;
 ghost use mathlib.Core.Path.{_≡_};
-ghost use mathlib.Core.List.{[], _∷_};
-ghost use Prim.Native.Nat.{_+_, _*_, _^_, _≤_, _<_};
+ghost use Prim.Native.Nat.{_+_, _^_, _≤_, _<_};
 ghost use lib.ListN.{length};
-ghost use lib.Seq.{sets};
 ghost use Rattle.names.specs.Joint.{joint};
 ghost use Rattle.typing.specs.Typing.{out};
-ghost use Rattle.typing.specs.Equations.{right-at, sides-at, passed, begins-at, sides-from, equation-at, equation-words, span, row-of, stored, turn-at, told, equations-from};
+ghost use Rattle.typing.specs.Equations.{right-at, sides-at, passed, begins-at, sides-from, equation-at, span, row-of, stored, turn-at, told, equations-from};
 
 // The right side, at i; the left one has the sort s.
 fn type_right(
@@ -68,16 +67,16 @@ fn begins_at(tape: &[u32], i: usize, end: usize) -> bool
 {
     if i < end {
         let role = role_at(tape, i);
-        if role == 20 {
+        if role == roles::ALONE {
             return true;
         }
-        if role == 21 {
+        if role == roles::HEAD {
             return true;
         }
-        if role == 25 {
+        if role == roles::PREFIX {
             return true;
         }
-        return role == 26;
+        return role == roles::INFIX;
     }
     false
 }
@@ -152,34 +151,39 @@ pub fn type_equation(
     ensures { λ r. ⌜ passed r (now (work .exit)) ≡ equation-at (joint (now (library .entry)) (now (text .entry))) k end i q (now (work .entry)) ⌝ }
 {
     let t = k.tape;
-    let c = type_marked(library, text, work, k, 24, end, t, i + 1, q, 0);
+    let c = type_marked(
+        library,
+        text,
+        work,
+        k,
+        roles::CONCLUSION,
+        end,
+        t,
+        i + 1,
+        q,
+        0,
+    );
     match c {
         Passed::Wrong => Passed::Wrong,
         Passed::Counted {
             count: _,
             next: _,
             free,
-        } => { type_marked(library, text, work, k, 23, end, t, i + 1, free, 0) }
+        } => {
+            type_marked(
+                library,
+                text,
+                work,
+                k,
+                roles::CONDITION,
+                end,
+                t,
+                i + 1,
+                free,
+                0,
+            )
+        }
     }
-}
-
-// Three words, stored from b on.
-fn write_three(work: &mut [u32], b: usize, x: u32, y: u32, z: u32)
-    requires { ⌜ b < 2 ^ 40 ⌝ }
-    ensures { λ r. ⌜ now (work .exit) ≡ sets (now (work .entry)) b (x ∷ (y ∷ (z ∷ []))) ⌝ }
-{
-    put_word(work, b, x);
-    put_word(work, b + 1, y);
-    put_word(work, b + 2, z);
-}
-
-// The row of an equation, stored from b on.
-fn write_equation(work: &mut [u32], b: usize, row: EquationRow)
-    requires { ⌜ b < 2 ^ 39 ⌝ }
-    ensures { λ r. ⌜ now (work .exit) ≡ sets (now (work .entry)) b (equation-words row) ⌝ }
-{
-    write_three(work, b, row.home, row.position, row.tag);
-    write_three(work, b + 3, row.conditions, row.start, row.count);
 }
 
 // a - b as a word.
@@ -238,7 +242,8 @@ fn store_row(
     let rows = m.rows;
     let tag = name_at(&work[0..t], i);
     let row = equation_row(m, position, tag, n, q, free);
-    write_equation(work, rows + position as usize * 8, row);
+    let start = row.start;
+    write_equation(work, rows as u32, position, row, start);
 }
 
 // The equation whose tag is at i, with its row.

@@ -1,26 +1,29 @@
 // The first known item that a name can be: a variable, or a function that takes given sorts.
+use tables::ROW_STEP;
 use tables::entries::same_word;
 use tables::entries::word_at;
+use tables::kinds;
 use tables::rows::read_row;
+use tables::sorts::inputs_of;
 use tables::sorts::same_sorts;
 ghost use mathlib.Core.Path.{_≡_};
 ghost use mathlib.Core.List.{map};
-ghost use Prim.Native.Nat.{_+_, _-_, _*_, _≤_, min};
+ghost use Prim.Native.Nat.{_+_, _*_, _≤_};
 ghost use lib.ListN.{length, getD, take};
 ghost use Rattle.meaning.specs.Lists.{before};
 ghost use Rattle.meaning.specs.Typing.{takes};
 ghost use Rattle.names.specs.Word.{name-of};
 ghost use Rattle.names.specs.Joint.{joint};
-ghost use Rattle.tables.specs.Rows.{sort-of, shape-of, item-of, row-at};
+ghost use Rattle.tables.specs.Rows.{sort-of, shape-of, item-of, row-at, row-size};
 ghost use Rattle.forms.specs.Memory.{part};
 ghost use Rattle.forms.specs.Forms.{items-at};
 ghost use Rattle.typing.specs.Known.{variable-called, function-called};
 
 // The word of the name of row i of those from b on.
 fn row_name(work: &[u32], b: u32, i: u32) -> u32
-    ensures { λ r. ⌜ r ≡ getD (now (work .entry)) (b + i * 16 + 1) 0 ⌝ }
+    ensures { λ r. ⌜ r ≡ getD (now (work .entry)) (b + i * row-size + 1) 0 ⌝ }
 {
-    word_at(work, b as usize + i as usize * 16 + 1)
+    word_at(work, b as usize + i as usize * ROW_STEP + 1)
 }
 
 // Is row i of those from b on a variable called w? Its name decides most: the kind is read only where it is w.
@@ -34,25 +37,12 @@ fn is_such_variable(
     w: u32,
 ) -> bool
     requires { ⌜ t ≤ length (now work) ⌝ }
-    ensures { λ r. ⌜ r ≡ variable-called (name-of (joint (now (library .entry)) (now (text .entry))) w) (item-of (joint (now (library .entry)) (now (text .entry))) (part (now (work .entry)) 0 t) (row-at (now (work .entry)) (b + i * 16))) ⌝ }
+    ensures { λ r. ⌜ r ≡ variable-called (name-of (joint (now (library .entry)) (now (text .entry))) w) (item-of (joint (now (library .entry)) (now (text .entry))) (part (now (work .entry)) 0 t) (row-at (now (work .entry)) (b + i * row-size))) ⌝ }
 {
     if same_word(library, text, w, row_name(work, b, i)) {
-        return word_at(work, b as usize + i as usize * 16 + 2) == 1;
+        return word_at(work, b as usize + i as usize * ROW_STEP + 2) == kinds::VARIABLE;
     }
     false
-}
-
-// How many of the nine sorts of a row are a function's inputs.
-fn inputs_of(kind: u32) -> usize
-    ensures { λ r. ⌜ r ≡ min (kind - 2) 9 ⌝ }
-{
-    if kind < 2 {
-        return 0;
-    }
-    if 11 < kind {
-        return 9;
-    }
-    (kind - 2) as usize
 }
 
 // Does an item of the kind and the sorts b take arguments of the first n sorts of a?
@@ -68,7 +58,7 @@ fn takes(
     requires { ⌜ n ≤ 9 ⌝ }
     ensures { λ r. ⌜ r ≡ takes (map (sort-of (joint (now (library .entry)) (now (text .entry))) (now (tape .entry))) (take n a)) (shape-of (joint (now (library .entry)) (now (text .entry))) (now (tape .entry)) kind b) ⌝ }
 {
-    if kind < 2 {
+    if kind < kinds::FUNCTION {
         return false;
     }
     let inputs = inputs_of(kind);
@@ -91,7 +81,7 @@ fn is_such_function(
     n: usize,
 ) -> bool
     requires { ⌜ (t ≤ length (now work)) × (n ≤ 9) ⌝ }
-    ensures { λ r. ⌜ r ≡ function-called (name-of (joint (now (library .entry)) (now (text .entry))) w) (map (sort-of (joint (now (library .entry)) (now (text .entry))) (part (now (work .entry)) 0 t)) (take n sorts)) (item-of (joint (now (library .entry)) (now (text .entry))) (part (now (work .entry)) 0 t) (row-at (now (work .entry)) (b + i * 16))) ⌝ }
+    ensures { λ r. ⌜ r ≡ function-called (name-of (joint (now (library .entry)) (now (text .entry))) w) (map (sort-of (joint (now (library .entry)) (now (text .entry))) (part (now (work .entry)) 0 t)) (take n sorts)) (item-of (joint (now (library .entry)) (now (text .entry))) (part (now (work .entry)) 0 t) (row-at (now (work .entry)) (b + i * row-size))) ⌝ }
 {
     if same_word(library, text, w, row_name(work, b, i)) {
         let row = read_row(work, b, i);

@@ -3,10 +3,12 @@ use super::Answer;
 use super::Known;
 use super::find::find_function;
 use super::find::find_variable;
+use tables::ROW_STEP;
 use tables::entries::name_at;
 use tables::entries::put_word;
 use tables::entries::role_at;
 use tables::entries::word_at;
+use tape::roles;
 ghost use mathlib.Core.Path.{_≡_};
 ghost use Prim.Native.Nat.{_+_, _^_, _≤_, _<_};
 ghost use lib.ListN.{length, getD};
@@ -40,7 +42,7 @@ fn settle(
     ensures { λ r. ⌜ out r (now (work .exit)) ≡ settled k q row n next free (now (work .entry)) ⌝ }
 {
     let base = k.base;
-    let sort = word_at(work, base as usize + row as usize * 16 + 14);
+    let sort = word_at(work, base as usize + row as usize * ROW_STEP + 14);
     let v = node_word(k, row, n);
     put_word(work, q, v);
     Answer::Sorted { sort, next, free }
@@ -119,13 +121,13 @@ fn type_alone(library: &[u8], text: &[u8], work: &mut [u32], k: Known, i: usize,
 fn arguments_of(role: u32) -> usize
     ensures { λ r. ⌜ r ≡ arguments-of role ⌝ }
 {
-    if role == 21 {
+    if role == roles::HEAD {
         return 9;
     }
-    if role == 25 {
+    if role == roles::PREFIX {
         return 1;
     }
-    if role == 26 {
+    if role == roles::INFIX {
         return 2;
     }
     0
@@ -135,7 +137,7 @@ fn arguments_of(role: u32) -> usize
 fn closers_of(role: u32) -> usize
     ensures { λ r. ⌜ r ≡ closers-of role ⌝ }
 {
-    if role == 21 {
+    if role == roles::HEAD {
         return 1;
     }
     0
@@ -258,7 +260,7 @@ fn type_deep(
     if i < t {
         if q < work.len() {
             let role = role_at(&work[0..t], i);
-            if role == 20 {
+            if role == roles::ALONE {
                 return type_leaf(library, text, work, k, places);
             }
             let a = arguments_of(role);
@@ -280,7 +282,7 @@ fn ends_at(tape: &[u32], closers: usize, left: usize, i: usize) -> bool
     if closers == 0 {
         return left == 0;
     }
-    role_at(tape, i) == 22
+    role_at(tape, i) == roles::CLOSE
 }
 
 // The entry behind those that close the arguments, from i on.

@@ -10,9 +10,10 @@ use lib.ListN.{length}
 use borrow.Author.Needs.{needs}
 use Rattle.meaning.specs.Lists.{pick, keep}
 use Rattle.meaning.specs.Normal.{Slot, Visible, is-parameter-of}
+use Rattle.tables.specs.Rows.{row-size}
 use Rattle.forms.specs.declared.Form.{Form}
 use Rattle.forms.specs.Memory.{part, Kept}
-use Rattle.forms.specs.Forms.{slot-at, slots-at, visible-at}
+use Rattle.forms.specs.Forms.{slot-at, slots-at, visible-at, slot-size}
 use Rattle.forms.specs.FormLaws.{Apart, kept-all, kept-wider, kept-then, kept-same, slot-same, slots-grow, tape-same}
 use Rattle.walks.specs.Lists.{keep-append}
 use Rattle.clauses.specs.KeptParameters.{SlotCopied, copied-behind}
@@ -23,20 +24,21 @@ use Rattle.uniting.specs.Standing.{visible-same}
 -- ---- one parameter
 
 module _ (text : List ℕ) (t : ℕ) (w : List ℕ) (g f : Form) (k n : ℕ) (one : Bool)
-    (e : one ≡ is-parameter-of (visible-at text (part w 0 t) w f) (visible-at text (part w 0 t) w g) (slot-at text w (g .parameters + k * 2))) where
+    (e : one ≡ is-parameter-of (visible-at text (part w 0 t) w f) (visible-at text (part w 0 t) w g) (slot-at text w (g .parameters + k * slot-size))) where
   pub slot-one : one ≡ true → SlotUnited text t w g f k n n w
   unfolding keep pick
   slot-one h = record {
     slots = sym (rw (← e, h) (append-nil (slots-at text w (f .parameters) n)));
     few = omega arith;
     grows = omega arith;
-    kept = kept-all (f .parameters + n * 2) (f .parameters + (n + 1) * 2) w;
+    kept = kept-all (f .parameters + n * slot-size) (f .parameters + (n + 1) * slot-size) w;
   }
 
-  pub slot-other : (w′ : List ℕ) → one ≡ false → SlotCopied (g .parameters + k * 2) (f .parameters + n * 2) w w′ → SlotUnited text t w g f k n (n + 1) w′
+  pub slot-other : (w′ : List ℕ) → one ≡ false → SlotCopied (g .parameters + k * slot-size) (f .parameters + n * slot-size) w w′
+      → SlotUnited text t w g f k n (n + 1) w′
   unfolding keep pick
   slot-other w′ h c = record {
-    slots = rw (← e, h) (copied-behind text w w′ (g .parameters + k * 2) (f .parameters) n c);
+    slots = rw (← e, h) (copied-behind text w w′ (g .parameters + k * slot-size) (f .parameters) n c);
     few = omega arith;
     grows = omega arith;
     kept = kept-wider _ _ _ _ w w′ (omega arith) (omega arith) (c .kept);
@@ -46,10 +48,10 @@ module _ (text : List ℕ) (t : ℕ) (w : List ℕ) (g f : Form) (k n : ℕ) (on
 
 module _ (text : List ℕ) (t : ℕ) (w₀ : List ℕ) (g f : Form) where
   abbrev low : ℕ
-  low = f .parameters + f .«parameter_count» * 2
+  low = f .parameters + f .«parameter_count» * slot-size
 
   abbrev high : ℕ
-  high = f .parameters + (f .«parameter_count» + g .«parameter_count») * 2
+  high = f .parameters + (f .«parameter_count» + g .«parameter_count») * slot-size
 
   abbrev others : Visible → Visible → List Slot → List Slot
   others a b = keep (λ (q : Slot). not (is-parameter-of a b q))
@@ -97,8 +99,8 @@ module _ (text : List ℕ) (t : ℕ) (w₀ : List ℕ) (g f : Form) where
     }
 
     -- what parameters are held against stays
-    held : (z : Form) → Apart low high (z .parameters) (z .parameters + z .«parameter_count» * 2)
-        → Apart low high (z .visible) (z .visible + z .«visible_count» * 16) → visible-at text (part w 0 t) w z ≡ visible-at text (part w₀ 0 t) w₀ z
+    held : (z : Form) → Apart low high (z .parameters) (z .parameters + z .«parameter_count» * slot-size)
+        → Apart low high (z .visible) (z .visible + z .«visible_count» * row-size) → visible-at text (part w 0 t) w z ≡ visible-at text (part w₀ 0 t) w₀ z
     held z p q =
         let tape = tape-same w₀ w t (inv .kept .size) (λ i u v. inv .kept .below i (omega (arith, room .tape))) in
         ap (λ (z-tape : List ℕ). visible-at text z-tape w z) tape
@@ -120,7 +122,7 @@ module _ (text : List ℕ) (t : ℕ) (w₀ : List ℕ) (g f : Form) where
         source-held : visible-at text (part w 0 t) w g ≡ source
         source-held = held g (room .source) (room .source-rows)
 
-        there : slot-at text w (g .parameters + k * 2) ≡ slot-at text w₀ (g .parameters + k * 2)
+        there : slot-at text w (g .parameters + k * slot-size) ≡ slot-at text w₀ (g .parameters + k * slot-size)
         there = slot-same w₀ w text _ (λ i u v. kept-same low high _ _ w₀ w (room .source) (inv .kept) i (omega arith) (omega arith))
 
         first : List Slot

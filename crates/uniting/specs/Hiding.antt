@@ -10,6 +10,7 @@ use Rattle.meaning.specs.Lists.{pick, keep, union}
 use Rattle.meaning.specs.Names.{Name}
 use Rattle.meaning.specs.Origins.{FunctionType, Item, one-item}
 use Rattle.meaning.specs.Normal.{Visible, Normal}
+use Rattle.tables.specs.Rows.{row-size}
 use Rattle.forms.specs.declared.Form.{Form}
 use Rattle.forms.specs.declared.Block.{Block}
 use Rattle.forms.specs.Memory.{part, KeptTwo}
@@ -72,10 +73,10 @@ module _ (text : List ℕ) (t : ℕ) (w : List ℕ) (m : Mode) (g f : Form) (b :
   }
 
   abbrev first : ℕ
-  first = f .hidden + f .«hidden_count» * 16
+  first = f .hidden + f .«hidden_count» * row-size
 
   abbrev last : ℕ
-  last = f .hidden + cap * 16
+  last = f .hidden + cap * row-size
 
   abbrev note : ℕ
   note = b .«hidden_notes»

@@ -1,10 +1,12 @@
 -- What a form that lies in a block lies apart from, and the room that it has for another's hidden part.
 use Prim.Native.Nat.{ℕ, _+_, _*_, _≤_}
 use native.Mathlib.Omega.{arith}
+use Rattle.tables.specs.Rows.{row-size}
 use Rattle.forms.specs.declared.Form.{Form}
 use Rattle.forms.specs.declared.Block.{Block}
 use Rattle.forms.specs.FormLaws.{Apart}
 use Rattle.forms.specs.Blocks.{BlockLaid, Outside}
+use Rattle.forms.specs.Forms.{slot-size}
 use Rattle.frames.specs.Changes.{apart-in, outside, outside-in}
 use Rattle.translation.specs.declared.Mode.{Mode}
 use Rattle.uniting.specs.Rooms.{Inside, HiddenRoomWithin}
@@ -23,16 +25,16 @@ module _ {size t : ℕ} {b : Block} {names rows hidden-rows sources : ℕ} (laid
 
   -- nor is the room behind its parameters, and behind its visible rows
   pub outside-slots : (c : ℕ) → f .«parameter_count» + c ≤ names
-      → Outside (f .parameters + f .«parameter_count» * 2) (f .parameters + (f .«parameter_count» + c) * 2) f
+      → Outside (f .parameters + f .«parameter_count» * slot-size) (f .parameters + (f .«parameter_count» + c) * slot-size) f
   outside-slots c h = outside (omega arith)
 
   pub outside-rows : (c : ℕ) → f .«visible_count» + c ≤ rows
-      → Outside (f .visible + f .«visible_count» * 16) (f .visible + (f .«visible_count» + c) * 16) f
+      → Outside (f .visible + f .«visible_count» * row-size) (f .visible + (f .«visible_count» + c) * row-size) f
   outside-rows c h = outside (omega arith)
 
   -- room for the hidden part of g, whose visible items are noted from `notes` on
   pub hidden-room-in : (m : Mode) (g : Form) (notes cap : ℕ) → Outside (b .hidden) (b .«hidden_notes» + g .«hidden_count») g
-      → Apart (b .hidden) (b .«hidden_notes» + g .«hidden_count») (m .visible) (m .visible + m .count * 16)
+      → Apart (b .hidden) (b .«hidden_notes» + g .«hidden_count») (m .visible) (m .visible + m .count * row-size)
       → f .«hidden_count» ≤ cap → cap ≤ hidden-rows → cap ≤ 65536 → g .«hidden_count» ≤ sources → g .nodes + g .«node_count» ≤ size
       → Apart (b .hidden) (b .nodes + b .«node_room») notes (notes + g .«visible_count»)
       → Apart (b .«hidden_notes») (b .«hidden_notes» + g .«hidden_count») notes (notes + g .«visible_count»)

@@ -11,10 +11,11 @@ use Rattle.meaning.specs.Names.{Name}
 use Rattle.meaning.specs.Origins.{Origin, Section, FunctionType, Shape, sort-shape, function-shape, variable-shape, Item}
 use Rattle.meaning.specs.Normal.{move-sort, move-shape, move-name, move-item, move-hidden-item, move-head}
 use Rattle.tables.specs.declared.Row.{Row}
-use Rattle.tables.specs.Rows.{item-of, row-at}
+use Rattle.tables.specs.Rows.{item-of, row-at, row-size}
+use Rattle.tables.specs.RowLaws.{row-same}
 use Rattle.forms.specs.Memory.{Same}
 use Rattle.forms.specs.Forms.{items-at, node-shape, node-of}
-use Rattle.forms.specs.FormLaws.{row-same, item-at}
+use Rattle.forms.specs.FormLaws.{item-at}
 use Rattle.forms.specs.FlatMoves.{move-node}
 use Rattle.translation.specs.declared.Mode.{Mode}
 use Rattle.translation.specs.Translation.{sort-name, function-name, moved, moved-hidden, moved-in}
@@ -52,7 +53,7 @@ module _ (σ : Name → Name) (φ : Name → FunctionType → Name) where
 module _ (text tape w : List ℕ) (m : Mode) (visible drop : Bool) (s ns d nd o r : ℕ) (w′ : List ℕ)
     (x : Absorbed text tape w m visible drop s ns d nd o r w′) (i : ℕ) (h : i < ns) where
   abbrev source : Item
-  source = item-of text tape (row-at w (s + i * 16))
+  source = item-of text tape (row-at w (s + i * row-size))
 
   module _ (takes : taken text drop (m .parameter) source ≡ true) where
     takes-listed : taken text drop (m .parameter) (getD (items-at text tape w s ns) i source) ≡ true
@@ -62,7 +63,7 @@ module _ (text tape w : List ℕ) (m : Mode) (visible drop : Bool) (s ns d nd o 
     pub note-inside : getD w′ (o + i) 0 < r
     note-inside = x .noted i source h takes-listed
 
-    pub note-item : item-of text tape (row-at w′ (d + getD w′ (o + i) 0 * 16))
+    pub note-item : item-of text tape (row-at w′ (d + getD w′ (o + i) 0 * row-size))
         ≡ item-moved (sort-name text tape w m) (function-name text tape w m) visible source
     unfolding moved-in moved moved-hidden item-moved
     note-item =
@@ -71,13 +72,13 @@ module _ (text tape w : List ℕ) (m : Mode) (visible drop : Bool) (s ns d nd o 
 
 -- where all rows are taken, and the source is not written on, the notes are right
 module _ (text tape w : List ℕ) (m : Mode) (visible : Bool) (s ns d nd o r : ℕ) (w′ : List ℕ)
-    (x : Absorbed text tape w m visible false s ns d nd o r w′) (few : r ≤ 65536) (stays : Same s (s + ns * 16) w w′) where
+    (x : Absorbed text tape w m visible false s ns d nd o r w′) (few : r ≤ 65536) (stays : Same s (s + ns * row-size) w w′) where
   all-taken : (y : Item) → taken text false (m .parameter) y ≡ true
   unfolding taken pick
   all-taken y = refl
 
-  row-stays : (i : ℕ) → i < ns → row-at w (s + i * 16) ≡ row-at w′ (s + i * 16)
-  row-stays i h = sym (row-same w w′ (s + i * 16) (λ j a b. stays j (omega arith) (omega arith)))
+  row-stays : (i : ℕ) → i < ns → row-at w (s + i * row-size) ≡ row-at w′ (s + i * row-size)
+  row-stays i h = sym (row-same w w′ (s + i * row-size) (λ j a b. stays j (omega arith) (omega arith)))
 
   pub all-noted : Noted (sort-name text tape w m) (function-name text tape w m) text tape w′ visible o s ns d r
   all-noted =
@@ -88,10 +89,10 @@ module _ (text tape w : List ℕ) (m : Mode) (visible : Bool) (s ns d nd o r : �
         inside = λ i h z. note-inside text tape w m visible false s ns d nd o r w′ x i h (all-taken _);
         node = λ i h z k.
             ap (node-of visible k) (note-item text tape w m visible false s ns d nd o r w′ x i h (all-taken _))
-            ∙ node-moved σ φ visible k (item-of text tape (row-at w (s + i * 16)))
+            ∙ node-moved σ φ visible k (item-of text tape (row-at w (s + i * row-size)))
             ∙ ap (λ (q : Row). move-node σ φ (node-of visible k (item-of text tape q))) (row-stays i h);
         shape = λ i h z.
             ap (λ (y : Item). y .shape) (note-item text tape w m visible false s ns d nd o r w′ x i h (all-taken _))
-            ∙ shape-moved σ φ visible (item-of text tape (row-at w (s + i * 16)))
+            ∙ shape-moved σ φ visible (item-of text tape (row-at w (s + i * row-size)))
             ∙ ap (λ (q : Row). move-shape σ φ (item-of text tape q .shape)) (row-stays i h);
       }

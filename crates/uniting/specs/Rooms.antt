@@ -1,10 +1,12 @@
 -- What uniting asks of places and counts.
 use Prim.Native.Nat.{ℕ, _+_, _*_, _≤_, _<_}
 use Rattle.meaning.specs.Numbers.{node-limit}
+use Rattle.tables.specs.Rows.{row-size}
 use Rattle.forms.specs.declared.Form.{Form}
 use Rattle.forms.specs.declared.Block.{Block}
 use Rattle.forms.specs.FormLaws.{Apart}
 use Rattle.forms.specs.Blocks.{BlockLaid, Lies, Outside}
+use Rattle.forms.specs.Forms.{equation-size, slot-size}
 use Rattle.translation.specs.declared.Mode.{Mode}
 
 -- parameters of g go behind those of f, apart from the tape and from what parameters are held against: g's parameters, and both forms'
@@ -12,16 +14,16 @@ use Rattle.translation.specs.declared.Mode.{Mode}
 pub record SlotsRoom (size t : ℕ) (g f : Form) : Type 0 where
   pub tape : t ≤ f .parameters
   pub few : f .«parameter_count» + g .«parameter_count» ≤ 65536
-  pub room : f .parameters + (f .«parameter_count» + g .«parameter_count») * 2 ≤ size
+  pub room : f .parameters + (f .«parameter_count» + g .«parameter_count») * slot-size ≤ size
   pub own-rows :
-      Apart (f .parameters + f .«parameter_count» * 2) (f .parameters + (f .«parameter_count» + g .«parameter_count») * 2)
-      (f .visible) (f .visible + f .«visible_count» * 16)
+      Apart (f .parameters + f .«parameter_count» * slot-size) (f .parameters + (f .«parameter_count» + g .«parameter_count») * slot-size)
+      (f .visible) (f .visible + f .«visible_count» * row-size)
   pub source :
-      Apart (f .parameters + f .«parameter_count» * 2) (f .parameters + (f .«parameter_count» + g .«parameter_count») * 2)
-      (g .parameters) (g .parameters + g .«parameter_count» * 2)
+      Apart (f .parameters + f .«parameter_count» * slot-size) (f .parameters + (f .«parameter_count» + g .«parameter_count») * slot-size)
+      (g .parameters) (g .parameters + g .«parameter_count» * slot-size)
   pub source-rows :
-      Apart (f .parameters + f .«parameter_count» * 2) (f .parameters + (f .«parameter_count» + g .«parameter_count») * 2)
-      (g .visible) (g .visible + g .«visible_count» * 16)
+      Apart (f .parameters + f .«parameter_count» * slot-size) (f .parameters + (f .«parameter_count» + g .«parameter_count») * slot-size)
+      (g .visible) (g .visible + g .«visible_count» * row-size)
 
 -- the k-th of them, where n stand at f
 pub record SlotRoom (size t : ℕ) (g f : Form) (k n : ℕ) : Type 0 where
@@ -34,10 +36,10 @@ pub record SlotRoom (size t : ℕ) (g f : Form) (k n : ℕ) : Type 0 where
 -- may be written are none of g, none of the mode's table, and none of the notes of visible items
 pub record HiddenRoomWithin (size t : ℕ) (m : Mode) (g f : Form) (b : Block) (notes cap : ℕ) : Type 0 where
   pub tape : t ≤ f .hidden
-  pub parameters : f .parameters + f .«parameter_count» * 2 ≤ f .hidden
-  pub visible : f .visible + f .«visible_count» * 16 ≤ f .hidden
-  pub hidden : f .hidden + cap * 16 ≤ f .equations
-  pub equations : f .equations + b .«equation_room» * 8 ≤ f .nodes
+  pub parameters : f .parameters + f .«parameter_count» * slot-size ≤ f .hidden
+  pub visible : f .visible + f .«visible_count» * row-size ≤ f .hidden
+  pub hidden : f .hidden + cap * row-size ≤ f .equations
+  pub equations : f .equations + b .«equation_room» * equation-size ≤ f .nodes
   pub nodes : f .nodes + b .«node_room» ≤ b .«hidden_notes»
   pub hidden-notes : b .«hidden_notes» + g .«hidden_count» ≤ size
   pub enough : b .«equation_room» * node-limit ≤ b .«node_room»
@@ -47,7 +49,7 @@ pub record HiddenRoomWithin (size t : ℕ) (m : Mode) (g f : Form) (b : Block) (
   pub few-nodes : f .«node_count» ≤ b .«node_room»
   pub source-nodes : g .nodes + g .«node_count» ≤ size
   pub outside : Outside (f .hidden) (b .«hidden_notes» + g .«hidden_count») g
-  pub mode : Apart (f .hidden) (b .«hidden_notes» + g .«hidden_count») (m .visible) (m .visible + m .count * 16)
+  pub mode : Apart (f .hidden) (b .«hidden_notes» + g .«hidden_count») (m .visible) (m .visible + m .count * row-size)
   pub notes-rows : Apart (f .hidden) (f .nodes + b .«node_room») notes (notes + g .«visible_count»)
   pub notes-notes : Apart (b .«hidden_notes») (b .«hidden_notes» + g .«hidden_count») notes (notes + g .«visible_count»)
 
@@ -74,7 +76,7 @@ pub record UniteRoom (size t : ℕ) (m : Mode) (g f : Form) (b : Block) : Type 0
   pub laid : BlockLaid size t b names rows hidden-rows sources
   pub inside : Inside b names rows hidden-rows f
   pub outside : Outside (b .low) (b .high) g
-  pub mode : Apart (b .low) (b .high) (m .visible) (m .visible + m .count * 16)
+  pub mode : Apart (b .low) (b .high) (m .visible) (m .visible + m .count * row-size)
   pub parameters : f .«parameter_count» + g .«parameter_count» ≤ names
   pub visible : f .«visible_count» + g .«visible_count» ≤ rows
   pub hidden : f .«hidden_count» + g .«hidden_count» ≤ hidden-rows

@@ -7,9 +7,10 @@ use native.Mathlib.Omega.{arith}
 use Rattle.meaning.specs.Lists.{pick, keep, union}
 use Rattle.meaning.specs.Origins.{Item, one-item}
 use Rattle.meaning.specs.Normal.{Visible, Normal, move-item}
+use Rattle.tables.specs.Rows.{row-size}
 use Rattle.forms.specs.declared.Form.{Form}
 use Rattle.forms.specs.Memory.{part, KeptTwo}
-use Rattle.forms.specs.Forms.{items-at, visible-at, Stands}
+use Rattle.forms.specs.Forms.{items-at, visible-at, Stands, slot-size}
 use Rattle.forms.specs.Blocks.{Outside}
 use Rattle.frames.specs.Changes.{tape-kept-two, still-stands, still-stands-two}
 use Rattle.translation.specs.declared.Mode.{Mode}
@@ -22,7 +23,7 @@ use Rattle.uniting.specs.Standing.{stands-more}
 
 -- the parameters of g that are none of f's behind those of f
 pub slots-stand : (text : List ℕ) (t : ℕ) (w w′ : List ℕ) (g f r : Form) (from : Visible) (to : Normal) → SlotsUnited text t w g f r w′ → t ≤ f .parameters
-    → Outside (f .parameters + f .«parameter_count» * 2) (f .parameters + (f .«parameter_count» + g .«parameter_count») * 2) f
+    → Outside (f .parameters + f .«parameter_count» * slot-size) (f .parameters + (f .«parameter_count» + g .«parameter_count») * slot-size) f
     → visible-at text (part w 0 t) w g ≡ from → Stands text (part w 0 t) w f to
     → Stands text (part w′ 0 t) w′ r (record {
       visible = record { parameters = to .visible .parameters ++ other-slots (to .visible) from; items = to .visible .items };
@@ -46,10 +47,10 @@ slots-stand text t w w′ g f r from to x h o e s =
 module _ (text : List ℕ) (t : ℕ) (w w′ : List ℕ) (m : Mode) (drop : Bool) (g f : Form) (notes : ℕ) (r : Form)
     (x : VisibleUnited text t w m drop g f notes r w′) (h : t ≤ f .visible) (l : t ≤ notes) where
   abbrev first : ℕ
-  first = f .visible + f .«visible_count» * 16
+  first = f .visible + f .«visible_count» * row-size
 
   abbrev last : ℕ
-  last = f .visible + (f .«visible_count» + g .«visible_count») * 16
+  last = f .visible + (f .«visible_count» + g .«visible_count») * row-size
 
   abbrev come : List Item → List Item
   come seen = map (move-item (sorts text t w m) (functions text t w m)) (keep (taken text drop (m .parameter)) seen)

@@ -6,18 +6,18 @@ use mathlib.Core.List.{List, [], _∷_}
 use Rattle.meaning.specs.Lists.{sum}
 use Rattle.meaning.specs.Origins.{Item, ResolvedEquation}
 use Rattle.meaning.specs.Normal.{Slot, Normal, nothing-visible, nothing-hidden, empty}
+use Rattle.tables.specs.Rows.{row-size}
 use Rattle.forms.specs.declared.Form.{Form}
 use Rattle.forms.specs.declared.Block.{Block}
 use Rattle.forms.specs.declared.EquationRow.{EquationRow}
 use Rattle.forms.specs.Memory.{Same}
-use Rattle.forms.specs.Forms.{slots-at, items-at, node-item, nodes-of, equation-row-at, EquationStands, EquationsStand, Pointing, visible-at, Stands}
+use Rattle.forms.specs.Forms.{slots-at, items-at, node-item, nodes-of, equation-row-at, EquationStands, EquationsStand, Pointing, visible-at, Stands, equation-size, slot-size}
 use Rattle.forms.specs.FormLaws.{slots-same, items-same}
-use Rattle.forms.specs.Blocks.{Lies}
 use Rattle.uniting.specs.United.{empty-in, with-items}
 
 -- the visible part of a form whose parameters and visible rows stay
-pub visible-same : (text tape w w′ : List ℕ) (f : Form) → Same (f .parameters) (f .parameters + f .«parameter_count» * 2) w w′
-    → Same (f .visible) (f .visible + f .«visible_count» * 16) w w′ → visible-at text tape w′ f ≡ visible-at text tape w f
+pub visible-same : (text tape w w′ : List ℕ) (f : Form) → Same (f .parameters) (f .parameters + f .«parameter_count» * slot-size) w w′
+    → Same (f .visible) (f .visible + f .«visible_count» * row-size) w w′ → visible-at text tape w′ f ≡ visible-at text tape w f
 unfolding visible-at
 visible-same text tape w w′ f p q =
     let slots = slots-same w w′ text (f .parameters) (f .«parameter_count») p in
@@ -34,7 +34,7 @@ module _ (text tape w : List ℕ) (f : Form) (p v h : ℕ) where
 
   equations-as : (b : ℕ) (es : List ResolvedEquation) → EquationsStand text tape w f b es → EquationsStand text tape w (with-items f p v h) b es
   equations-as b [] s = tt
-  equations-as b (e ∷ es) s = (equation-as (equation-row-at w b) e (s .0), equations-as (b + 8) es (s .1))
+  equations-as b (e ∷ es) s = (equation-as (equation-row-at w b) e (s .0), equations-as (b + equation-size) es (s .1))
 
   module _ (more-visible : f .«visible_count» ≤ v) (more-hidden : f .«hidden_count» ≤ h) where
     pointing-as : Pointing text tape w f → Pointing text tape w (with-items f p v h)
@@ -62,10 +62,6 @@ module _ (text tape w : List ℕ) (f : Form) (p v h : ℕ) where
     }
 
 -- ---- nothing
-
-pub empty-lies : (b : Block) → Lies b (empty-in b)
-unfolding empty-in
-empty-lies b = record { parameters = refl; visible = refl; hidden = refl; equations = refl; nodes = refl }
 
 pub empty-stands : (text tape w : List ℕ) (b : Block) → Stands text tape w (empty-in b) empty
 unfolding empty-in empty nothing-visible nothing-hidden visible-at slots-at items-at sum

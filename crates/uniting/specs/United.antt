@@ -12,7 +12,7 @@ use Rattle.meaning.specs.Normal.{Slot, Visible, Hidden, Normal, is-parameter-of
 use Rattle.forms.specs.declared.Form.{Form}
 use Rattle.forms.specs.declared.Block.{Block}
 use Rattle.forms.specs.Memory.{part, Kept, KeptTwo}
-use Rattle.forms.specs.Forms.{slot-at, slots-at, items-at, visible-at, Stands}
+use Rattle.forms.specs.Forms.{slot-at, slots-at, items-at, visible-at, Stands, slot-size}
 use Rattle.forms.specs.Blocks.{Lies}
 use Rattle.translation.specs.declared.Mode.{Mode}
 use Rattle.translation.specs.Translation.{sort-name, function-name}
@@ -87,10 +87,10 @@ pub record SlotUnited (text : List ℕ) (t : ℕ) (w : List ℕ) (g f : Form) (k
   pub slots : slots-at text w′ (f .parameters) r
       ≡ slots-at text w (f .parameters) n
       ++ keep (λ (q : Slot). not (is-parameter-of (visible-at text (part w 0 t) w f) (visible-at text (part w 0 t) w g) q))
-      (slot-at text w (g .parameters + k * 2) ∷ [])
+      (slot-at text w (g .parameters + k * slot-size) ∷ [])
   pub few : r ≤ n + 1
   pub grows : n ≤ r
-  pub kept : Kept (f .parameters + n * 2) (f .parameters + (n + 1) * 2) w w′
+  pub kept : Kept (f .parameters + n * slot-size) (f .parameters + (n + 1) * slot-size) w w′
 
 -- the parameters of g that are none of f's stand behind those of f
 pub record SlotsUnited (text : List ℕ) (t : ℕ) (w : List ℕ) (g f r : Form) (w′ : List ℕ) : Type 0 where
@@ -100,7 +100,7 @@ pub record SlotsUnited (text : List ℕ) (t : ℕ) (w : List ℕ) (g f r : Form)
   pub slots : slots-at text w′ (f .parameters) (r .«parameter_count»)
       ≡ slots-at text w (f .parameters) (f .«parameter_count»)
       ++ other-slots (visible-at text (part w 0 t) w f) (visible-at text (part w 0 t) w g)
-  pub kept : Kept (f .parameters + f .«parameter_count» * 2) (f .parameters + (f .«parameter_count» + g .«parameter_count») * 2) w w′
+  pub kept : Kept (f .parameters + f .«parameter_count» * slot-size) (f .parameters + (f .«parameter_count» + g .«parameter_count») * slot-size) w w′
 
 -- the visible items of g are absorbed into those of f
 pub record VisibleUnited (text : List ℕ) (t : ℕ) (w : List ℕ) (m : Mode) (drop : Bool) (g f : Form) (notes : ℕ) (r : Form) (w′ : List ℕ) : Type 0 where

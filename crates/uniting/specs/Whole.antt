@@ -10,6 +10,7 @@ use Rattle.meaning.specs.Lists.{union}
 use Rattle.meaning.specs.Names.{Name}
 use Rattle.meaning.specs.Origins.{FunctionType, one-item}
 use Rattle.meaning.specs.Normal.{Visible, Normal, move-item}
+use Rattle.tables.specs.Rows.{row-size}
 use Rattle.forms.specs.declared.Form.{Form}
 use Rattle.forms.specs.declared.Block.{Block}
 use Rattle.forms.specs.Memory.{part, Kept}
@@ -32,7 +33,7 @@ use Rattle.uniting.specs.Showing.{slots-stand, visible-stands}
 
 -- new names are the same where the tape and the mode's table stay
 module _ (text : List ℕ) (t : ℕ) (w w′ : List ℕ) (m : Mode) (low high : ℕ) (behind : t ≤ low) (kept : Kept low high w w′)
-    (apart : Apart low high (m .visible) (m .visible + m .count * 16)) where
+    (apart : Apart low high (m .visible) (m .visible + m .count * row-size)) where
   tape-stays : part w′ 0 t ≡ part w 0 t
   tape-stays = tape-kept behind kept
 

@@ -5,6 +5,7 @@ use absorb::absorb_within;
 use clauses::parameters::copy_parameter;
 use forms::Block;
 use forms::Form;
+use forms::SLOT_STEP;
 use joining::Notes;
 use joining::equations::absorb_equations;
 use same_parameters::is_parameter_of;
@@ -69,11 +70,11 @@ fn unite_parameter(
 {
     let source = g.parameters;
     let base = f.parameters;
-    let q = source as usize + k as usize * 2;
+    let q = source as usize + k as usize * SLOT_STEP;
     if is_parameter_of(library, text, work, t, f, g, q) {
         return n;
     }
-    copy_parameter(work, q, base as usize + n as usize * 2);
+    copy_parameter(work, q, base as usize + n as usize * SLOT_STEP);
     n + 1
 }
 

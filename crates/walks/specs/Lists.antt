@@ -1,15 +1,14 @@
 -- Laws of lists: what a test finds in what is kept and in what is joined, and where it finds it.
 use mathlib.Core.Path.{_≡_, refl, sym, ap, _∙_}
-use Prim.Native.Nat.{ℕ, suc, _≤_, _<_, min}
+use Prim.Native.Nat.{ℕ, suc, _≤_, _<_}
 use mathlib.Core.Bool.{Bool, true, false}
 use mathlib.Core.Option.{none, some}
 use mathlib.Core.List.{List, [], _∷_, _++_, append-assoc}
 use native.Mathlib.Omega.{arith}
-use lib.Dec.{ltb, leb}
-use lib.ListN.{length, getD, take}
-use lib.Seq.{take-all}
-use borrow.Author.Tests.{ltb-true, ltb-false, lt-ltb, le-ltb, leb-true, leb-false}
-use Rattle.meaning.specs.Lists.{pick, keep, any, first, before, each, agree}
+use lib.Dec.{ltb}
+use lib.ListN.{length, getD}
+use borrow.Author.Tests.{ltb-true, ltb-false, lt-ltb, le-ltb}
+use Rattle.meaning.specs.Lists.{pick, keep, any, first, before, each}
 
 less-both : (a b : ℕ) → ltb (suc a) (suc b) ≡ ltb a b
 less-both a b = go (ltb a b) refl
@@ -108,24 +107,3 @@ pub each-append : {A B : Type 0} (f : A → List B) (xs ys : List A) → each f 
 unfolding each
 each-append f [] ys = refl
 each-append {A} {B} f (x ∷ xs) ys = ap (λ (r : List B). f x ++ r) (each-append f xs ys) ∙ sym (append-assoc (f x) (each f xs) (each f ys))
-
--- ---- lists of different lengths, and the first of nine
-
-pub agree-lengths : {A : Type 0} (e : A → A → Bool) (xs ys : List A) → (length xs ≡ length ys → ⊥) → agree e xs ys ≡ false
-unfolding agree pick
-agree-lengths e [] [] h = absurd (h refl)
-agree-lengths e [] (y ∷ ys) h = refl
-agree-lengths e (x ∷ xs) [] h = refl
-agree-lengths e (x ∷ xs) (y ∷ ys) h = rw (agree-lengths e xs ys (λ q. h (ap suc q))) (go (e x y))
-  where
-    go : (b : Bool) → pick b false false ≡ false
-    go true = refl
-    go false = refl
-
--- past the nine there is nothing to take
-pub take-nine : (n : ℕ) (xs : List ℕ) → length xs ≡ 9 → take (min n 9) xs ≡ take n xs
-take-nine n xs l = go (leb n 9) refl
-  where
-    go : (b : Bool) → leb n 9 ≡ b → take (min n 9) xs ≡ take n xs
-    go true e = let h : min n 9 ≡ n = omega (arith, leb-true n 9 e) in ap (λ (k : ℕ). take k xs) h
-    go false e = let g = leb-false n 9 e in take-all (min n 9) xs (omega arith) ∙ sym (take-all n xs (omega arith))

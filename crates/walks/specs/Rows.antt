@@ -12,7 +12,7 @@ use Rattle.meaning.specs.Lists.{any, first, before}
 use Rattle.meaning.specs.Origins.{Item}
 use Rattle.meaning.specs.Normal.{Slot}
 use Rattle.tables.specs.declared.Row.{Row}
-use Rattle.tables.specs.Rows.{item-of, row-at}
+use Rattle.tables.specs.Rows.{item-of, row-at, row-size}
 use Rattle.forms.specs.Forms.{slot-at, slots-at, items-at}
 use Rattle.forms.specs.FormLaws.{length-items, item-at}
 use Rattle.walks.specs.Lists.{any-before, found-passes, first-there, first-nowhere}
@@ -22,21 +22,21 @@ use Rattle.walks.specs.Loops.{listed, Asking, ask-start, ask-end, none-p
 
 -- the item of row k of the table at b
 unfoldable pub item-in : List ℕ → List ℕ → List ℕ → ℕ → ℕ → Item
-item-in text tape w b k = item-of text tape (row-at w (b + k * 16))
+item-in text tape w b k = item-of text tape (row-at w (b + k * row-size))
 
 abbrev pub Finding : (Item → Bool) → List ℕ → List ℕ → List ℕ → ℕ → ℕ → ℕ → Type 0
 Finding test text tape w b n i = Asking (item-in text tape w b) test n i
 
 module _ (text tape w : List ℕ) (b : ℕ) where
-  items-from : (c i : ℕ) → items-at text tape w (b + i * 16) c ≡ listed (item-in text tape w b) i c
+  items-from : (c i : ℕ) → items-at text tape w (b + i * row-size) c ≡ listed (item-in text tape w b) i c
   unfolding items-at listed item-in
   items-from zero i = refl
   items-from (suc c) i =
-      let e : b + i * 16 + 16 ≡ b + suc i * 16 = omega arith in
-      ap (λ (xs : List Item). item-of text tape (row-at w (b + i * 16)) ∷ xs) (ap (λ (p : ℕ). items-at text tape w p c) e ∙ items-from c (suc i))
+      let e : b + i * row-size + row-size ≡ b + suc i * row-size = omega arith in
+      ap (λ (xs : List Item). item-of text tape (row-at w (b + i * row-size)) ∷ xs) (ap (λ (p : ℕ). items-at text tape w p c) e ∙ items-from c (suc i))
 
   items-listed : (n : ℕ) → listed (item-in text tape w b) 0 n ≡ items-at text tape w b n
-  items-listed n = let e : b + 0 * 16 ≡ b = omega arith in sym (items-from n 0) ∙ ap (λ (p : ℕ). items-at text tape w p n) e
+  items-listed n = let e : b + 0 * row-size ≡ b = omega arith in sym (items-from n 0) ∙ ap (λ (p : ℕ). items-at text tape w p n) e
 
 module _ (test : Item → Bool) (text tape w : List ℕ) (b n : ℕ) where
   abbrev items : List Item
@@ -51,7 +51,7 @@ module _ (test : Item → Bool) (text tape w : List ℕ) (b n : ℕ) where
   pub nowhere : (i : ℕ) → n ≤ i → Finding test text tape w b n i → false ≡ any test items
   nowhere i h inv = none-passes (item-in text tape w b) test n i h inv ∙ ap (any test) (items-listed text tape w b n)
 
-  module _ (i : ℕ) (y : Row) (r : Bool) (h : i < n) (inv : Finding test text tape w b n i) (e : y ≡ row-at w (b + i * 16))
+  module _ (i : ℕ) (y : Row) (r : Bool) (h : i < n) (inv : Finding test text tape w b n i) (e : y ≡ row-at w (b + i * row-size))
       (f : r ≡ test (item-of text tape y)) where
     this : r ≡ test (item-in text tape w b i)
     unfolding item-in
@@ -87,12 +87,12 @@ module _ (test : Item → Bool) (text tape w : List ℕ) (b n : ℕ) where
     inside : place < length (items-at text tape w b n)
     inside = omega (arith, length-items text tape w b n)
 
-    pub first-row : first test (items-at text tape w b n) ≡ some (item-of text tape (row-at w (b + place * 16)))
+    pub first-row : first test (items-at text tape w b n) ≡ some (item-of text tape (row-at w (b + place * row-size)))
     first-row =
         let d = item-of text tape (row-at w b) in
         first-there test d (items-at text tape w b n) inside ∙ ap (λ (x : Item). some x) (item-at text tape w b n place d h)
 
-    pub row-passes : test (item-of text tape (row-at w (b + place * 16))) ≡ true
+    pub row-passes : test (item-of text tape (row-at w (b + place * row-size))) ≡ true
     row-passes =
         let d = item-of text tape (row-at w b) in
         ap test (sym (item-at text tape w b n place d h)) ∙ found-passes test d (items-at text tape w b n) inside

@@ -11,6 +11,7 @@ use Rattle.meaning.specs.Lists.{pick}
 use Rattle.meaning.specs.Names.{bytes}
 use Rattle.meaning.specs.Written.{between-marks, type-text, section-text, declared-text}
 use Rattle.names.specs.Word.{name-of}
+use Rattle.tape.specs.Tape.{variable-role}
 use Rattle.tables.specs.Entries.{role-at, name-at, word-at, names-from, is-function-role, arity-at, sort-place, declared-at}
 use Rattle.tables.specs.Rows.{section-of}
 use Rattle.tables.specs.declared.Section.{Section}
@@ -92,14 +93,14 @@ module _ (l : ℕ) (text tape : List ℕ) (p q : Pen) where
   unfolding declared-at declared-text declared-function-text pick
   declared-function d r t e f g h = rw (← e, ← f, g) h
 
-  pub declared-variable : (d r : ℕ) (t : Bool) → r ≡ role-at tape d → t ≡ is-function-role r → t ≡ false → r ≡ 17 → q ≡ written l (declared-variable-text text tape d) p
+  pub declared-variable : (d r : ℕ) (t : Bool) → r ≡ role-at tape d → t ≡ is-function-role r → t ≡ false → r ≡ variable-role → q ≡ written l (declared-variable-text text tape d) p
       → q ≡ written l (declared-text (declared-at text tape d)) p
   unfolding declared-at declared-text declared-variable-text variable-type-text type-text between-marks pick
-  declared-variable d r t e f g k h = rw (← e, ← f, g, eq-eqb r 17 k) h
+  declared-variable d r t e f g k h = rw (← e, ← f, g, eq-eqb r variable-role k) h
 
-  pub declared-sort : (d r : ℕ) (t : Bool) → r ≡ role-at tape d → t ≡ is-function-role r → t ≡ false → (r ≡ 17 → ⊥) → q ≡ written l (declared-sort-text text tape d) p
+  pub declared-sort : (d r : ℕ) (t : Bool) → r ≡ role-at tape d → t ≡ is-function-role r → t ≡ false → (r ≡ variable-role → ⊥) → q ≡ written l (declared-sort-text text tape d) p
       → q ≡ written l (declared-text (declared-at text tape d)) p
   unfolding declared-at declared-text declared-sort-text pick
-  declared-sort d r t e f g k h = rw (← e, ← f, g, ne-eqb r 17 k) h
+  declared-sort d r t e f g k h = rw (← e, ← f, g, ne-eqb r variable-role k) h
 
 pub ruleset cases = (named, section-export, section-hidden, section-parameter, names-none, names-some, sort-named, function-done, variable-done, declared-function, declared-variable, declared-sort, then, rows-start, rows-again, rows-end, needs)

@@ -6,6 +6,7 @@ use tables::entries::is_function_role;
 use tables::entries::name_at;
 use tables::entries::role_at;
 use tables::entries::sort_place;
+use tape::roles;
 ghost use mathlib.Core.Path.{_≡_};
 ghost use mathlib.Core.List.{_++_};
 ghost use Prim.Native.Nat.{_-_};
@@ -206,7 +207,7 @@ pub fn put_declared(
     if is_function_role(role) {
         return put_function(out, at, limit, library, text, tape, d);
     }
-    if role == 17 {
+    if role == roles::VARIABLE {
         return put_variable(out, at, limit, library, text, tape, d);
     }
     put_sort(out, at, limit, library, text, tape, d)

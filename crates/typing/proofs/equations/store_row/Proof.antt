@@ -14,8 +14,7 @@ store-row-spec =
     (λ c. search needs)  -- part-name-at-end
     (λ c κs. search needs)  -- name-at-requires
     (λ c κs. search needs)  -- equation-row-requires
-    (λ c. search needs)  -- mul-write-equation
-    (λ c. search needs)  -- add-write-equation
+    (λ c. search needs)  -- cast-write-equation
     (λ c κs. search needs)  -- write-equation-requires
     (λ c. search needs)  -- same-length
     (λ c. search passes)  -- returns

@@ -1,9 +1,9 @@
--- `joining::equations::put_three` meets its contract.
+-- `tables::entries::put_three` meets its contract.
 -- Assumes nothing.
-use Rattle.joining.proofs.Turns.{turns}
+use Rattle.tables.proofs.Moves.{three-put}
 use borrow.Author.Needs.{needs}
-use Rattle.joining.proofs.equations.put_three.Statement.{statement}
-use Rattle.joining.proofs.equations.put_three.Tie as tie
+use Rattle.tables.proofs.entries.put_three.Statement.{statement}
+use Rattle.tables.proofs.entries.put_three.Tie as tie
 
 pub put-three-spec : {M : Type 1} → statement M
 put-three-spec =
@@ -15,5 +15,5 @@ put-three-spec =
     (λ c. search needs)  -- add-put-word-2
     (λ c κs. search needs)  -- put-word-requires-3
     (λ c. search needs)  -- same-length
-    (λ c. search turns)  -- returns
+    (λ c. search (three-put, needs))  -- returns
     )

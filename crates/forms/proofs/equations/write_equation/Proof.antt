@@ -1,9 +1,9 @@
--- `joining::equations::write_equation` meets its contract.
+-- `forms::equations::write_equation` meets its contract.
 -- Assumes nothing.
-use Rattle.joining.proofs.Turns.{turns}
+use Rattle.forms.proofs.Cases.{cases}
 use borrow.Author.Needs.{needs}
-use Rattle.joining.proofs.equations.write_equation.Statement.{statement}
-use Rattle.joining.proofs.equations.write_equation.Tie as tie
+use Rattle.forms.proofs.equations.write_equation.Statement.{statement}
+use Rattle.forms.proofs.equations.write_equation.Tie as tie
 
 pub write-equation-spec : {M : Type 1} → statement M
 write-equation-spec =
@@ -14,5 +14,5 @@ write-equation-spec =
     (λ c. search needs)  -- add-put-three
     (λ c κs. search needs)  -- put-three-requires-2
     (λ c. search needs)  -- same-length
-    (λ c. search turns)  -- returns
+    (λ c. search cases)  -- returns
     )

@@ -1,16 +1,15 @@
--- `listing::parts::read_equation` meets its contract.
+-- `forms::equations::read_equation` meets its contract.
 -- Assumes nothing.
-use Rattle.listing.proofs.Cases.{cases}
+use Rattle.forms.proofs.Cases.{cases}
 use borrow.Author.Needs.{needs}
-use Rattle.listing.proofs.parts.read_equation.Statement.{statement}
-use Rattle.listing.proofs.parts.read_equation.Tie as tie
+use Rattle.forms.proofs.equations.read_equation.Statement.{statement}
+use Rattle.forms.proofs.equations.read_equation.Tie as tie
 
 pub read-equation-spec : {M : Type 1} → statement M
 read-equation-spec =
     tie.close
     (tie.spec
-    (λ c. search needs)  -- mul-b
-    (λ c. search needs)  -- add-b
+    (λ c κs. search needs)  -- equation-place-requires
     (λ c κs. search needs)  -- word-at-requires
     (λ c. search needs)  -- add-word-at
     (λ c κs. search needs)  -- word-at-requires-2
