@@ -21,7 +21,7 @@ exec "$tools/bin/clang" "\$@"
 KEEP
 chmod +x "$shadow/kit/on/$machine/toolchain/bin/clang"
 
-for crate in asf_c parts_c asking_c; do
+for crate in asf_c parts_c ask_c; do
     RATTLE_HOME=$shadow/kit rt staticlib $crate
     # the module as text, without the lines and attributes that name the processor
     "$tools/bin/clang" --target=x86_64-unknown-linux-gnu -x ir "$shadow/module.bc" -S -emit-llvm -Xclang -disable-llvm-passes -o "$shadow/$crate.ll"

@@ -1,5 +1,5 @@
 #!/usr/bin/env python3
-"""Writes the standard input of crates/reading_trials and what it must print: reading_cases.py VECTORS..
+"""Writes the standard input of crates/read_trials and what it must print: reading_cases.py VECTORS..
 
 VECTORS are folders of NAME.in / NAME.out pairs, inputs of asfnorm and what it prints, without a library: `readings` and `two` of
 rust/reference/vectors. Those refused by 1 to 5 are taken, without their first line. To these come the sizes of document 01, each at its limit
@@ -102,7 +102,7 @@ for f in sorted(f for folder in sys.argv[1:] for f in glob.glob(folder + '/*.in'
         taken.append((os.path.basename(f)[:-3], body, int(out['answer']), int(out['at'])))
 cases = taken + cases
 
-here = os.path.join(os.path.dirname(os.path.abspath(__file__)), '..', 'crates', 'reading_trials')
+here = os.path.join(os.path.dirname(os.path.abspath(__file__)), '..', 'crates', 'read_trials')
 with open(here + '/stdin', 'wb') as i, open(here + '/stdout', 'w') as o:
     for name, text, number, place in cases:
         body = text.encode('latin1')

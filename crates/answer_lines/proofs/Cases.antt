@@ -11,11 +11,11 @@ use Rattle.meaning.specs.Lists.{pick, each}
 use Rattle.meaning.specs.Names.{bytes}
 use Rattle.meaning.specs.Written.{digits, decimal}
 use Rattle.meaning.specs.Answer as Meaning
-use Rattle.pen.specs.Pen.{Pen, pen, written}
-use Rattle.pen.proofs.Laws.{then}
-use Rattle.answers.specs.declared.Name.{Name}
-use Rattle.answers.specs.declared.Answer.{Answer}
-use Rattle.answers.specs.Answers as Answers
+use Rattle.list_pen.specs.Pen.{Pen, pen, written}
+use Rattle.list_pen.proofs.Laws.{then}
+use Rattle.answer.specs.declared.Name.{Name}
+use Rattle.answer.specs.declared.Answer.{Answer}
+use Rattle.answer.specs.Answers as Answers
 use Rattle.answer_lines.specs.Lines.{line-of, spelled, actual-text, marked-place, refusal-text, answer-text}
 
 -- ---- lines: p is where the pen stands before, q after

@@ -10,8 +10,8 @@ use Rattle.meaning.specs.Names.{bytes}
 use Rattle.meaning.specs.Numbers.{accepted}
 use Rattle.meaning.specs.Written.{decimal}
 use Rattle.meaning.specs.Answer as Meaning
-use Rattle.answers.specs.declared.Name.{Name}
-use Rattle.answers.specs.declared.Answer.{Answer}
+use Rattle.answer.specs.declared.Name.{Name}
+use Rattle.answer.specs.declared.Answer.{Answer}
 
 unfoldable pub line-of : List ℕ → List ℕ → List ℕ
 line-of key value = key ++ (bytes "=" ++ (value ++ bytes "\n"))

@@ -1,15 +1,15 @@
 // An answer written as lines, as `asfnorm` prints it.
-use answers::Answer;
-use answers::Name;
+use answer::Answer;
+use answer::Name;
+use list_pen::put_bytes;
+use list_pen::put_digits;
+use list_pen::put_text;
 use meaning::numbers;
-use pen::put_bytes;
-use pen::put_digits;
-use pen::put_text;
 ghost use mathlib.Core.Path.{_≡_};
 ghost use lib.ListN.{take};
 ghost use Rattle.meaning.specs.Names.{bytes};
 ghost use Rattle.meaning.specs.Written.{decimal};
-ghost use Rattle.pen.specs.Pen.{pen, written};
+ghost use Rattle.list_pen.specs.Pen.{pen, written};
 ghost use Rattle.answer_lines.specs.Lines.{line-of, spelled, actual-text, marked-place, refusal-text, answer-text};
 
 // A line whose value is a number.

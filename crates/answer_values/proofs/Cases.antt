@@ -4,10 +4,10 @@ use mathlib.Core.List.{List, [], _∷_}
 use Prim.Native.Nat.{ℕ, _+_}
 use borrow.Author.Needs.{needs}
 use lib.ListN.{length, set}
-use Rattle.values.specs.Values.{laid, bit-of}
-use Rattle.pen.specs.Pen.{Pen, pen, written}
-use Rattle.answers.specs.declared.Name.{Name}
-use Rattle.answers.specs.declared.Answer.{Answer}
+use Rattle.values_c.specs.Values.{laid, bit-of}
+use Rattle.list_pen.specs.Pen.{Pen, pen, written}
+use Rattle.answer.specs.declared.Name.{Name}
+use Rattle.answer.specs.declared.Answer.{Answer}
 use Rattle.answer_values.specs.Laid.{answer-values, names-laid}
 
 -- ---- values

@@ -2,10 +2,10 @@
 use Prim.Native.Nat.{ℕ, _+_}
 use mathlib.Core.List.{List, [], _∷_}
 use lib.ListN.{length}
-use Rattle.values.specs.Values.{laid, bit-of}
-use Rattle.pen.specs.Pen.{pen, written}
-use Rattle.answers.specs.declared.Name.{Name}
-use Rattle.answers.specs.declared.Answer.{Answer}
+use Rattle.values_c.specs.Values.{laid, bit-of}
+use Rattle.list_pen.specs.Pen.{pen, written}
+use Rattle.answer.specs.declared.Name.{Name}
+use Rattle.answer.specs.declared.Answer.{Answer}
 
 -- the values of an answer; behind them 1 where the place is in the library, and the length of the actual name
 unfoldable pub answer-values : Answer → List ℕ

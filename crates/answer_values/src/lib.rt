@@ -1,12 +1,12 @@
 // The values and names of an answer, as they are handed over in lent slices.
-use answers::Answer;
-use answers::Name;
-use pen::put_text;
-use values::bit;
-use values::put_three;
-use values::put_value;
+use answer::Answer;
+use answer::Name;
+use list_pen::put_text;
+use values_c::bit;
+use values_c::put_three;
+use values_c::put_value;
 ghost use mathlib.Core.Path.{_≡_};
-ghost use Rattle.values.specs.Values.{laid};
+ghost use Rattle.values_c.specs.Values.{laid};
 ghost use Rattle.answer_values.specs.Laid.{answer-values, names-laid};
 
 // The values of an answer.

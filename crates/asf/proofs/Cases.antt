@@ -14,9 +14,9 @@ use Rattle.meaning.specs.Checks.{lone}
 use Rattle.meaning.specs.Answer.{refusal, answer, memory-after}
 use Rattle.meaning.specs.Texts.{Texts, Reading, read-texts}
 use Rattle.meaning.specs.Contract.{call}
-use Rattle.answers.specs.declared.Answer.{Answer}
-use Rattle.answers.specs.Answers.{told, returned, told-call}
-use Rattle.answers.specs.Told.{refusal-leaves}
+use Rattle.answer.specs.declared.Answer.{Answer}
+use Rattle.answer.specs.Answers.{told, returned, told-call}
+use Rattle.answer.specs.Told.{refusal-leaves}
 use Rattle.memory.proofs.Cases.{same-zeros}
 use Rattle.asf.specs.Steps.{Answered, Spoken}
 use Rattle.asf.specs.Meant.{end-within, tape-room, unread-answered, read-spoken, tape-within, tape-small, asked-found, absent-answered, found-within, found-given, refused-answered, form-evaluated, listed-within, hidden-few, listed-answered, long-answered}

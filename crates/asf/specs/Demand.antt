@@ -17,8 +17,8 @@ use Rattle.promises.specs.VisiblePart.{visible-part}
 use Rattle.promises.specs.Demand.{Acceptance, Comparable, Demand3, InTheCall, ByItself, SameAnswer}
 use Rattle.promises.specs.Proof.{demand-3}
 use Rattle.promises.specs.Alone.{demand-3-alone}
-use Rattle.answers.specs.declared.Answer.{Answer}
-use Rattle.answers.specs.Answers.{held, told, Returned, told-call}
+use Rattle.answer.specs.declared.Answer.{Answer}
+use Rattle.answer.specs.Answers.{held, told, Returned, told-call}
 use Rattle.asf.specs.Promises.{answer-told, number-told, listing-told}
 
 -- all is the same but for the listing's length and the lines that are not visible

@@ -9,8 +9,8 @@ use Rattle.meaning.specs.Reached.{short-or-blank}
 use Rattle.meaning.specs.Syntax.{Module}
 use Rattle.meaning.specs.Texts.{Texts}
 use Rattle.meaning.specs.Contract.{Call, call}
-use Rattle.import_order.specs.ImportOrder.{Reordered, BothOrNeither, SameCall, import-order-call}
-use Rattle.answers.specs.Answers.{held, told, Returned, told-call}
+use Rattle.promises_import_order.specs.ImportOrder.{Reordered, BothOrNeither, SameCall, import-order-call}
+use Rattle.answer.specs.Answers.{held, told, Returned, told-call}
 
 -- whether it is accepted, the count, the module where it is refused, the listing's length, and the lent slices afterwards
 pub record SameReturned (r r′ : Returned) : Type 0 where

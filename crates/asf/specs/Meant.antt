@@ -17,51 +17,51 @@ use Rattle.meaning.specs.Checks.{lone}
 use Rattle.meaning.specs.Reached.{normalised, refused-at, in-turn, reached, module-names, short-or-blank, normalise}
 use Rattle.meaning.specs.Listing.{lines-text, listing-lines}
 use Rattle.meaning.specs.Answer.{refusal, of-ended, unread, of-read, within, output-after}
-use Rattle.names.specs.Word.{name-of}
-use Rattle.names.specs.Joint.{joint}
-use Rattle.forms.specs.Forms.{form-size}
-use Rattle.two_texts.specs.declared.Both.{Both}
-use Rattle.two_texts.specs.declared.Both.the-variants.{Done, Refused}
-use Rattle.two_texts.specs.Both.{Said}
+use Rattle.text_names.specs.Word.{name-of}
+use Rattle.text_names.specs.Joint.{joint}
+use Rattle.form.specs.Forms.{form-size}
+use Rattle.read_both.specs.declared.Both.{Both}
+use Rattle.read_both.specs.declared.Both.the-variants.{Done, Refused}
+use Rattle.read_both.specs.Both.{Said}
 use Rattle.tape.specs.Tape.{spelled, entries}
-use Rattle.limits.specs.Limits.{limits-read, modules-few}
-use Rattle.tables.specs.Entries.{word-at, name-at}
-use Rattle.hidden_items.specs.Sound.{HiddenSound}
+use Rattle.invariants.specs.Limits.{limits-read, modules-few}
+use Rattle.form_rows.specs.Entries.{word-at, name-at}
+use Rattle.invariants.specs.HiddenItems.{HiddenSound}
 use Rattle.laws.specs.Outcomes.{Ends}
-use Rattle.hidden_items.specs.Evaluated.{normalise-sound}
-use Rattle.forms.specs.declared.Culprit.{Culprit}
-use Rattle.forms.specs.declared.Form.{Form}
-use Rattle.forms.specs.Memory.{part}
-use Rattle.forms.specs.Verdicts.{culprit-of}
-use Rattle.layout.specs.Layout.{tape-end, table-start}
-use Rattle.keeping.specs.Keeping.{form-at}
+use Rattle.invariants.specs.HiddenEvaluated.{normalise-sound}
+use Rattle.form.specs.declared.Culprit.{Culprit}
+use Rattle.form.specs.declared.Form.{Form}
+use Rattle.form.specs.Memory.{part}
+use Rattle.form.specs.Verdicts.{culprit-of}
+use Rattle.form_layout.specs.Layout.{tape-end, table-start}
+use Rattle.form_keeping.specs.Keeping.{form-at}
 use Rattle.modules.specs.declared.Heads.{Heads}
 use Rattle.modules.specs.Modules.{HeadsOf, declared}
 use Rattle.modules.specs.ModuleLaws.{heads-number, declared-names}
 use Rattle.modules.specs.Members.{member-found, member-absent}
 use Rattle.modules.specs.ReachedLaws.{found-name, names-number}
 use Rattle.modules.specs.Meant.{asked-number}
-use Rattle.environment.specs.Environment.{kept-form}
-use Rattle.evaluating.specs.Sofar.{Told}
-use Rattle.turns.specs.declared.Ended.{Ended}
-use Rattle.turns.specs.Turns.{LastStands, EndsAs, Given, AllTurned}
-use Rattle.listing.specs.declared.Written.{Written}
-use Rattle.listing.specs.declared.Written.the-variants.{Fits, TooLong}
-use Rattle.listing.specs.Lines.{listing-text}
-use Rattle.listing.specs.Meant.{listing-meant}
-use Rattle.listing.specs.Fit.{result, fitted}
-use Rattle.listing.specs.Lent.{Lent, answer-when, lent-meant}
-use Rattle.answers.specs.declared.Answer.{Answer}
-use Rattle.answers.specs.Answers.{held, told, told-listed}
-use Rattle.answers.specs.Told.{short-name, refusal-within, refusal-leaves, unread-within, unread-leaves}
+use Rattle.form_keeping.specs.Environment.{kept-form}
+use Rattle.evaluate_module.specs.Sofar.{Told}
+use Rattle.evaluate_turns.specs.declared.Ended.{Ended}
+use Rattle.evaluate_turns.specs.Turns.{LastStands, EndsAs, Given, AllTurned}
+use Rattle.list.specs.declared.Written.{Written}
+use Rattle.list.specs.declared.Written.the-variants.{Fits, TooLong}
+use Rattle.list.specs.Lines.{listing-text}
+use Rattle.list.specs.Meant.{listing-meant}
+use Rattle.list.specs.Fit.{result, fitted}
+use Rattle.list.specs.Lent.{Lent, answer-when, lent-meant}
+use Rattle.answer.specs.declared.Answer.{Answer}
+use Rattle.answer.specs.Answers.{held, told, told-listed}
+use Rattle.answer.specs.Told.{short-name, refusal-within, refusal-leaves, unread-within, unread-leaves}
 use Rattle.asf.specs.Steps.{Answered, Spoken, Found, Evaluated}
-use Rattle.turns.specs.ByNumber.{name-there}
+use Rattle.evaluate_turns.specs.ByNumber.{name-there}
 use Rattle.meaning.specs.Checks as Checks
 use Rattle.meaning.specs.Reached as Reached
 use Rattle.meaning.specs.Answer as Meaning
-use Rattle.two_texts.specs.Both as TwoTexts
-use Rattle.turns.specs.declared.Ended.the-variants as Ended
-use Rattle.listing.specs.Fit as Fit
+use Rattle.read_both.specs.Both as TwoTexts
+use Rattle.evaluate_turns.specs.declared.Ended.the-variants as Ended
+use Rattle.list.specs.Fit as Fit
 
 -- ---- a refusal leaves the output
 

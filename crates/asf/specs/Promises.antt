@@ -23,10 +23,10 @@ use Rattle.meaning.specs.Contract.{call}
 use Rattle.meaning.specs.Contract as Contract
 use Rattle.promises.specs.Given.{in-cycle}
 use Rattle.promises.specs.NoCycle.{never-in-cycle}
-use Rattle.answers.specs.declared.Name.{Name}
-use Rattle.answers.specs.declared.Answer.{Answer}
-use Rattle.answers.specs.Answers.{held, told, Returned, told-call}
-use Rattle.answers.specs.Told.{short-name}
+use Rattle.answer.specs.declared.Name.{Name}
+use Rattle.answer.specs.declared.Answer.{Answer}
+use Rattle.answer.specs.Answers.{held, told, Returned, told-call}
+use Rattle.answer.specs.Told.{short-name}
 use Rattle.asf.specs.ReadNames.{answer-named, named-by-number, answer-long}
 
 -- ---- document 01's five values, the culprit with the actual name, and the mark of the place

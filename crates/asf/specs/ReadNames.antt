@@ -18,11 +18,11 @@ use Rattle.meaning.specs.Syntax.{Module}
 use Rattle.meaning.specs.Texts.{Texts, Reading, all-read, refused-in, read-texts}
 use Rattle.meaning.specs.Normal.{empty}
 use Rattle.meaning.specs.Checks.{Culprit, lone}
-use Rattle.meaning.specs.Reached.{Placed, reached, Ended, normalised, refused-at, module-names, short-or-blank, normalise}
+use Rattle.meaning.specs.Reached.{Placed, reached, Ended, normalised, refused-at, in-turn, module-names, short-or-blank, normalise}
 use Rattle.meaning.specs.Answer.{Answer, refusal, of-ended, unread, of-read, within, answer}
 use Rattle.laws.specs.EveryLaws.{every-so}
 use Rattle.laws.specs.Walk.{reached-every}
-use Rattle.limits.specs.Limits.{Limited, limits-read}
+use Rattle.invariants.specs.Limits.{Limited, limits-read}
 use Rattle.promises.specs.Counts.{CountedIn, in-turn-counted}
 use Rattle.promises.specs.ReadNumbers.{refused-low}
 
@@ -63,8 +63,8 @@ unfolding of-read unread normalise reached
 read-named asked texts (all-read ms) e =
     end-named asked _
     (by-cases (EndNamed asked) _ _ _
-    (λ q. end-short asked (module-names ms) (reached asked ms) (reached-every (λ m. Short (m .name)) asked 0 [] ms (read-names texts ms e)) _
-    (in-turn-counted (module-names ms) [] empty (reached asked ms))) (λ q. inr refl))
+    (λ q. end-short asked (module-names ms) (reached asked ms) (reached-every (λ m. Short (m .name)) asked 0 [] ms (read-names texts ms e))
+    (in-turn (module-names ms) [] empty (reached asked ms)) (in-turn-counted (module-names ms) [] empty (reached asked ms))) (λ q. inr refl))
 read-named asked texts (refused-in l number at) e = inl (omega arith)
 
 pub answer-named : (memory-lent output-lent : ℕ) (asked : Name) (texts : Texts) → AnswerNamed asked (answer memory-lent output-lent asked texts)

@@ -13,10 +13,10 @@ use Rattle.meaning.specs.Texts.{Texts}
 use Rattle.meaning.specs.Listing.{lines-text, listing-lines}
 use Rattle.meaning.specs.Answer.{answer}
 use Rattle.meaning.specs.Contract.{call}
-use Rattle.replacing.specs.Replacing.{Replaced, renewed, Accepts}
-use Rattle.replacing.specs.Replaced.{replaced-answer}
-use Rattle.answers.specs.declared.Answer.{Answer}
-use Rattle.answers.specs.Answers.{told, Returned, told-call}
+use Rattle.promises_replacing.specs.Replacing.{Replaced, renewed, Accepts}
+use Rattle.promises_replacing.specs.Replaced.{replaced-answer}
+use Rattle.answer.specs.declared.Answer.{Answer}
+use Rattle.answer.specs.Answers.{told, Returned, told-call}
 use Rattle.asf.specs.Promises.{answer-told, number-told, listing-told}
 
 -- 0, after so many modules, with the listing of n at the front of the output

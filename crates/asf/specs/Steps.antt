@@ -10,20 +10,20 @@ use Rattle.meaning.specs.Syntax.{Module}
 use Rattle.meaning.specs.OrderLaws.{Every}
 use Rattle.meaning.specs.Distinct.{Fresh}
 use Rattle.meaning.specs.Texts.{Reading, all-read}
-use Rattle.limits.specs.Limits.{Limited}
+use Rattle.invariants.specs.Limits.{Limited}
 use Rattle.meaning.specs.Normal.{Normal}
 use Rattle.meaning.specs.Reached.{normalised, module-names}
 use Rattle.meaning.specs.Answer.{of-ended, of-read, within, output-after}
-use Rattle.names.specs.Word.{name-of}
+use Rattle.text_names.specs.Word.{name-of}
 use Rattle.tape.specs.Tape.{entries, flat-module, flat-modules}
-use Rattle.hidden_items.specs.Sound.{HiddenSound}
-use Rattle.forms.specs.Memory.{part}
-use Rattle.layout.specs.Layout.{tape-end}
+use Rattle.invariants.specs.HiddenItems.{HiddenSound}
+use Rattle.form.specs.Memory.{part}
+use Rattle.form_layout.specs.Layout.{tape-end}
 use Rattle.modules.specs.declared.Heads.{Heads}
 use Rattle.modules.specs.Modules.{HeadsOf}
-use Rattle.turns.specs.Turns.{LastStands}
-use Rattle.answers.specs.declared.Answer.{Answer}
-use Rattle.answers.specs.Answers.{told}
+use Rattle.evaluate_turns.specs.Turns.{LastStands}
+use Rattle.answer.specs.declared.Answer.{Answer}
+use Rattle.answer.specs.Answers.{told}
 
 -- the answer to one who asked, where there is enough memory; the output o became o′
 pub record Answered (asked : Name) (x : Reading) (o : List ℕ) (r : Answer) (o′ : List ℕ) : Type 0 where

@@ -3,9 +3,9 @@ use mathlib.Core.Path.{_≡_, ap}
 use mathlib.Core.List.{List}
 use Prim.Native.Nat.{ℕ}
 use borrow.Author.Needs.{needs}
-use Rattle.values.specs.Values.{laid}
-use Rattle.answers.specs.declared.Answer.{Answer}
-use Rattle.answers.specs.Answers.{Returned, returned}
+use Rattle.values_c.specs.Values.{laid}
+use Rattle.answer.specs.declared.Answer.{Answer}
+use Rattle.answer.specs.Answers.{Returned, returned}
 use Rattle.answer_values.specs.Laid.{answer-values, names-laid}
 use Rattle.asf_c.specs.Handed.{handed, handed-call}
 

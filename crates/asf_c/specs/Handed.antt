@@ -2,8 +2,8 @@
 use mathlib.Core.Path.{_≡_, sym, _∙_}
 use Prim.Native.Nat.{ℕ}
 use mathlib.Core.List.{List}
-use Rattle.values.specs.Values.{laid}
-use Rattle.answers.specs.Answers.{Returned}
+use Rattle.values_c.specs.Values.{laid}
+use Rattle.answer.specs.Answers.{Returned}
 use Rattle.answer_values.specs.Laid.{answer-values, names-laid}
 
 -- what a call gives: the number, and the lent slices afterwards

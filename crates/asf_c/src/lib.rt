@@ -8,7 +8,7 @@ ghost use mathlib.Core.Path.{_≡_};
 ghost use Rattle.meaning.specs.Texts.{two-texts};
 ghost use Rattle.meaning.specs.Contract.{call};
 ghost use Rattle.meaning.specs.Numbers.{memory-size};
-ghost use Rattle.answers.specs.Answers.{told-call};
+ghost use Rattle.answer.specs.Answers.{told-call};
 ghost use Rattle.asf_c.specs.Handed.{handed, handed-call};
 
 // The number of words that the working memory has at the least.

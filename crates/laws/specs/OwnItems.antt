@@ -6,7 +6,7 @@ use Rattle.meaning.specs.Syntax.{Function, Signature, Parameter, Module, variab
 use Rattle.meaning.specs.Origins.{Section, export-section, hidden-section, parameter-section, Declared, declared-sort, declared-function, declared-variable, Item}
 use Rattle.meaning.specs.Own.{own-sort, own-function, own-section, own-visible, own-variable, own-hidden-items}
 use Rattle.meaning.specs.OrderLaws.{Every}
-use Rattle.laws.specs.EveryLaws.{every-append, every-map, every-made, every-each}
+use Rattle.laws.specs.EveryLaws.{every-append, every-map, every-each, every-any}
 
 -- the name under which an item was declared
 unfoldable pub declared-name : Declared → Name
@@ -27,10 +27,7 @@ module _ (P : Item → Type 0) (m : Module) (seen : List Name) where
   -- of whatever is declared
   pub section-made : (s : Section) → ((a : Name) → P (own-sort m seen s a)) → ((f : Function) → P (own-function m seen s f)) → (g : Signature)
       → Every P (own-section m seen s g)
-  unfolding own-section
-  section-made s p q g =
-      every-append P (map (own-sort m seen s) (g .sorts)) (map (own-function m seen s) (g .functions))
-      (every-made P (own-sort m seen s) p (g .sorts)) (every-made P (own-function m seen s) q (g .functions))
+  section-made s p q g = section-every (λ a. Unit {0}) (λ f. Unit {0}) s (λ a u. p a) (λ f u. q f) g (every-any (g .sorts)) (every-any (g .functions))
 
   abbrev pub formal-items : Parameter → List Item
   formal-items p = own-section m seen (parameter-section (p .name)) (p .signature)

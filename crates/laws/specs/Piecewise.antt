@@ -42,62 +42,41 @@ module _ (P : Item → Type 0) where
   abbrev pub AllHidden : Normal → Type 0
   AllHidden n = Every P (n .hidden .items)
 
-  pub visible-keep : {N : Name → Type 0} → ((σ : Name → Name) (φ : Name → FunctionType → Name) → Carries N σ φ → (i : Item) → P i → P (move-item σ φ i))
-      → Keeps N AllVisible
-  unfolding empty nothing-visible move move-visible without without-visible unite unite-visible
-  visible-keep moved =
-      keeps tt
-      (λ σ φ c n h. every-union P one-item [] (map (move-item σ φ) (n .visible .items)) tt (every-map P P (move-item σ φ) (moved σ φ c) (n .visible .items) h))
-      (λ p n h. every-keep P (λ (i : Item). not (in-parameter p (i .standing))) (n .visible .items) h)
-      (λ a b h k. every-union P one-item (a .visible .items) (b .visible .items) h k)
-
-  pub hidden-keep : {N : Name → Type 0} → ((σ : Name → Name) (φ : Name → FunctionType → Name) → Carries N σ φ → (i : Item) → P i → P (move-hidden-item σ φ i))
-      → Keeps N AllHidden
-  unfolding empty nothing-hidden move move-hidden without unite unite-hidden
-  hidden-keep moved =
-      keeps tt
-      (λ σ φ c n h.
-      every-union P one-item [] (map (move-hidden-item σ φ) (n .hidden .items)) tt
-      (every-map P P (move-hidden-item σ φ) (moved σ φ c) (n .hidden .items) h))
-      (λ p n h. h) (λ a b h k. every-union P one-item (a .hidden .items) (b .hidden .items) h k)
-
-  module _ (m : Module) (n : Normal) (es : List ResolvedEquation) where
-    pub visible-joined : Every P (own-visible m (seen-sorts m (n .visible)) .items) → AllVisible n → AllVisible (with-own m n es)
-    unfolding joined-visible
-    visible-joined own h = every-union P one-item (n .visible .items) (own-visible m (seen-sorts m (n .visible)) .items) h own
-
-    pub hidden-joined : Every P (own-hidden-items m (seen-sorts m (n .visible))) → AllHidden n → AllHidden (with-own m n es)
-    unfolding joined-hidden unite-hidden
-    hidden-joined own h = every-union P one-item (n .hidden .items) (own-hidden-items m (seen-sorts m (n .visible))) h own
-
-  pub visible-ordered : (n : Normal) → AllVisible n → AllVisible (in-order n)
-  unfolding in-order visible-in-order
-  visible-ordered n h = rearranged-every P (sorted-rearranged _ (n .visible .items)) h
-
-  pub hidden-ordered : (n : Normal) → AllHidden n → AllHidden (in-order n)
-  unfolding in-order hidden-in-order
-  hidden-ordered n h = rearranged-every P (sorted-rearranged _ (n .hidden .items)) h
-
   -- where it holds of M's own too, it holds of all that is evaluated
   module _ {N : Name → Type 0} {M : Module → Type 0} (imports : (m : Module) → M m → ImportNames N (m .imports)) where
     pub visible-evaluates : ((σ : Name → Name) (φ : Name → FunctionType → Name) → Carries N σ φ → (i : Item) → P i → P (move-item σ φ i))
         → ((m : Module) → M m → (seen : List Name) → Every P (own-visible m seen .items)) → Evaluates N M AllVisible AllVisible
-    unfolding empty nothing-visible
+    unfolding empty nothing-visible move move-visible without without-visible unite unite-visible joined-visible in-order visible-in-order
     visible-evaluates moved own = record {
-      steps = visible-keep moved;
+      steps =
+          keeps tt
+          (λ σ φ c n h.
+          every-union P one-item [] (map (move-item σ φ) (n .visible .items)) tt
+          (every-map P P (move-item σ φ) (moved σ φ c) (n .visible .items) h))
+          (λ p n h. every-keep P (λ (i : Item). not (in-parameter p (i .standing))) (n .visible .items) h)
+          (λ a b h k. every-union P one-item (a .visible .items) (b .visible .items) h k);
       imports = imports;
-      own = λ home m h n k es r. visible-ordered (with-own m n es) (visible-joined m n es (own m h (seen-sorts m (n .visible))) k);
+      own = λ home m h n k es r.
+          rearranged-every P (sorted-rearranged _ _)
+          (every-union P one-item (n .visible .items) (own-visible m (seen-sorts m (n .visible)) .items) k (own m h (seen-sorts m (n .visible))));
       nothing = tt;
       weaker = λ n h. h;
     }
 
     pub hidden-evaluates : ((σ : Name → Name) (φ : Name → FunctionType → Name) → Carries N σ φ → (i : Item) → P i → P (move-hidden-item σ φ i))
         → ((m : Module) → M m → (seen : List Name) → Every P (own-hidden-items m seen)) → Evaluates N M AllHidden AllHidden
-    unfolding empty nothing-hidden
+    unfolding empty nothing-hidden move move-hidden without unite unite-hidden joined-hidden in-order hidden-in-order
     hidden-evaluates moved own = record {
-      steps = hidden-keep moved;
+      steps =
+          keeps tt
+          (λ σ φ c n h.
+          every-union P one-item [] (map (move-hidden-item σ φ) (n .hidden .items)) tt
+          (every-map P P (move-hidden-item σ φ) (moved σ φ c) (n .hidden .items) h))
+          (λ p n h. h) (λ a b h k. every-union P one-item (a .hidden .items) (b .hidden .items) h k);
       imports = imports;
-      own = λ home m h n k es r. hidden-ordered (with-own m n es) (hidden-joined m n es (own m h (seen-sorts m (n .visible))) k);
+      own = λ home m h n k es r.
+          rearranged-every P (sorted-rearranged _ _)
+          (every-union P one-item (n .hidden .items) (own-hidden-items m (seen-sorts m (n .visible))) k (own m h (seen-sorts m (n .visible))));
       nothing = tt;
       weaker = λ n h. h;
     }

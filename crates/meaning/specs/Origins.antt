@@ -53,7 +53,7 @@ same-origin a b = same (a .home) (b .home) && same-section (a .section) (b .sect
 
 -- a visible sort is known by its name, and so is one that is not available; a hidden sort by its origin.
 -- So types compare visible sorts by name and origin, unavailable ones by name: two visible sorts of one name and different origins are a clash,
--- and what passes 10 has one origin for each (replacing/VisibleAlike: `clear-one`). Where types of two normal forms are compared before 10, of a
+-- and what passes 10 has one origin for each (promises_replacing/VisibleAlike: `clear-one`). Where types of two normal forms are compared before 10, of a
 -- parameter met twice and in a binding, the origins are compared beside the names: Normal: `sort-agrees`; Clauses: `sort-right`
 pub data Sort : Type 0 where
   visible-sort : Name → Sort

@@ -15,12 +15,12 @@ use Rattle.meaning.specs.Names.{Name, same, member}
 use Rattle.meaning.specs.Checks.{_>>_}
 use Rattle.meaning.specs.Evaluate.{missing, too-late, names-right}
 use Rattle.meaning.specs.Numbers.{named-absent, named-late}
-use Rattle.names.specs.Word.{name-of}
-use Rattle.tables.specs.Entries.{role-at, word-at, name-at}
-use Rattle.forms.specs.declared.Culprit.{Culprit}
-use Rattle.forms.specs.declared.Verdict.{Verdict}
-use Rattle.forms.specs.declared.Verdict.the-variants.{Fine, Stop}
-use Rattle.forms.specs.Verdicts.{lone-of, told}
+use Rattle.text_names.specs.Word.{name-of}
+use Rattle.form_rows.specs.Entries.{role-at, word-at, name-at}
+use Rattle.form.specs.declared.Culprit.{Culprit}
+use Rattle.form.specs.declared.Verdict.{Verdict}
+use Rattle.form.specs.declared.Verdict.the-variants.{Fine, Stop}
+use Rattle.form.specs.Verdicts.{lone-of, told}
 use Rattle.module_set.specs.ModuleSet.{holds, nothing, added, either}
 use Rattle.modules.specs.declared.Heads.{Heads}
 use Rattle.modules.specs.Modules.{is-module, names-module, places-from, HeadsOf, names-of, declared, picked, named-in, name-right, with-named, named-set, turned, gathered, reached-set}

@@ -10,7 +10,7 @@ use Rattle.meaning.specs.Names.{Name, same, member}
 use Rattle.meaning.specs.Numbers.{named-absent, named-late}
 use Rattle.meaning.specs.Checks.{lone, Check, fine, stop, _>>_}
 use Rattle.meaning.specs.Evaluate.{missing, too-late, names-right}
-use Rattle.walks.specs.Lists.{found, none-found}
+use Rattle.form_walks.specs.Lists.{found, none-found}
 
 any-member : (w : Name) (ds : List Name) → member w ds ≡ any (same w) ds
 unfolding any member

@@ -11,7 +11,7 @@ use Rattle.meaning.specs.Numbers.{module-limit}
 use Rattle.meaning.specs.Checks.{Check}
 use Rattle.meaning.specs.Evaluate.{names-right}
 use Rattle.tape.specs.Tape.{module-role, import-role, actual-role}
-use Rattle.tables.specs.Entries.{role-at, name-at}
+use Rattle.form_rows.specs.Entries.{role-at, name-at}
 use Rattle.module_set.specs.ModuleSet.{nothing, added, either}
 use Rattle.modules.specs.declared.Heads.{Heads}
 

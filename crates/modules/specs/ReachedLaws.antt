@@ -18,7 +18,7 @@ use Rattle.meaning.specs.Reached.{Placed, wanted, reached-among, module-names}
 use Rattle.meaning.specs.Distinct.{Fresh}
 use Rattle.module_set.specs.ModuleSet.{nothing, added, either}
 use Rattle.modules.specs.Modules.{with-named, turned, gathered}
-use Rattle.walks.specs.Lists.{found-passes}
+use Rattle.form_walks.specs.Lists.{found-passes}
 
 -- ---- truth values
 

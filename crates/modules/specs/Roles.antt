@@ -13,7 +13,7 @@ use Rattle.meaning.specs.Evaluate.{clause-names, import-names, named-by}
 use Rattle.meaning.specs.Reached.{module-names}
 use Rattle.tape.specs.Roles.{All, behind-name, all-append, all-signature, all-parameters, all-groups, all-pairs, all-equations, all-behind}
 use Rattle.tape.specs.Tape.{Entry, flat-signature, flat-parameter, flat-pair, flat-clause, flat-import, flat-group, flat-module, flat-modules, module-role, export-sort, export-function, hidden-sort, hidden-function, import-role, actual-role}
-use Rattle.walks.specs.Flat.{names-with, names-append, names-each, names-none}
+use Rattle.form_walks.specs.Flat.{names-with, names-append, names-each, names-none}
 use Rattle.modules.specs.Modules.{is-module, names-module}
 
 -- ---- the head

@@ -1,10 +1,10 @@
 // The modules of a tape: where each is declared, whether the modules that one names stand before it, and which modules it reaches.
 // A module's number is its place among the modules of the text, from 0.
-use forms::Culprit;
-use forms::Verdict;
+use form::Culprit;
+use form::Verdict;
+use form_rows::entries::name_at;
+use form_rows::entries::role_at;
 use meaning::numbers;
-use tables::entries::name_at;
-use tables::entries::role_at;
 use tape::roles;
 ghost use mathlib.Core.Path.{_≡_};
 ghost use mathlib.Core.List.{[], _∷_};
@@ -12,10 +12,10 @@ ghost use lib.ListN.{getD, take};
 ghost use Rattle.meaning.specs.Lists.{before};
 ghost use Rattle.meaning.specs.Names.{Name, same};
 ghost use Rattle.meaning.specs.Evaluate.{names-right};
-ghost use Rattle.names.specs.Word.{name-of};
-ghost use Rattle.names.specs.Joint.{joint};
-ghost use Rattle.tables.specs.Entries.{word-at};
-ghost use Rattle.forms.specs.Verdicts.{told};
+ghost use Rattle.text_names.specs.Word.{name-of};
+ghost use Rattle.text_names.specs.Joint.{joint};
+ghost use Rattle.form_rows.specs.Entries.{word-at};
+ghost use Rattle.form.specs.Verdicts.{told};
 ghost use Rattle.module_set.specs.ModuleSet.{holds};
 ghost use Rattle.modules.specs.Modules.{is-module, names-module, HeadsOf, declared, name-right, named-in, with-named, named-set, turned, gathered, reached-set};
 
@@ -91,7 +91,7 @@ pub fn find_number(library: &[u8], text: &[u8], tape: &[u32], h: Heads, w: u32) 
     let count = h.count;
     let mut k = 0;
     while k < count {
-        if names::joint::same_name(library, text, w, name_of_module(tape, h, k)) {
+        if text_names::joint::same_name(library, text, w, name_of_module(tape, h, k)) {
             return k;
         }
         k += 1;
@@ -106,7 +106,7 @@ pub fn find_asked(library: &[u8], text: &[u8], tape: &[u32], h: Heads, asked: &[
     let count = h.count;
     let mut k = 0;
     while k < count {
-        if names::joint::is_called(library, text, name_of_module(tape, h, k), asked) {
+        if text_names::joint::is_called(library, text, name_of_module(tape, h, k), asked) {
             return k;
         }
         k += 1;

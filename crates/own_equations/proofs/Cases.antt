@@ -5,15 +5,15 @@ use Prim.Native.Nat.{ℕ, _-_}
 use borrow.Author.Needs.{needs}
 use Rattle.meaning.specs.Numbers.{ill-typed}
 use Rattle.tape.specs.Tape.{tag-role}
-use Rattle.tables.specs.Entries.{next-with}
-use Rattle.forms.specs.declared.Form.{Form}
-use Rattle.forms.specs.declared.Made.{Made}
-use Rattle.forms.specs.declared.Made.the-variants.{Done, Refused}
-use Rattle.forms.specs.Memory.{part}
-use Rattle.typing.specs.declared.Equated.{Equated}
-use Rattle.typing.specs.declared.Equated.the-variants.{All, Stop}
-use Rattle.typing.specs.Equations.{span, told, equations-from}
-use Rattle.typing.specs.Typed.{known-in, module-in, with-equations, own-made}
+use Rattle.form_rows.specs.Entries.{next-with}
+use Rattle.form.specs.declared.Form.{Form}
+use Rattle.form.specs.declared.Made.{Made}
+use Rattle.form.specs.declared.Made.the-variants.{Done, Refused}
+use Rattle.form.specs.Memory.{part}
+use Rattle.own_typing.specs.declared.Equated.{Equated}
+use Rattle.own_typing.specs.declared.Equated.the-variants.{All, Stop}
+use Rattle.own_typing.specs.Equations.{span, told, equations-from}
+use Rattle.own_typing.specs.Typed.{known-in, module-in, with-equations, own-made}
 use Rattle.own_equations.specs.Own.{owned, own-at}
 
 module _ (f : Form) (r : Equated) where

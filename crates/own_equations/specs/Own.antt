@@ -15,16 +15,16 @@ use Rattle.meaning.specs.Own.{own-sort, own-function, own-variable, own-hidden-
 use Rattle.meaning.specs.Evaluate.{own-equations}
 use Rattle.laws.specs.EveryLaws.{every-all}
 use Rattle.laws.specs.OwnItems.{section-made, hidden-every}
-use Rattle.limits.specs.Limits.{NodesWithin}
+use Rattle.invariants.specs.Limits.{NodesWithin}
 use Rattle.tape.specs.Tape.{tag-role, flat-equation, flat-module}
-use Rattle.tables.specs.Entries.{next-with}
-use Rattle.forms.specs.declared.Form.{Form}
-use Rattle.forms.specs.declared.Made.{Made}
-use Rattle.forms.specs.Memory.{part}
-use Rattle.declarations.specs.Spelled.{Spells}
-use Rattle.typing.specs.Equations.{equations-from}
-use Rattle.typing.specs.Meant.{visibly}
-use Rattle.typing.specs.Typed.{known-in, module-in, own-made, Seen, Unseen, OwnLaid, OwnTyped, own-typed}
+use Rattle.form_rows.specs.Entries.{next-with}
+use Rattle.form.specs.declared.Form.{Form}
+use Rattle.form.specs.declared.Made.{Made}
+use Rattle.form.specs.Memory.{part}
+use Rattle.own_declarations.specs.Spelled.{Spells}
+use Rattle.own_typing.specs.Equations.{equations-from}
+use Rattle.own_typing.specs.Meant.{visibly}
+use Rattle.own_typing.specs.Typed.{known-in, module-in, own-made, Seen, Unseen, OwnLaid, OwnTyped, own-typed}
 use Rattle.own_equations.specs.Placed.{in-front, module-split, equations-spelled, equations-begin, typer-spelled, equations-size}
 
 -- the answer, and the memory as it is then

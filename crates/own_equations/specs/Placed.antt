@@ -9,14 +9,14 @@ use Rattle.meaning.specs.Lists.{pick, each}
 use Rattle.meaning.specs.Syntax.{Equation, Module}
 use Rattle.tape.specs.Roles.{All, all-append, all-signature, all-parameters, all-imports, all-groups}
 use Rattle.tape.specs.Tape.{Entry, entry, module-role, export-sort, export-function, hidden-sort, hidden-function, tag-role, condition-role, conclusion-role, flat-signature, flat-parameter, flat-import, flat-group, flat-term, flat-sides, flat-equation, flat-module, flat-modules, entries}
-use Rattle.tables.specs.Entries.{next-with}
-use Rattle.forms.specs.Forms.{equation-size}
-use Rattle.declarations.specs.Spelled.{Spells, spells-front, spells-behind, entries-spelled}
-use Rattle.typing.specs.declared.Known.{Known}
-use Rattle.typing.specs.Typing.{tape-in}
-use Rattle.typing.specs.Meant.{begins}
-use Rattle.walks.specs.Lists.{each-append}
-use Rattle.typing.specs.Meant as typer
+use Rattle.form_rows.specs.Entries.{next-with}
+use Rattle.form.specs.Forms.{equation-size}
+use Rattle.own_declarations.specs.Spelled.{Spells, spells-front, spells-behind, entries-spelled}
+use Rattle.own_typing.specs.declared.Known.{Known}
+use Rattle.own_typing.specs.Typing.{tape-in}
+use Rattle.own_typing.specs.Meant.{begins}
+use Rattle.form_walks.specs.Lists.{each-append}
+use Rattle.own_typing.specs.Meant as typer
 
 -- a module's entries in front of its equations
 unfoldable pub in-front : Module → List Entry

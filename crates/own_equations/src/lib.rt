@@ -1,21 +1,21 @@
 // A module's equations typed into a form that has its visible items and its own hidden ones (17).
-use forms::Culprit;
-use forms::Form;
-use forms::Made;
+use form::Culprit;
+use form::Form;
+use form::Made;
+use form_rows::entries::next_with;
 use meaning::numbers;
-use tables::entries::next_with;
+use own_typing::Equated;
+use own_typing::Known;
+use own_typing::Module;
+use own_typing::equations::span;
+use own_typing::equations::type_equations;
 use tape::roles;
-use typing::Equated;
-use typing::Known;
-use typing::Module;
-use typing::equations::span;
-use typing::equations::type_equations;
 ghost use mathlib.Core.Path.{_≡_};
 ghost use Prim.Native.Nat.{_+_, _≤_};
 ghost use lib.ListN.{length};
-ghost use Rattle.names.specs.Joint.{joint};
-ghost use Rattle.typing.specs.Equations.{told, equations-from};
-ghost use Rattle.typing.specs.Typed.{known-in, module-in, own-made};
+ghost use Rattle.text_names.specs.Joint.{joint};
+ghost use Rattle.own_typing.specs.Equations.{told, equations-from};
+ghost use Rattle.own_typing.specs.Typed.{known-in, module-in, own-made};
 ghost use Rattle.own_equations.specs.Own.{owned, own-at};
 
 // The equations from i on, their rows and nodes where the form has them.

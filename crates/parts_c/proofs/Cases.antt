@@ -7,12 +7,12 @@ use borrow.Author.Tests.{eq-eqb, ne-eqb}
 use lib.ListN.{set}
 use Rattle.types.specs.declared.Part.{Part}
 use Rattle.meaning.specs.Lists.{pick}
-use Rattle.values.specs.Values.{laid, bit-of}
-use Rattle.listing_reader.specs.declared.Line.{Line}
-use Rattle.listing_reader.specs.declared.Line.the-variants.{Keyed, End, Bad}
-use Rattle.listing_reader.specs.declared.Places.{Places}
-use Rattle.listing_reader.specs.Places.{places-at, LineRead}
-use Rattle.fetching.proofs.Cases.{forward}
+use Rattle.values_c.specs.Values.{laid, bit-of}
+use Rattle.reader.specs.declared.Line.{Line}
+use Rattle.reader.specs.declared.Line.the-variants.{Keyed, End, Bad}
+use Rattle.reader.specs.declared.Places.{Places}
+use Rattle.reader.specs.Places.{places-at, LineRead}
+use Rattle.text_fetching.proofs.Cases.{forward}
 use Rattle.parts_c.specs.Handed.{valued, line-values, handed-line, part-values, handed-part}
 
 -- ---- a line

@@ -6,10 +6,10 @@ use lib.Dec.{eqb}
 use Rattle.types.specs.declared.Part.{Part}
 use Rattle.meaning.specs.Lists.{pick}
 use Rattle.meaning.specs.Numbers.{bad-line}
-use Rattle.values.specs.Values.{laid, bit-of}
-use Rattle.listing_reader.specs.declared.Line.{Line}
-use Rattle.listing_reader.specs.declared.Line.the-variants.{Keyed, End, Bad}
-use Rattle.listing_reader.specs.declared.Places.{Places}
+use Rattle.values_c.specs.Values.{laid, bit-of}
+use Rattle.reader.specs.declared.Line.{Line}
+use Rattle.reader.specs.declared.Line.the-variants.{Keyed, End, Bad}
+use Rattle.reader.specs.declared.Places.{Places}
 
 -- what a call gives: the number, and the values afterwards
 pub record Valued : Type 0 where

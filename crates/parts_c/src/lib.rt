@@ -1,18 +1,18 @@
 // A module's text fetched, and a listing's lines, as C calls them, on slices of bytes and numbers only: each slice is a pointer and a length.
 // None of it needs the evaluation, so it stands apart from `asf_c`, and the library has the functions of both.
-use fetching::find;
-use listing_reader::Line;
-use listing_reader::Places;
-use listing_reader::line_at;
-use listing_reader::visible_end;
-use values::bit;
-use values::put_three;
-use values::put_value;
+use reader::Line;
+use reader::Places;
+use reader::line_at;
+use reader::visible_end;
+use text_fetching::find;
+use values_c::bit;
+use values_c::put_three;
+use values_c::put_value;
 ghost use mathlib.Core.Path.{_≡_};
 ghost use Rattle.meaning.specs.Texts.{two-texts, fetched};
-ghost use Rattle.listing_reader.specs.Places.{places-at};
-ghost use Rattle.listing_reader.specs.Visible.{visible-end};
-ghost use Rattle.values.specs.Values.{laid};
+ghost use Rattle.reader.specs.Places.{places-at};
+ghost use Rattle.reader.specs.Visible.{visible-end};
+ghost use Rattle.values_c.specs.Values.{laid};
 ghost use Rattle.parts_c.specs.Handed.{valued, line-values, handed-line, handed-part};
 
 // The places of a line.

@@ -11,9 +11,9 @@ use Rattle.meaning.specs.Normal.{Slot, Visible, Normal, slot-names, formals}
 use Rattle.meaning.specs.Written.{equation-text, hidden-in-order, in-order}
 use Rattle.meaning.specs.Listing.{is-exported}
 use Rattle.meaning.specs.OrderLaws.{Every, Pairwise, Rearranged, rearranged-member, same-equal, same-self}
-use Rattle.laws.specs.EveryLaws.{every-so, kept-member, any-passes, every-member, member-map-to, every-made, every-map}
-use Rattle.promises.specs.ListingLaws.{Plain, first-of, not-empty, rest-of}
-use Rattle.promises.specs.SameListing.{EquationsTold, SameNormal, VisibleTold, items-in-order, one-order, visible-items-one}
+use Rattle.laws.specs.EveryLaws.{every-so, kept-member, any-passes, every-member, member-map-to, every-made, every-map, every-of}
+use Rattle.promises.specs.ListingLaws.{Plain, told-map}
+use Rattle.promises.specs.SameListing.{EquationsTold, SameNormal, items-in-order, one-order, visible-items-one}
 use Rattle.promises.specs.SameListing.{same-ordered}
 use Rattle.promises.specs.Told.{SameListed, SoundVisible, Stands, StandsIn, every-named, exported-of}
 use Rattle.promises.specs.Sound.{once-told}
@@ -48,10 +48,7 @@ module _ (k : Normal) (a : Accepted k) where
   -- two lists of equations over the same items with the same written lines say the same
   lines-told : (es fs : List ResolvedEquation) → Every IsTyped es → Every IsTyped fs
       → map (equation-text (k .hidden .items)) es ≡ map (equation-text (k .hidden .items)) fs → map content es ≡ map content fs
-  lines-told [] [] d d′ e = refl
-  lines-told [] (f ∷ fs) d d′ e = not-empty e
-  lines-told (x ∷ es) [] d d′ e = not-empty (sym e)
-  lines-told (x ∷ es) (f ∷ fs) d d′ e = ap₂ _∷_ (line-told x f (d .0) (d′ .0) (first-of e)) (lines-told es fs (d .1) (d′ .1) (rest-of e))
+  lines-told = told-map IsTyped IsTyped _ _ content content line-told
 
 -- ---- one form, in whatever order its items and equations were found
 
@@ -87,10 +84,6 @@ pub accepted-one-order : (k n : Normal) → Accepted k → SameNormal k n → k 
 accepted-one-order k n a s = a .ordered ∙ one-order (a .found) n (same-then (a .found) k n (found-same k a) s) (a .told) (found-told k a)
 
 -- ---- the visible part
-
-told-in-order : (k : Normal) (a : Accepted k) → VisibleTold (k .visible .items)
-told-in-order k a x y m l =
-    let d = Permᴰ·symm (found-same k a .items) in a .told .visible x y (rearranged-member d m) (rearranged-member d l)
 
 -- where an item stands: exported or inherited, or in a parameter
 exported : Item → Bool
@@ -207,33 +200,26 @@ module _ (asked asked′ : Name) (k k′ : Normal) (a : Accepted k) (a′ : Acce
   one-visible =
       let still = ap (λ (n : Normal). n .visible .items) (accepted-one-order k k a (same-itself k)) in
       let still′ = ap (λ (n : Normal). n .visible .items) (accepted-one-order k′ k′ a′ (same-itself k′)) in
-      still ∙ visible-items-one (k .visible) (k′ .visible) items-rearranged (told-in-order k a) ∙ sym still′
-
-  one-formals : (w : Name) → formals w (k′ .visible) ≡ formals w (k .visible)
-  unfolding formals
-  one-formals w = ap (keep (λ (i : Item). in-parameter w (i .standing))) (sym one-visible)
+      let d = Permᴰ·symm (found-same k a .items) in
+      still ∙ visible-items-one (k .visible) (k′ .visible) items-rearranged (λ x y m l. a .told .visible x y (rearranged-member d m) (rearranged-member d l))
+      ∙ sym still′
 
   one-slot : (p q : Slot) → List·Memᴰ p (k .visible .parameters) → List·Memᴰ q (k′ .visible .parameters) → p .name ≡ q .name
       → told-slot (k .visible) p ≡ told-slot (k′ .visible) q
-  unfolding told-slot
+  unfolding told-slot formals
   one-slot p q m m′ e =
-      let items = ap (λ w. formals w (k′ .visible)) (sym e) ∙ one-formals (p .name) in
+      let items : formals (q .name) (k′ .visible) ≡ formals (p .name) (k .visible) =
+      λ x. keep (λ (i : Item). in-parameter (sym e x) (i .standing)) (sym one-visible x) in
       rw items (told-alike (formals (p .name) (k .visible)) p q e (formal-home k a p m) (λ i l. formal-home k′ a′ q m′ i (rw items l)))
 
   -- the same parameters, but for the module of one without items
   pub one-parameters : map (told-slot (k .visible)) (k .visible .parameters) ≡ map (told-slot (k′ .visible)) (k′ .visible .parameters)
   unfolding slot-names
-  one-parameters = go (k .visible .parameters) (k′ .visible .parameters) (λ p m. m) (λ p m. m) (s .parameters)
-    where
-      go : (ps qs : List Slot) → ((p : Slot) → List·Memᴰ p ps → List·Memᴰ p (k .visible .parameters))
-          → ((q : Slot) → List·Memᴰ q qs → List·Memᴰ q (k′ .visible .parameters)) → slot-names ps ≡ slot-names qs
-          → map (told-slot (k .visible)) ps ≡ map (told-slot (k′ .visible)) qs
-      go [] [] h h′ e = refl
-      go [] (q ∷ qs) h h′ e = not-empty e
-      go (p ∷ ps) [] h h′ e = not-empty (sym e)
-      go (p ∷ ps) (q ∷ qs) h h′ e =
-          ap₂ _∷_ (one-slot p q (h p (List·Memᴰ·head refl)) (h′ q (List·Memᴰ·head refl)) (first-of e))
-          (go ps qs (λ r m. h r (List·Memᴰ·tail m)) (λ r m. h′ r (List·Memᴰ·tail m)) (rest-of e))
+  one-parameters =
+      let ps = k .visible .parameters in
+      let qs = k′ .visible .parameters in
+      told-map (λ p. List·Memᴰ p ps) (λ q. List·Memᴰ q qs) (λ (p : Slot). p .name) (λ (q : Slot). q .name) _ _ (λ p q m m′ e. one-slot p q m m′ e) ps qs
+      (every-of _ ps (λ p m. m)) (every-of _ qs (λ q m. m)) (s .parameters)
 
   -- and equations that say the same, in the same order
   pub one-content : map content (k .hidden .equations) ≡ map content (k′ .hidden .equations)

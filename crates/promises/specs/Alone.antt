@@ -109,23 +109,20 @@ shown-next c u more (stop k w) h = absurd h
 
 -- a call that is refused is so at the next module, or later
 refused-next : (c : ℕ) (u : Name) (more : Visible → EndedVisibly) (o : Outcome Visible) (n c′ : ℕ) (y : Name) (w : Culprit)
-    → end-visibly c u more o ≡ refuses n c′ y w
-    → ((o ≡ stop n w) × (u ≡ y)) ⊎ ((v : Visible) × (o ≡ fine v) × (more v ≡ refuses n c′ y w))
+    → end-visibly c u more o ≡ refuses n c′ y w → ((o ≡ stop n w) × (u ≡ y)) ⊎ ((v : Visible) × (o ≡ fine v) × (more v ≡ refuses n c′ y w))
 unfolding end-visibly
 refused-next c u more (fine v) n c′ y w h = inr (v, refl, h)
 refused-next c u more (stop k x) n c′ y w h = inl (cc, cc)
 
 -- a module at which the call is refused is reached
 refused-reached : (d : List Name) (asked : Name) (ms : List Module) (k : ℕ) (e : List Name) (env : List Seen) (last : Visible) (n c : ℕ)
-    (y : Name) (w : Culprit)
-    → in-turn-visibly d env last (reached-among asked k e ms) ≡ refuses n c y w → ReachedIn y asked ms
+    (y : Name) (w : Culprit) → in-turn-visibly d env last (reached-among asked k e ms) ≡ refuses n c y w → ReachedIn y asked ms
 unfolding in-turn-visibly reached-among
 refused-reached d asked [] k e env last n c y w = no-refusal _ n c _ y w
 refused-reached d asked (m ∷ ms) k e env last n c y w =
     by-cases (λ (xs : List Placed). in-turn-visibly d env last xs ≡ refuses n c y w → ReachedIn y asked (m ∷ ms)) (member (m .name) (wanted asked ms)) _ _
     (λ b h. ⊎-elim (λ r. inl (b, r .1)) (λ r. inr (refused-reached d asked ms _ _ (seen-as m (r .0) ∷ env) (r .0) n c y w (r .2)))
-    (refused-next _ _ _ _ n c y w h))
-    (λ b h. inr (refused-reached d asked ms _ _ env last n c y w h))
+    (refused-next _ _ _ _ n c y w h)) (λ b h. inr (refused-reached d asked ms _ _ env last n c y w h))
 
 choice-same : {A : Type 0} (b r : Bool) (x p q : A) → pick b true r ≡ true → (r ≡ true → p ≡ q) → pick b x p ≡ pick b x q
 unfolding pick
@@ -145,40 +142,28 @@ module _ (m : Module) (x : Visible) where
       → Agree env (seen-as m x ∷ env′)
   unfolding visible-of
   agree-skip e env env′ f i h w k =
-      choice-second (same w (m .name)) _ _ _
-      (refuted _ (λ q. sym (sym f ∙ ap (λ (v : Name). member v e) (sym (same-equal w (m .name) q)) ∙ i w k))) (h w k)
+      choice-second (same w (m .name)) _ _ _ (refuted _ (λ q. sym (sym f ∙ ap (λ (v : Name). member v e) (sym (same-equal w (m .name) q)) ∙ i w k))) (h w k)
 
 -- y's own call shows something, and the call of the asked module is refused at y: that cannot be
 both-calls : (d : List Name) (asked y : Name) (n c : ℕ) (w : Culprit)
     → (ms : List Module) (k : ℕ) (e : List Name) (env env′ : List Seen) (last last′ : Visible)
-    → Fresh e ms → Agree env env′ → Inside (names-seen env) e → Closed y ms e (names-seen env)
-    → IsShown (in-turn-visibly d env last (reached-among y k e ms))
+    → Fresh e ms → Agree env env′ → Inside (names-seen env) e → Closed y ms e (names-seen env) → IsShown (in-turn-visibly d env last (reached-among y k e ms))
     → in-turn-visibly d env′ last′ (reached-among asked k e ms) ≡ refuses n c y w → ⊥
 unfolding in-turn-visibly reached-among
 both-calls d asked y n c w [] k e env env′ last last′ f a i cl = λ h h′. no-refusal _ n c _ y w h′
 both-calls d asked y n c w (m ∷ ms) k e env env′ last last′ f a i cl =
     let later = both-calls d asked y n c w ms (k + 1) (m .name ∷ e) in
     both-cases (λ (xs xs′ : List Placed). IsShown (in-turn-visibly d env last xs) → in-turn-visibly d env′ last′ xs′ ≡ refuses n c y w → ⊥)
-    (member (m .name) (wanted y ms)) (member (m .name) (wanted asked ms)) _ _ _ _
-    (λ b b′ h h′.
+    (member (m .name) (wanted y ms)) (member (m .name) (wanted asked ms)) _ _ _ _ (λ b b′ h h′.
     let one = shown-next _ _ _ _ h in
-    let too = evaluate-same d e env env′ m (one .0) a
-    (λ v q r. cl v (ap (member v) (wanted-here y m ms b) ∙ member-left v (named-by m) _ q) r) (one .1) in
-    ⊎-elim
-    (λ r. never n w (one .0) (sym (r .0) ∙ too))
-    (λ r. later (seen-as m (one .0) ∷ env) (seen-as m (r .0) ∷ env′) (one .0) (r .0) (f .1)
-    (subst (λ (x : Visible). Agree (seen-as m (one .0) ∷ env) (seen-as m x ∷ env′)) (fine-same _ _ (sym too ∙ r .1))
-    (agree-more m (one .0) env env′ a))
-    (inside-more (m .name) _ e i) (closed-more y m ms e _ cl) (one .2) (r .2))
-    (refused-next _ _ _ _ n c y w h′))
-    (λ b b′ h h′.
-    clear (sym (wanted-within y asked (m .name ∷ e) ms (f .1) (refused-reached d asked ms _ _ _ _ n c y w h′) (m .name) b) ∙ b′))
-    (λ b b′ h h′.
-    ⊎-elim
-    (λ r. clear (sym (sym b ∙ ap (λ (v : Name). member v (wanted y ms)) (r .1) ∙ wanted-asked y ms)))
+    let too = evaluate-same d e env env′ m (one .0) a (λ v q r. cl v (ap (member v) (wanted-here y m ms b) ∙ member-left v (named-by m) _ q) r) (one .1) in
+    ⊎-elim (λ r. never n w (one .0) (sym (r .0) ∙ too)) (λ r. later (seen-as m (one .0) ∷ env) (seen-as m (r .0) ∷ env′) (one .0) (r .0) (f .1)
+    (subst (λ (x : Visible). Agree (seen-as m (one .0) ∷ env) (seen-as m x ∷ env′)) (fine-same _ _ (sym too ∙ r .1)) (agree-more m (one .0) env env′ a))
+    (inside-more (m .name) _ e i) (closed-more y m ms e _ cl) (one .2) (r .2)) (refused-next _ _ _ _ n c y w h′)) (λ b b′ h h′.
+    clear (sym (wanted-within y asked (m .name ∷ e) ms (f .1) (refused-reached d asked ms _ _ _ _ n c y w h′) (m .name) b) ∙ b′)) (λ b b′ h h′.
+    ⊎-elim (λ r. clear (sym (sym b ∙ ap (λ (v : Name). member v (wanted y ms)) (r .1) ∙ wanted-asked y ms)))
     (λ r. later env (seen-as m (r .0) ∷ env′) last (r .0) (f .1) (agree-skip m (r .0) e env env′ (f .0) i a)
-    (inside-later (m .name) _ e i) (closed-skip y m ms e _ b cl) h (r .2))
-    (refused-next _ _ _ _ n c y w h′))
+    (inside-later (m .name) _ e i) (closed-skip y m ms e _ b cl) h (r .2)) (refused-next _ _ _ _ n c y w h′))
     (λ b b′ h h′. later env env′ last last′ (f .1) a (inside-later (m .name) _ e i) (closed-skip y m ms e _ b cl) h h′)
 
 -- ---- a module that shows something is not refused within another's call
@@ -188,8 +173,7 @@ unfolding pick
 first-one true r s h k = h
 first-one false r s h k = absurd (k h)
 
-in-its-turn : (y : Name) (ms : List Module) (v : Visible) → Showing y ms v
-    → IsShown (in-turn-visibly (module-names ms) [] nothing-visible (reached y ms))
+in-its-turn : (y : Name) (ms : List Module) (v : Visible) → Showing y ms v → IsShown (in-turn-visibly (module-names ms) [] nothing-visible (reached y ms))
 unfolding normalise-visibly
 in-its-turn y ms v h = first-one (member y (module-names ms)) _ _ (subst IsShown (sym (h .1)) tt) (λ z. z)
 
@@ -235,19 +219,14 @@ alone-accepted asked ms fresh stands alone = go (normalise asked ms) (normalise-
     go (refused-at n c y w) (inr r) =
         let x = of-reached (λ x. (x .self .name ≡ asked) ⊎ IsNormalised (normalise (x .self .name) ms)) asked y ms 0 []
         (refused-reached (module-names ms) asked ms 0 [] [] nothing-visible n c y w (sym (stands-visibly asked ms stands) ∙ r)) alone in
-        ⊎-elim
-        (λ p. inr (sym (x .1) ∙ p))
-        (λ k. let s = normalised-shows y ms (subst (λ (v : Name). IsNormalised (normalise v ms)) (x .1) k) in
-        absurd (not-refused asked y ms fresh stands (s .0) (s .1) n c w r))
-        (x .2)
+        ⊎-elim (λ p. inr (sym (x .1) ∙ p)) (λ k. let s = normalised-shows y ms (subst (λ (v : Name). IsNormalised (normalise v ms)) (x .1) k) in
+        absurd (not-refused asked y ms fresh stands (s .0) (s .1) n c w r)) (x .2)
 
 -- ---- the demand
 
 pub demand-3-alone : Demand3 ByItself
 demand-3-alone asked texts texts′ ms ms′ c memory memory′ output output′ =
-    ⊎-elim
-    (λ z. inl (eighteen-told asked _ _ z (answer-ended memory output asked texts ms (c .read-as))))
-    (λ a. ⊎-elim
+    ⊎-elim (λ z. inl (eighteen-told asked _ _ z (answer-ended memory output asked texts ms (c .read-as)))) (λ a. ⊎-elim
     (λ z. inr (inl (eighteen-told asked _ _ z (answer-ended memory′ output′ asked texts′ ms′ (c .read-as′)))))
     (λ a′. demand-3 asked texts texts′ ms ms′ (in-the-call a a′) memory memory′ output output′)
     (alone-accepted asked ms′ (read-fresh texts′ ms′ (c .read-as′ .reads)) (c .stands′) (c .accepted′)))

@@ -82,20 +82,10 @@ module _ (declared : List Name) where
           → ((n : Normal) → CountedIn declared (suc (length env)) xs (after n))
           → CountedIn declared (length env) (x ∷ xs) (end-or (length env + 1) (x .self .name) after o)
       go (fine n) e h = one-more (length env) x xs (after n) (h n)
-      go (stop k w) e h = (
-        1,
-        record {
-          accepted-before = [];
-          refused = x;
-          not-evaluated = xs;
-          split = refl;
-          counted = refl;
-          named = refl;
-          env = env;
-          outcome = e;
-        },
-        refl,
-      )
+      go (stop k w) e h =
+          let here : RefusedIn declared (x ∷ xs) k 1 (x .self .name) w =
+          record { accepted-before = []; refused = x; not-evaluated = xs; split = refl; counted = refl; named = refl; env = env; outcome = e } in
+          (1, here, refl)
 
 -- ---- every answer
 

@@ -42,8 +42,7 @@ pub record Counterparts (asked : Name) (ms ms′ : List Module) (x x′ : Placed
   pub asked-same : x .self .name ≡ asked → x .self ≡ x′ .self
   -- each module name that it uses is missing in both or in neither, and too late in both or in neither
   pub both-missing : Every (λ w. missing (module-names ms) w ≡ missing (module-names ms′) w) (named-by (x .self))
-  pub both-late :
-      Every (λ w. too-late (module-names ms) (x .earlier) w ≡ too-late (module-names ms′) (x′ .earlier) w) (named-by (x .self))
+  pub both-late : Every (λ w. too-late (module-names ms) (x .earlier) w ≡ too-late (module-names ms′) (x′ .earlier) w) (named-by (x .self))
 
 -- when each module that the asked one reaches is accepted, but perhaps the asked one itself: as a property of the asked name and the modules
 abbrev pub Acceptance : Type 1

@@ -1,10 +1,10 @@
 -- Every answer's number, and the names told with it: 0 to 15 and 17 to 19 without an actual name, 22 to 26, and 27 without one.
 use mathlib.Core.Path.{_≡_, refl}
 use mathlib.Core.Logic.{_⊎_, inl, inr}
-use Prim.Native.Nat.{ℕ, _≤_}
+use Prim.Native.Nat.{ℕ, _≤_, _<_}
 use native.Mathlib.Omega.{arith}
 use mathlib.Core.List.{List, []}
-use lib.Dec.{lit≤}
+use lib.Dec.{lit≤, lit<}
 use Rattle.meaning.specs.Numbers.{bad-parameter, ill-typed, lent-short, formal-absent, other-type}
 use Rattle.meaning.specs.Laws.{by-cases}
 use Rattle.meaning.specs.Names.{Name}
@@ -55,23 +55,21 @@ module _ (memory-lent output-lent : ℕ) (asked : Name) (texts : Texts) where
       (λ e. by-cases Given _ _ _ (λ f. read-given (read-texts texts) refl) (λ f. inl (inr (lit≤ tt, lit≤ tt), refl)))
 
   -- they are given no more
-  pub never-sixteen : answer memory-lent output-lent asked texts .number ≡ bad-binding → ⊥
-  never-sixteen e = go (answer memory-lent output-lent asked texts) given e
+  never : (k : ℕ) → bad-parameter < k → (ill-typed ≤ k → k ≤ lent-short → ⊥) → k < formal-absent
+      → answer memory-lent output-lent asked texts .number ≡ k → ⊥
+  never k low between high e = go (answer memory-lent output-lent asked texts) given e
     where
-      go : (r : Answer) → Given r → r .number ≡ bad-binding → ⊥
-      go r (inl (inl h, b)) e = omega arith
-      go r (inl (inr h, b)) e = omega (arith, h .0)
+      go : (r : Answer) → Given r → r .number ≡ k → ⊥
+      go r (inl (inl h, b)) e = omega (arith, h)
+      go r (inl (inr h, b)) e = between (omega (arith, h .0)) (omega (arith, h .1))
       go r (inr (inl h)) e = omega (arith, h .0)
       go r (inr (inr h)) e = omega (arith, h .0)
 
+  pub never-sixteen : answer memory-lent output-lent asked texts .number ≡ bad-binding → ⊥
+  never-sixteen = never bad-binding (lit< tt) (λ a b. omega (arith, a)) (lit< tt)
+
   pub never-twenty : answer memory-lent output-lent asked texts .number ≡ in-cycle → ⊥
-  never-twenty e = go (answer memory-lent output-lent asked texts) given e
-    where
-      go : (r : Answer) → Given r → r .number ≡ in-cycle → ⊥
-      go r (inl (inl h, b)) e = omega arith
-      go r (inl (inr h, b)) e = omega (arith, h .1)
-      go r (inr (inl h)) e = omega (arith, h .0)
-      go r (inr (inr h)) e = omega (arith, h .0)
+  never-twenty = never in-cycle (lit< tt) (λ a b. omega (arith, b)) (lit< tt)
 
   -- an actual name is told with 22 to 26 alone
   pub actual-blank : let r = answer memory-lent output-lent asked texts in ((formal-absent ≤ r .number) × (r .number ≤ other-type)) ⊎ (r .culprit .actual ≡ [])

@@ -7,7 +7,7 @@ use mathlib.Core.List.{List, [], _∷_, _++_}
 use Rattle.meaning.specs.Laws.{by-cases}
 use Rattle.meaning.specs.Lists.{pick, keep, any, union}
 use Rattle.meaning.specs.Names.{Name, same, member}
-use Rattle.meaning.specs.Syntax.{Parameter, Import, Module}
+use Rattle.meaning.specs.Syntax.{Parameter, Module}
 use Rattle.meaning.specs.Origins.{one-item}
 use Rattle.meaning.specs.Normal.{Slot, Visible, Normal, same-slot, same-formals, is-parameter-of, unite-visible}
 use Rattle.meaning.specs.Checks.{fine, Size}
@@ -27,9 +27,6 @@ use Rattle.promises.specs.Members.{differ, found-later, member-here}
 -- ---- what holds of the parameters of all modules evaluated holds of those of what is made of them
 
 module _ (P : Slot → Type 0) (env : List Evaluated) (kept : EnvironmentOf (Slots P) env) where
-  imported-slots : (is : List Import) → Gives (Slots P) (imported env is)
-  imported-slots is = imported-gives (slots-keep P) env kept is (any-imports is)
-
   evaluated-slots : (declared earlier : List Name) (home : ℕ) (total : Size) (m : Module) → ((p : Parameter) → P (record { name = p .name; home = m .name }))
       → Gives (Slots P) (evaluate declared earlier home total env m)
   evaluated-slots declared earlier home total m own =
@@ -92,7 +89,7 @@ module _ (declared : List Name) (asked : Name) where
       by-cases (OwnUnited declared env) _ _ _
       (λ b. (
         λ n e. own-new m (n .visible) (every-so (HomeIn earlier) _ (n .visible .parameters) (λ p i. differ (m .name) (p .home) earlier (f .0) i)
-            (gives-of (Slots (HomeIn earlier)) _ n (imported-slots (HomeIn earlier) env h (m .imports)) e)),
+            (gives-of (Slots (HomeIn earlier)) _ n (imported-gives (slots-keep (HomeIn earlier)) env h (m .imports) (any-imports (m .imports))) e)),
         λ n e. turns-united ms (k + 1) (m .name ∷ earlier) (record { name = m .name; normal = n } ∷ env) (f .1) (
           gives-of (Slots (HomeIn (m .name ∷ earlier))) _ n
               (evaluated-slots (HomeIn (m .name ∷ earlier)) env wider declared earlier k (total-of env) m (λ p. member-here (m .name) earlier)) e,

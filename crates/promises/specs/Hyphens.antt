@@ -3,7 +3,7 @@
 use mathlib.Core.Path.{_≡_, refl, sym, ap, subst, _∙_}
 use Prim.Native.Nat.{ℕ, zero, suc, _+_, _-_, _<_}
 use native.Mathlib.Omega.{arith}
-use mathlib.Core.Bool.{Bool, true, false, not, _&&_, true≢false, false≢true}
+use mathlib.Core.Bool.{Bool, true, false, _&&_, true≢false, false≢true}
 use mathlib.Core.List.{List, [], _∷_}
 use lib.Dec.{eqb, ltb}
 use lib.ListN.{length, drop, getD}
@@ -56,9 +56,6 @@ symbols-stop (b ∷ s) = go (is-symbol b) refl (symbols-stop s)
         first false r = refl
         first true r = absurd (false≢true (sym (subst (λ (x : ℕ). is-symbol x ≡ false) (eqb-true b (byte "-") r) e)))
 
-drop-on : (i r : ℕ) (s : List ℕ) → drop (i + r) s ≡ drop r (drop i s)
-drop-on i r s = sym (drop-drop r i s)
-
 word-starts : (b : ℕ) (s : List ℕ) → is-word b ≡ true → run at-word (b ∷ s) ≡ 0 → ⊥
 unfolding run pick is-word
 word-starts b s e q = go (eqb b (byte "-")) refl
@@ -91,7 +88,7 @@ module _ (text : List ℕ) where
 
   symbols-apart : (i : ℕ) → at-dashes (drop (run-end at-symbol text i) text) ≡ false
   unfolding run-end
-  symbols-apart i = ap at-dashes (drop-on i (run at-symbol (drop i text)) text) ∙ symbols-stop (drop i text)
+  symbols-apart i = ap at-dashes (sym (drop-drop (run at-symbol (drop i text)) i text)) ∙ symbols-stop (drop i text)
 
   start-apart : (i : ℕ) → Apart (start-at text i)
   unfolding is-in start-at word-at equals-at symbols-at dotted-at

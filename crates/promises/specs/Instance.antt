@@ -53,12 +53,7 @@ not-m1 e = let z : _≡_ {A = ℕ} 49 50 = cc in absurd (omega arith)
 same-but-hidden : InTurn (Counterparts asked one-modules other-modules) (reached asked one-modules) (reached asked other-modules)
 unfolding all-opened modules-in one-pair other-pair asked
 same-but-hidden = (
-  record {
-    alike = record { name = refl; parameters = refl; exports = refl; imports = refl };
-    asked-same = not-m1;
-    both-missing = tt;
-    both-late = tt;
-  },
+  record { alike = record { name = refl; parameters = refl; exports = refl; imports = refl }; asked-same = not-m1; both-missing = tt; both-late = tt },
   (
     record {
       alike = record { name = refl; parameters = refl; exports = refl; imports = refl };
@@ -72,15 +67,7 @@ same-but-hidden = (
 
 pub comparable : Comparable InTheCall asked one-pair other-pair one-modules other-modules
 unfolding all-opened modules-in one-pair other-pair asked
-comparable = record {
-  read-as = one-read;
-  read-as′ = other-read;
-  stands = refl;
-  stands′ = refl;
-  same-order = same-but-hidden;
-  accepted = tt;
-  accepted′ = tt;
-}
+comparable = record { read-as = one-read; read-as′ = other-read; stands = refl; stands′ = refl; same-order = same-but-hidden; accepted = tt; accepted′ = tt }
 
 -- M1 is accepted when it is asked by itself, too
 pub comparable-alone : Comparable ByItself asked one-pair other-pair one-modules other-modules
@@ -141,16 +128,12 @@ pub listings :
 unfolding all-opened one-pair asked other-pair
 listings = (refl, refl)
 
-pub visible-parts :
-    (visible-part (listing one-answer) ≡ visible-text)
-    × (visible-part (listing other-answer) ≡ visible-text)
+pub visible-parts : (visible-part (listing one-answer) ≡ visible-text) × (visible-part (listing other-answer) ≡ visible-text)
 unfolding all-opened visible-part-opened one-pair asked visible-text other-pair
 visible-parts = (refl, refl)
 
 -- ---- why the demand leaves 18 and 19 out: where 350 bytes of output are lent, the one listing has room and the other has none
 
-pub other-has-none :
-    (answer memory-size 350 asked one-pair .number ≡ accepted)
-    × (answer memory-size 350 asked other-pair .number ≡ lent-short)
+pub other-has-none : (answer memory-size 350 asked one-pair .number ≡ accepted) × (answer memory-size 350 asked other-pair .number ≡ lent-short)
 unfolding all-opened one-pair asked other-pair
 other-has-none = (refl, refl)

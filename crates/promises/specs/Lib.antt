@@ -24,7 +24,6 @@ pub mod Instance
 pub mod Premises
 -- one listing for each accepted normal form
 pub mod ListingLaws
-pub mod Deciding
 pub mod SameListing
 pub mod Told
 pub mod Parts

@@ -52,15 +52,12 @@ module _ (rest : List Line) (none-shown : (b : Bool) → shown b rest ≡ []) wh
   equations-dropped hidden (e ∷ es) kept =
       line-dropped (bytes "equation") (record { not-origin = refl; not-visible = refl }) _ _ kept ∙ equations-dropped hidden es false
 
-end-dropped : (m : Name) (kept : Bool) → shown kept (line "end" m ∷ []) ≡ []
-unfolding key-opened shown
-end-dropped m kept = line-dropped (bytes "end") (record { not-origin = refl; not-visible = refl }) m [] kept
-
 hidden-dropped : (h : Hidden) (m : Name) (kept : Bool) → shown kept (hidden-lines h ++ (line "end" m ∷ [])) ≡ []
-unfolding hidden-lines
+unfolding hidden-lines key-opened shown
 hidden-dropped h m kept =
     ap (shown kept) (append-assoc (hidden-item-lines (h .items) 1 (h .items)) _ (line "end" m ∷ []))
-    ∙ items-dropped _ (equations-dropped _ (end-dropped m) (h .items) (h .equations)) (h .items) 1 (h .items) kept
+    ∙ items-dropped _
+    (equations-dropped _ (line-dropped (bytes "end") (record { not-origin = refl; not-visible = refl }) m []) (h .items) (h .equations)) (h .items) 1 (h .items) kept
 
 -- ---- the listing
 

@@ -5,7 +5,7 @@ use Prim.Native.String.{String}
 use Prim.Native.Nat.{ℕ, zero, suc, _+_, _/_, _%_, _^_, _≤_, _<_}
 use native.Mathlib.Omega.{arith}
 use mathlib.Core.Bool.{Bool, true, false, not, _&&_, _||_, true≢false, false≢true}
-use mathlib.Core.List.{List, [], _∷_, _++_, map, List·Memᴰ, List·Memᴰ·cases-cons, append-assoc, append-cancel-left, append-cancel-right}
+use mathlib.Core.List.{List, [], _∷_, _++_, map, map-id, List·Memᴰ, List·Memᴰ·head, List·Memᴰ·tail, List·Memᴰ·cases-cons, append-assoc, append-cancel-left, append-cancel-right}
 use lib.Dec.{eqb, ltb}
 use borrow.Author.Tests.{eqb-true, ltb-true, ltb-false, eqb-false, le-leb, lt-leb}
 use lib.ListN.{length, length-append}
@@ -13,15 +13,13 @@ use Rattle.meaning.specs.Laws.{by-cases}
 use Rattle.meaning.specs.Lists.{pick, before, each}
 use Rattle.meaning.specs.Names.{bytes, byte, Name, same, member, words}
 use Rattle.meaning.specs.Tokens.{is-in, is-symbol, is-word}
-use Rattle.meaning.specs.Written.{digits, decimal, numbered, sort-text, function-type-text, shape-text, shape-rank, argument-text, head-text, variable-text, term-text, term-texts, sides-text, conditions-text, equation-text, between-marks, type-text, section-text, declared-text, origin-text}
-use Rattle.meaning.specs.Origins.{Section, export-section, hidden-section, parameter-section, Declared, declared-sort, declared-function, declared-variable, Origin, same-section, same-origin, Sort, visible-sort, hidden-sort, same-sort, Shape, sort-shape, function-shape, variable-shape, same-shape, Item, one-item, Head, visible-head, hidden-head, ResolvedTerm, var, app, ResolvedTerms, none-left, _and-then_, ResolvedSides, ResolvedEquation}
+use Rattle.meaning.specs.Written.{digits, decimal, numbered, sort-text, function-type-text, shape-text, shape-rank, between-marks, type-text, section-text, declared-text, origin-text}
+use Rattle.meaning.specs.Origins.{Section, export-section, hidden-section, parameter-section, Declared, declared-sort, declared-function, declared-variable, Origin, same-origin, Sort, visible-sort, hidden-sort, Shape, sort-shape, function-shape, variable-shape, Item}
 use Rattle.meaning.specs.Normal.{Slot, same-slot}
 use Rattle.meaning.specs.Listing.{Line, line-text, lines-text, kind-key, listing-keys}
 use Rattle.meaning.specs.OrderLaws.{Every, same-equal}
-use Rattle.laws.specs.Decides.{sections-decided, origins-decided, sorts-decided, shapes-decided, items-decided}
-use Rattle.laws.specs.Decides.{both-true}
-use Rattle.laws.specs.EveryLaws.{every-map}
-use Rattle.laws.specs.EveryLaws.{every-so, every-append}
+use Rattle.laws.specs.Decides.{both-true, origins-decided}
+use Rattle.laws.specs.EveryLaws.{every-so, every-append, every-map, every-member}
 
 -- ---- tests
 
@@ -48,15 +46,19 @@ pub within-by : {A : Type 0} (p : A → Bool) (xs : List A) → all-pass p xs �
 within-by p [] e = tt
 within-by p (x ∷ xs) e = let r = both-true (p x) (all-pass p xs) e in (r .0, within-by p xs (r .1))
 
+-- a name among some is one of them
+pub member-found : (w : Name) (ws : List Name) → member w ws ≡ true → List·Memᴰ w ws
+unfolding member pick
+member-found w [] e = absurd (false≢true e)
+member-found w (v ∷ ws) e = go (same w v) refl e (member-found w ws)
+  where
+    go : (b : Bool) → same w v ≡ b → pick b true (member w ws) ≡ true → (member w ws ≡ true → List·Memᴰ w ws) → List·Memᴰ w (v ∷ ws)
+    go true q e i = List·Memᴰ·head (same-equal w v q)
+    go false q e i = List·Memᴰ·tail (i e)
+
 -- what each of some names passes, one among them does
 pub among-so : (p : Name → Bool) (w : Name) (ks : List Name) → Within p ks → member w ks ≡ true → p w ≡ true
-unfolding member pick
-among-so p w [] h m = absurd (false≢true m)
-among-so p w (k ∷ ks) h m = go (same w k) refl m (among-so p w ks (h .1))
-  where
-    go : (b : Bool) → same w k ≡ b → pick b true (member w ks) ≡ true → (member w ks ≡ true → p w ≡ true) → p w ≡ true
-    go true e m i = ap p (same-equal w k e) ∙ h .0
-    go false e m i = i m
+among-so p w ks h m = every-member (λ k. p k ≡ true) ks h w (member-found w ks m)
 
 -- ---- a run and what follows it
 
@@ -65,6 +67,10 @@ first-of e = cc
 
 pub rest-of : {A : Type 0} {x y : A} {xs ys : List A} → x ∷ xs ≡ y ∷ ys → xs ≡ ys
 rest-of e = cc
+
+-- lists that begin differently
+pub apart : {X : Type 0} {b c : ℕ} {s t : List ℕ} → eqb b c ≡ false → b ∷ s ≡ c ∷ t → X
+apart {b} {c} d e = absurd (eqb-false b c d (first-of e))
 
 pub not-empty : {A X : Type 0} {x : A} {xs : List A} → [] ≡ x ∷ xs → X
 not-empty e = let z : _≡_ {A = ℕ} 0 1 = cc in absurd (omega arith)
@@ -86,6 +92,15 @@ told-run p [] (y ∷ ys) us vs h k o q e = starts p us y (ys ++ vs) o e (k .0)
 told-run p (x ∷ xs) [] us vs h k o q e = starts p vs x (xs ++ us) q (sym e) (h .0)
 told-run p (x ∷ xs) (y ∷ ys) us vs h k o q e =
     let r = told-run p xs ys us vs (h .1) (k .1) o q (rest-of e) in (ap₂ _∷_ (first-of e) (r .0), r .1)
+
+-- where what is told of the items tells something of them, what is told of all tells it of all
+pub told-map : {A B C : Type 0} (P Q : A → Type 0) (f g : A → B) (h k : A → C) → ((x y : A) → P x → Q y → f x ≡ g y → h x ≡ k y) → (xs ys : List A)
+    → Every P xs → Every Q ys → map f xs ≡ map g ys → map h xs ≡ map k ys
+told-map P Q f g h k told [] [] p q e = refl
+told-map P Q f g h k told [] (y ∷ ys) p q e = not-empty e
+told-map P Q f g h k told (x ∷ xs) [] p q e = not-empty (sym e)
+told-map P Q f g h k told (x ∷ xs) (y ∷ ys) p q e =
+    ap₂ _∷_ (told x y (p .0) (q .0) (first-of e)) (told-map P Q f g h k told xs ys (p .1) (q .1) (rest-of e))
 
 -- ---- lines from bytes
 
@@ -165,12 +180,9 @@ pub record WrittenSort (w : List ℕ) : Type 0 where
   pub letters : Within in-sort w
   pub some-letter : NonEmpty w
 
-plain-letter : (b : ℕ) → in-name b ≡ true → in-sort b ≡ true
-unfolding in-sort
-plain-letter b e = rw e
-
 pub plain-sort : (w : Name) → Plain w → WrittenSort w
-plain-sort w h = record { letters = every-so _ _ w plain-letter (h .letters); some-letter = h .some-letter }
+unfolding in-sort
+plain-sort w h = record { letters = every-so _ _ w (λ b e. rw e) (h .letters); some-letter = h .some-letter }
 
 -- inputs with `#` between them and `->` after: the first run of letters, and what follows it
 abbrev first-run : List (List ℕ) → List ℕ
@@ -201,9 +213,6 @@ after-letters [] z = refl
 after-letters (x ∷ []) z = refl
 after-letters (x ∷ y ∷ ys) z = refl
 
-other-mark : {X : Type 0} {z z′ : List ℕ} → byte ">" ∷ z ≡ byte "#" ∷ z′ → X
-other-mark e = absurd (eqb-false (byte ">") (byte "#") refl (first-of e))
-
 no-input : {X : Type 0} (x : List ℕ) → WrittenSort x → bytes "-" ≡ x ++ bytes "-" → X
 no-input x h e = absurd (subst NonEmpty (sym (append-cancel-right [] x (bytes "-") e)) (h .some-letter))
 
@@ -218,32 +227,17 @@ pub told-inputs : (i j : List (List ℕ)) (z z′ : List ℕ) → Every WrittenS
     → between-marks (bytes "#") i ++ (bytes "->" ++ z) ≡ between-marks (bytes "#") j ++ (bytes "->" ++ z′) → (i ≡ j) × (z ≡ z′)
 told-inputs [] [] z z′ h k e = (refl, rest-of (told-runs [] [] z z′ h k e .1))
 told-inputs [] (y ∷ []) z z′ h k e = no-input y (k .0) (told-runs [] (y ∷ []) z z′ h k e .0)
-told-inputs [] (y ∷ y′ ∷ ys) z z′ h k e = other-mark (told-runs [] (y ∷ y′ ∷ ys) z z′ h k e .1)
+told-inputs [] (y ∷ y′ ∷ ys) z z′ h k e = apart refl (told-runs [] (y ∷ y′ ∷ ys) z z′ h k e .1)
 told-inputs (x ∷ []) [] z z′ h k e = no-input x (h .0) (sym (told-runs (x ∷ []) [] z z′ h k e .0))
 told-inputs (x ∷ []) (y ∷ []) z z′ h k e =
     let r = told-runs (x ∷ []) (y ∷ []) z z′ h k e in (ap (_∷ []) (append-cancel-right x y (bytes "-") (r .0)), rest-of (r .1))
-told-inputs (x ∷ []) (y ∷ y′ ∷ ys) z z′ h k e = other-mark (told-runs (x ∷ []) (y ∷ y′ ∷ ys) z z′ h k e .1)
-told-inputs (x ∷ x′ ∷ xs) [] z z′ h k e = other-mark (sym (told-runs (x ∷ x′ ∷ xs) [] z z′ h k e .1))
-told-inputs (x ∷ x′ ∷ xs) (y ∷ []) z z′ h k e = other-mark (sym (told-runs (x ∷ x′ ∷ xs) (y ∷ []) z z′ h k e .1))
+told-inputs (x ∷ []) (y ∷ y′ ∷ ys) z z′ h k e = apart refl (told-runs (x ∷ []) (y ∷ y′ ∷ ys) z z′ h k e .1)
+told-inputs (x ∷ x′ ∷ xs) [] z z′ h k e = apart refl (sym (told-runs (x ∷ x′ ∷ xs) [] z z′ h k e .1))
+told-inputs (x ∷ x′ ∷ xs) (y ∷ []) z z′ h k e = apart refl (sym (told-runs (x ∷ x′ ∷ xs) (y ∷ []) z z′ h k e .1))
 told-inputs (x ∷ x′ ∷ xs) (y ∷ y′ ∷ ys) z z′ h k e =
     let r = told-runs (x ∷ x′ ∷ xs) (y ∷ y′ ∷ ys) z z′ h k e in
     let more = told-inputs (x′ ∷ xs) (y′ ∷ ys) z z′ (h .1) (k .1) (rest-of (r .1)) in
     (ap₂ _∷_ (r .0) (more .0), more .1)
-
--- ---- types, with what follows them
-
-module _ (rest rest′ : List ℕ) (outside : StartsOutside in-sort rest) (outside′ : StartsOutside in-sort rest′) where
-  pub told-type : (i j : List (List ℕ)) (o o′ : List ℕ) → Every WrittenSort i → Every WrittenSort j → WrittenSort o → WrittenSort o′
-      → type-text i o ++ rest ≡ type-text j o′ ++ rest′ → (i ≡ j) × (o ≡ o′) × (rest ≡ rest′)
-  unfolding type-text
-  told-type i j o o′ h k l l′ e =
-      let a = told-inputs i j (o ++ rest) (o′ ++ rest′) h k (sym (regrouped i o rest) ∙ rest-of e ∙ regrouped j o′ rest′) in
-      let b = told-run in-sort o o′ rest rest′ (l .letters) (l′ .letters) outside outside′ (a .1) in
-      (a .0, b .0, b .1)
-    where
-      regrouped : (i : List (List ℕ)) (o rest : List ℕ)
-          → (between-marks (bytes "#") i ++ (bytes "->" ++ o)) ++ rest ≡ between-marks (bytes "#") i ++ (bytes "->" ++ (o ++ rest))
-      regrouped i o rest = append-assoc (between-marks (bytes "#") i) (bytes "->" ++ o) rest
 
 -- ---- origins
 
@@ -263,10 +257,6 @@ pub record PlainOrigin (o : Origin) : Type 0 where
   pub section : PlainSection (o .section)
   pub declared : PlainDeclared (o .declared)
 
--- texts that begin differently
-pub apart : {X : Type 0} {b c : ℕ} {s t : List ℕ} → eqb b c ≡ false → b ∷ s ≡ c ∷ t → X
-apart {b} {c} d e = absurd (eqb-false b c d (first-of e))
-
 told-section : (s t : Section) → section-text s ≡ section-text t → s ≡ t
 unfolding section-text
 told-section export-section export-section e = refl
@@ -279,16 +269,13 @@ told-section (parameter-section p) export-section e = apart refl e
 told-section (parameter-section p) hidden-section e = apart refl e
 told-section (parameter-section p) (parameter-section q) e = ap parameter-section (append-cancel-left (bytes "parameter ") p q e)
 
-plain-sorts : (ws : List Name) → Every Plain ws → Every WrittenSort ws
-plain-sorts ws h = every-so Plain WrittenSort ws plain-sort h
-
 -- a name and its declared type
-told-function : (f g : Name) (i j : List Name) (o p : Name) → Plain f → Plain g → Every Plain i → Every Plain j → Plain o → Plain p
+told-function : (f g : Name) (i j : List Name) (o p : Name) → Plain f → Plain g → Every Plain i → Every Plain j
     → f ++ type-text i o ≡ g ++ type-text j p → (f ≡ g) × (i ≡ j) × (o ≡ p)
 unfolding type-text in-name is-word pick is-in
-told-function f g i j o p hf hg hi hj ho hp e =
+told-function f g i j o p hf hg hi hj e =
     let a = told-run in-name f g (type-text i o) (type-text j p) (hf .letters) (hg .letters) refl refl e in
-    let b = told-type [] [] tt tt i j o p (plain-sorts i hi) (plain-sorts j hj) (plain-sort o ho) (plain-sort p hp) (ap (_++ []) (a .1)) in
+    let b = told-inputs i j o p (every-so Plain WrittenSort i plain-sort hi) (every-so Plain WrittenSort j plain-sort hj) (rest-of (a .1)) in
     (a .0, b .0, b .1)
 
 told-declared : (d d′ : Declared) → PlainDeclared d → PlainDeclared d′ → declared-text d ≡ declared-text d′ → d ≡ d′
@@ -298,13 +285,13 @@ told-declared (declared-sort a) (declared-function g j p) h k e = apart refl e
 told-declared (declared-sort a) (declared-variable w t) h k e = apart refl e
 told-declared (declared-function f i o) (declared-sort b) h k e = apart refl e
 told-declared (declared-function f i o) (declared-function g j p) h k e =
-    let r = told-function f g i j o p (h .0) (k .0) (h .1) (k .1) (h .2) (k .2) (append-cancel-left (bytes "function,") _ _ e) in
+    let r = told-function f g i j o p (h .0) (k .0) (h .1) (k .1) (append-cancel-left (bytes "function,") _ _ e) in
     λ x. declared-function (r .0 x) (r .1 x) (r .2 x)
 told-declared (declared-function f i o) (declared-variable w t) h k e = apart refl e
 told-declared (declared-variable v s) (declared-sort b) h k e = apart refl e
 told-declared (declared-variable v s) (declared-function g j p) h k e = apart refl e
 told-declared (declared-variable v s) (declared-variable w t) h k e =
-    let r = told-function v w [] [] s t (h .0) (k .0) tt tt (h .1) (k .1) (append-cancel-left (bytes "variable,") _ _ e) in
+    let r = told-function v w [] [] s t (h .0) (k .0) tt tt (append-cancel-left (bytes "variable,") _ _ e) in
     λ x. declared-variable (r .0 x) (r .2 x)
 
 in-section : ℕ → Bool
@@ -386,30 +373,6 @@ number-written k = record { letters = (refl, every-append _ (digits 10 k) (bytes
 
 -- ---- the tests for "one" decide equality
 
-pub section-self : (s : Section) → same-section s s ≡ true
-section-self = sections-decided .self
-
-pub origin-self : (o : Origin) → same-origin o o ≡ true
-origin-self = origins-decided .self
-
-pub origin-equal : (o p : Origin) → same-origin o p ≡ true → o ≡ p
-origin-equal = origins-decided .equal
-
-pub sort-self : (s : Sort) → same-sort s s ≡ true
-sort-self = sorts-decided .self
-
-pub sort-equal : (s t : Sort) → same-sort s t ≡ true → s ≡ t
-sort-equal = sorts-decided .equal
-
-pub shape-self : (s : Shape) → same-shape s s ≡ true
-shape-self = shapes-decided .self
-
-pub shape-equal : (s t : Shape) → same-shape s t ≡ true → s ≡ t
-shape-equal = shapes-decided .equal
-
-pub item-equal : (a b : Item) → one-item a b ≡ true → a ≡ b
-item-equal = items-decided .equal
-
 pub slot-equal : (p q : Slot) → same-slot p q ≡ true → p ≡ q
 unfolding same-slot
 slot-equal p q e =
@@ -462,8 +425,9 @@ told-before : (is : List Item) (o p : Origin) → List·Memᴰ o (origins-of is)
     → before (λ (i : Item). same-origin o (i .origin)) is ≡ before (λ (i : Item). same-origin p (i .origin)) is → o ≡ p
 told-before is o p m k e =
     let at = before-map (λ (i : Item). i .origin) in
-    let r = passes-both (same-origin o) (same-origin p) (origins-of is) o p m (origin-self o) k (origin-self p) (sym (at _ is) ∙ e ∙ at _ is) in
-    origin-equal o (r .0) (r .1) ∙ sym (origin-equal p (r .0) (r .2))
+    let r = passes-both (same-origin o) (same-origin p) (origins-of is) o p m (origins-decided .self o) k (origins-decided .self p)
+    (sym (at _ is) ∙ e ∙ at _ is) in
+    origins-decided .equal o (r .0) (r .1) ∙ sym (origins-decided .equal p (r .0) (r .2))
 
 pub before-most : {A : Type 0} (p : A → Bool) (xs : List A) → before p xs ≤ length xs
 unfolding before
@@ -496,24 +460,19 @@ module _ (hidden : List Item) (few : length hidden + 1 < 10 ^ 10) where
 
   told-sorts : (ss ts : List Sort) → Every (SortIn hidden) ss → Every (SortIn hidden) ts
       → map (sort-text hidden) ss ≡ map (sort-text hidden) ts → ss ≡ ts
-  told-sorts [] [] h k e = refl
-  told-sorts [] (t ∷ ts) h k e = not-empty e
-  told-sorts (s ∷ ss) [] h k e = not-empty (sym e)
-  told-sorts (s ∷ ss) (t ∷ ts) h k e = ap₂ _∷_ (told-sort s t (h .0) (k .0) (first-of e)) (told-sorts ss ts (h .1) (k .1) (rest-of e))
+  told-sorts ss ts h k e =
+      sym (map-id ss) ∙ told-map (SortIn hidden) (SortIn hidden) _ _ (λ (s : Sort). s) (λ (s : Sort). s) told-sort ss ts h k e ∙ map-id ts
 
   -- what follows an item's name tells its type
   pub told-shape : (s t : Shape) → ShapeIn hidden s → ShapeIn hidden t → shape-rank s ≡ shape-rank t
       → shape-text hidden s ≡ shape-text hidden t → s ≡ t
-  unfolding shape-rank shape-text function-type-text
+  unfolding shape-rank shape-text function-type-text type-text
   told-shape sort-shape sort-shape h k r e = refl
   told-shape sort-shape (function-shape u) h k r e = absurd (omega arith)
   told-shape sort-shape (variable-shape v) h k r e = absurd (omega arith)
   told-shape (function-shape t) sort-shape h k r e = absurd (omega arith)
   told-shape (function-shape t) (function-shape u) h k r e =
-      let a =
-      told-type [] [] tt tt (map (sort-text hidden) (t .inputs)) (map (sort-text hidden) (u .inputs)) (sort-text hidden (t .output))
-      (sort-text hidden (u .output)) (sorts-written (t .inputs) (h .0)) (sorts-written (u .inputs) (k .0))
-      (sort-written (t .output) (h .1)) (sort-written (u .output) (k .1)) (ap (_++ []) e) in
+      let a = told-inputs _ _ _ _ (sorts-written (t .inputs) (h .0)) (sorts-written (u .inputs) (k .0)) (rest-of e) in
       let inputs = told-sorts (t .inputs) (u .inputs) (h .0) (k .0) (a .0) in
       let output = told-sort (t .output) (u .output) (h .1) (k .1) (a .1) in
       λ x. function-shape (record { inputs = inputs x; output = output x })
@@ -541,28 +500,25 @@ pub in-line-then : (s : List ℕ) {t : List ℕ} → OneLine s → OneLine t →
 in-line-then s {t} h k = record { within = every-append _ s t (h .within) (k .within) }
 
 -- a quoted text, then another
-quoted : (q : String) {t : List ℕ} → all-pass (not-byte (byte "\n")) (bytes q) ≡ true → OneLine t → OneLine (bytes q ++ t)
+pub quoted : (q : String) {t : List ℕ} → all-pass (not-byte (byte "\n")) (bytes q) ≡ true → OneLine t → OneLine (bytes q ++ t)
 quoted q e k = in-line-then (bytes q) (record { within = within-by _ (bytes q) e }) k
 
-nothing : OneLine []
+pub nothing : OneLine []
 nothing = record { within = tt }
 
-marks-in-line : (m : List ℕ) (xs : List (List ℕ)) → OneLine m → Every OneLine xs → OneLine (between-marks m xs)
+pub marks-in-line : (m : List ℕ) (xs : List (List ℕ)) → OneLine m → Every OneLine xs → OneLine (between-marks m xs)
 unfolding between-marks
 marks-in-line m [] h k = nothing
 marks-in-line m (x ∷ []) h k = k .0
 marks-in-line m (x ∷ y ∷ ys) h k = in-line-then x (k .0) (in-line-then m h (marks-in-line m (y ∷ ys) h (k .1)))
 
-mark-in-line : (b : ℕ) → not-byte (byte "\n") b ≡ true → OneLine (b ∷ [])
+pub mark-in-line : (b : ℕ) → not-byte (byte "\n") b ≡ true → OneLine (b ∷ [])
 mark-in-line b e = record { within = (e, tt) }
 
 type-in-line : (i : List (List ℕ)) (o : List ℕ) → Every OneLine i → OneLine o → OneLine (type-text i o)
 unfolding type-text
 type-in-line i o h k =
     quoted ":" refl (in-line-then (between-marks (bytes "#") i) (marks-in-line (bytes "#") i (mark-in-line (byte "#") refl) h) (quoted "->" refl k))
-
-names-in-line : (ws : List Name) → Every Plain ws → Every OneLine ws
-names-in-line ws h = every-so Plain OneLine ws plain-in-line h
 
 section-in-line : (s : Section) → PlainSection s → OneLine (section-text s)
 unfolding section-text
@@ -575,7 +531,7 @@ unfolding declared-text
 declared-in-line (declared-sort a) h = quoted "sort," refl (plain-in-line a h)
 declared-in-line (declared-function f i o) h =
     quoted "function," refl
-    (in-line-then f (plain-in-line f (h .0)) (type-in-line i o (names-in-line i (h .1)) (plain-in-line o (h .2))))
+    (in-line-then f (plain-in-line f (h .0)) (type-in-line i o (every-so Plain OneLine i plain-in-line (h .1)) (plain-in-line o (h .2))))
 declared-in-line (declared-variable v s) h =
     quoted "variable," refl (in-line-then v (plain-in-line v (h .0)) (type-in-line [] s tt (plain-in-line s (h .1))))
 
@@ -590,92 +546,14 @@ origin-in-line o h =
 pub number-in-line : (k : ℕ) → OneLine (numbered k)
 number-in-line k = sort-in-line (numbered k) (number-written k)
 
--- a sort is written in one line whether or not it is among the hidden items
-abbrev pub PlainSort : Sort → Type 0
-PlainSort (visible-sort a) = Plain a
-PlainSort (hidden-sort o) = Unit {0}
-
-sort-text-in-line : (hidden : List Item) (s : Sort) → PlainSort s → OneLine (sort-text hidden s)
+sort-text-in-line : (hidden : List Item) (s : Sort) → SortIn hidden s → OneLine (sort-text hidden s)
 unfolding sort-text
 sort-text-in-line hidden (visible-sort a) h = plain-in-line a h
 sort-text-in-line hidden (hidden-sort o) h = number-in-line _
-
-in-plain : (hidden : List Item) (s : Sort) → SortIn hidden s → PlainSort s
-in-plain hidden (visible-sort a) h = h
-in-plain hidden (hidden-sort o) h = tt
-
-sort-texts-in-line : (hidden : List Item) (ss : List Sort) → Every (SortIn hidden) ss → Every OneLine (map (sort-text hidden) ss)
-sort-texts-in-line hidden ss h = every-map (SortIn hidden) OneLine (sort-text hidden) (λ s k. sort-text-in-line hidden s (in-plain hidden s k)) ss h
 
 pub shape-in-line : (hidden : List Item) (s : Shape) → ShapeIn hidden s → OneLine (shape-text hidden s)
 unfolding shape-text function-type-text
 shape-in-line hidden sort-shape h = nothing
 shape-in-line hidden (function-shape t) h =
-    type-in-line _ _ (sort-texts-in-line hidden (t .inputs) (h .0)) (sort-text-in-line hidden (t .output) (in-plain hidden (t .output) (h .1)))
-shape-in-line hidden (variable-shape s) h = quoted ":" refl (sort-text-in-line hidden s (in-plain hidden s h))
-
--- an equation's tag, and the names of visible functions in it, are plain
-abbrev pub PlainHead : Head → Type 0
-PlainHead (visible-head f t) = Plain f
-PlainHead (hidden-head o t) = Unit {0}
-
-abbrev mutual
-  pub PlainTerm : ResolvedTerm → Type 0
-  PlainTerm (var o s) = Unit {0}
-  PlainTerm (app f xs) = PlainHead f × PlainTerms xs
-
-  pub PlainTerms : ResolvedTerms → Type 0
-  PlainTerms none-left = Unit {0}
-  PlainTerms (x and-then xs) = PlainTerm x × PlainTerms xs
-
-abbrev pub PlainSides : ResolvedSides → Type 0
-PlainSides e = PlainTerm (e .left) × PlainTerm (e .right)
-
-pub record PlainEquation (e : ResolvedEquation) : Type 0 where
-  pub tag : Plain (e .tag)
-  pub conclusion : PlainSides (e .conclusion)
-  pub conditions : Every PlainSides (e .conditions)
-
-module _ (hidden : List Item) where
-  head-in-line : (f : Head) → PlainHead f → OneLine (head-text hidden f)
-  unfolding head-text
-  head-in-line (visible-head f t) h = plain-in-line f h
-  head-in-line (hidden-head o t) h = number-in-line _
-
-  arguments-in-line : (xs : List (List ℕ)) → Every OneLine xs → OneLine (argument-text xs)
-  unfolding argument-text
-  arguments-in-line [] h = nothing
-  arguments-in-line (x ∷ xs) h =
-      quoted "(" refl
-      (in-line-then (between-marks (bytes ",") (x ∷ xs)) (marks-in-line (bytes ",") (x ∷ xs) (mark-in-line (byte ",") refl) h) (quoted ")" refl nothing))
-
-  mutual
-    unfolding term-text variable-text
-
-    term-in-line : (t : ResolvedTerm) → PlainTerm t → OneLine (term-text hidden t)
-    term-in-line (var o s) h = number-in-line _
-    term-in-line (app f xs) h = in-line-then (head-text hidden f) (head-in-line f (h .0)) (arguments-in-line (term-texts hidden xs) (terms-in-line xs (h .1)))
-
-    terms-in-line : (ts : ResolvedTerms) → PlainTerms ts → Every OneLine (term-texts hidden ts)
-    terms-in-line none-left h = tt
-    terms-in-line (x and-then xs) h = (term-in-line x (h .0), terms-in-line xs (h .1))
-
-  sides-in-line : (e : ResolvedSides) → PlainSides e → OneLine (sides-text hidden e)
-  unfolding sides-text
-  sides-in-line e h = in-line-then (term-text hidden (e .left)) (term-in-line (e .left) (h .0)) (quoted "=" refl (term-in-line (e .right) (h .1)))
-
-  conditions-in-line : (es : List ResolvedSides) → Every PlainSides es → OneLine (conditions-text hidden es)
-  unfolding conditions-text
-  conditions-in-line [] h = nothing
-  conditions-in-line (e ∷ es) h =
-      quoted " when " refl
-      (marks-in-line (bytes ",") (map (sides-text hidden) (e ∷ es)) (mark-in-line (byte ",") refl)
-      (every-map PlainSides OneLine (sides-text hidden) sides-in-line (e ∷ es) h))
-
-  pub equation-in-line : (e : ResolvedEquation) → PlainEquation e → OneLine (equation-text hidden e)
-  unfolding equation-text
-  equation-in-line e h =
-      quoted "[" refl
-      (in-line-then (e .tag) (plain-in-line (e .tag) (h .tag))
-      (quoted "] " refl
-      (in-line-then (sides-text hidden (e .conclusion)) (sides-in-line (e .conclusion) (h .conclusion)) (conditions-in-line (e .conditions) (h .conditions)))))
+    type-in-line _ _ (every-map _ OneLine (sort-text hidden) (sort-text-in-line hidden) (t .inputs) (h .0)) (sort-text-in-line hidden (t .output) (h .1))
+shape-in-line hidden (variable-shape s) h = quoted ":" refl (sort-text-in-line hidden s h)

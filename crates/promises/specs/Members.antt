@@ -28,6 +28,12 @@ pub refuted : (b : Bool) → (b ≡ true → _≡_ {A = Bool} true false) → b 
 refuted true h = h refl
 refuted false h = refl
 
+-- tests of which each passes where the other does
+pub each-way : (b c : Bool) → (b ≡ true → c ≡ true) → (c ≡ true → b ≡ true) → b ≡ c
+each-way true c f g = sym (f refl)
+each-way false true f g = g refl
+each-way false false f g = refl
+
 pub found-again : (b x y : Bool) → (x ≡ true → y ≡ true) → pick b true x ≡ true → pick b true y ≡ true
 unfolding pick
 found-again true x y h e = refl
@@ -54,12 +60,8 @@ module _ (w : Name) where
   pub member-append : (xs ys : List Name) → member w (xs ++ ys) ≡ (member w xs || member w ys)
   unfolding member pick
   member-append [] ys = refl
-  member-append (x ∷ xs) ys = go (same w x) (member-append xs ys)
-    where
-      go : (b : Bool) → member w (xs ++ ys) ≡ (member w xs || member w ys)
-          → pick b true (member w (xs ++ ys)) ≡ (pick b true (member w xs) || member w ys)
-      go true h = refl
-      go false h = h
+  member-append (x ∷ xs) ys =
+      by-cases (λ (b : Bool). b ≡ (pick (same w x) true (member w xs) || member w ys)) (same w x) true _ (λ e. rw e refl) (λ e. rw e (member-append xs ys))
 
   pub member-right : (xs ys : List Name) → member w ys ≡ true → member w (xs ++ ys) ≡ true
   unfolding member
@@ -71,8 +73,7 @@ module _ (w : Name) where
   member-left [] ys e = clear (sym e)
   member-left (x ∷ xs) ys e = found-again (same w x) _ _ (member-left xs ys) e
 
-  pub member-more : (xs ys zs : List Name) → (member w ys ≡ true → member w zs ≡ true) → member w (xs ++ ys) ≡ true
-      → member w (xs ++ zs) ≡ true
+  pub member-more : (xs ys zs : List Name) → (member w ys ≡ true → member w zs ≡ true) → member w (xs ++ ys) ≡ true → member w (xs ++ zs) ≡ true
   unfolding member
   member-more [] ys zs h e = h e
   member-more (x ∷ xs) ys zs h e = found-again (same w x) _ _ (member-more xs ys zs h) e
@@ -144,8 +145,7 @@ module _ (a : Name) (m : Module) (ms : List Module) where
   unfolding reached-among pick
   reached-here k e b = rw b
 
-  pub reached-later : (k : ℕ) (e : List Name) → member (m .name) wants ≡ false
-      → reached-among a k e (m ∷ ms) ≡ reached-among a (k + 1) (m .name ∷ e) ms
+  pub reached-later : (k : ℕ) (e : List Name) → member (m .name) wants ≡ false → reached-among a k e (m ∷ ms) ≡ reached-among a (k + 1) (m .name ∷ e) ms
   unfolding reached-among pick
   reached-later k e b = rw b
 
@@ -159,8 +159,7 @@ unfolding wanted member pick
 only-itself y e [] f h = refl
 only-itself y e (m ∷ ms) f h =
     let q = only-itself y (m .name ∷ e) ms (f .1) (found-later (same y (m .name)) _ h) in
-    let p : member (m .name) (wanted y ms) ≡ false =
-    ap (member (m .name)) q ∙ ap (λ (b : Bool). pick b true false) (differ (m .name) y e (f .0) h) in
+    let p : member (m .name) (wanted y ms) ≡ false = ap (member (m .name)) q ∙ ap (λ (b : Bool). pick b true false) (differ (m .name) y e (f .0) h) in
     wanted-later y m ms p ∙ q
 
 -- a reached module is called y

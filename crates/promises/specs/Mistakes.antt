@@ -25,14 +25,13 @@ use Rattle.meaning.specs.Reached.{Placed, reached, Ended, end-or, total-of, in-
 use Rattle.meaning.specs.Texts.{Texts, Reading, all-read, refused-in, read-texts}
 use Rattle.meaning.specs.Answer.{Answer, refusal, of-ended, unread, of-read, within, answer, tells-actual, names-told, printed-lines, printed, answer-to, asfnorm}
 use Rattle.meaning.specs.OrderLaws.{Every, any-none}
-use Rattle.laws.specs.Decides.{both-true}
+use Rattle.laws.specs.Decides.{both-true, shapes-decided}
 use Rattle.laws.specs.EveryLaws.{every-so, every-keep, any-found, any-passes, every-member}
 use Rattle.laws.specs.Outcomes.{Gives}
-use Rattle.promises.specs.ListingLaws.{shape-equal}
 use Rattle.promises.specs.Told.{SoundVisible}
 use Rattle.promises.specs.Sound.{no-variable}
 use Rattle.promises.specs.TypedBinding.{second-true}
-use Rattle.promises.specs.SoundEvaluation.{Whole, WholeEnv, normal-of-whole, PlainClause, clause-whole, PlainModule, Accepted, evaluated-accepted, reached-plain}
+use Rattle.promises.specs.SoundEvaluation.{Whole, WholeEnv, normal-of-whole, PlainClause, clause-whole, PlainModule, imports-plain, Accepted, evaluated-accepted, reached-plain}
 use Rattle.promises.specs.PlainText.{read-plain}
 use Rattle.promises.specs.Counts.{BindingMistake, OtherNumber, OtherRefusal, IfRefused, checked-from, rename-from, united-from, names-right-from, declared-once-from, joined-own-from, refusal-within}
 use Rattle.promises.specs.ReadNumbers.{refused-low}
@@ -147,7 +146,7 @@ module _ (formal : List Item) (rs : List Pair) (whole actual : Visible) where
   shape-both w (function-shape t) = implied (kind-of w (function-shape t)) (type-of w (function-shape t)) (λ e.
       let j = any-found _ (actual .items) (both-true (sorts-right formal rs whole actual t) _ e .1) in
       let b = both-true (is-called w (j .0)) _ (j .2) in
-      let f : is-function (j .0 .shape) ≡ true = ap is-function (sym (shape-equal _ _ (b .1))) in
+      let f : is-function (j .0 .shape) ≡ true = ap is-function (sym (shapes-decided .equal _ _ (b .1))) in
       any-passes _ (actual .items) (j .0) (j .1) (rw (b .0) f))
 
   -- what has a formal's kind is there: no formal is a variable
@@ -226,7 +225,7 @@ module _ (env : List Evaluated) (whole : WholeEnv env) where
       retold-then names names _ _ (retold-same names (names-right-from declared (x .earlier) (named-by m)))
       (retold-then (declared-once m) (declared-once m) _ _ (retold-same (declared-once m) (declared-once-from m))
       (retold-bound _ _ _ _
-      (retold-bound _ _ _ _ (expressions-retold (m .imports) (plain .imports)) (λ ns e. retold-same (united empty ns) (united-from empty ns)))
+      (retold-bound _ _ _ _ (expressions-retold (m .imports) (imports-plain m plain)) (λ ns e. retold-same (united empty ns) (united-from empty ns)))
       (λ n e. retold-same (joined-own (x .number) (total-of env) m n) (joined-own-from (x .number) (total-of env) m n))))
 
 -- ---- every answer

@@ -10,7 +10,7 @@ use lib.ListN.{length, length-map}
 use Rattle.meaning.specs.Laws.{by-cases}
 use Rattle.meaning.specs.Lists.{pick}
 use Rattle.meaning.specs.Names.{bytes, Name, same, member}
-use Rattle.meaning.specs.Syntax.{Module}
+use Rattle.meaning.specs.Syntax.{Signature, Import, Module}
 use Rattle.meaning.specs.Normal.{Normal, empty}
 use Rattle.meaning.specs.Checks.{lone, Outcome, fine, stop, _>>_, Check, Size, _>>=_}
 use Rattle.meaning.specs.Evaluate.{Evaluated, named-by, names-right, declared-once, imported, joined-own, evaluate}
@@ -44,8 +44,7 @@ none-reached w k e taken [] f h = refl
 none-reached w k e taken (m ∷ ms) f h =
     let still = found-later (same w (m .name)) _ h in
     let p : member (m .name) (wanted w ms) ≡ false =
-    ap (member (m .name)) (only-itself w (m .name ∷ taken) ms (f .1) still)
-    ∙ ap (λ (b : Bool). pick b true false) (differ (m .name) w taken (f .0) h) in
+    ap (member (m .name)) (only-itself w (m .name ∷ taken) ms (f .1) still) ∙ ap (λ (b : Bool). pick b true false) (differ (m .name) w taken (f .0) h) in
     rw p (none-reached w (k + 1) (m .name ∷ e) (m .name ∷ taken) ms (f .1) still)
 
 one-reached : (w : Name) (k : ℕ) (e names : List Name) (m : Module) (ms : List Module)
@@ -57,11 +56,9 @@ one-reached w k e names m ms h =
 
 -- what it reaches is among those up to here
 reached-before : (w : Name) (us vs : List Module) (k : ℕ) (e taken : List Name) → Fresh taken (us ++ vs)
-    → (member w taken ≡ true) ⊎ (member w (module-names us) ≡ true)
-    → Inside (names-of (reached-among w k e (us ++ vs))) (module-names us)
+    → (member w taken ≡ true) ⊎ (member w (module-names us) ≡ true) → Inside (names-of (reached-among w k e (us ++ vs))) (module-names us)
 unfolding module-names member pick
-reached-before w [] vs k e taken f (inl h) =
-    λ v q. clear (sym q ∙ ap (λ (xs : List Placed). member v (names-of xs)) (none-reached w k e taken vs f h))
+reached-before w [] vs k e taken f (inl h) = λ v q. clear (sym q ∙ ap (λ (xs : List Placed). member v (names-of xs)) (none-reached w k e taken vs f h))
 reached-before w [] vs k e taken f (inr h) = clear (sym h)
 reached-before w (u ∷ us) vs k e taken f h =
     one-reached w k e (module-names us) u (us ++ vs) (reached-before w us vs (k + 1) (u .name ∷ e) (u .name ∷ taken) (f .1)
@@ -71,8 +68,7 @@ reached-before w (u ∷ us) vs k e taken f h =
 
 -- the last name may be put first
 last-first : (v : Name) (vs ws : List Name) → Inside vs ws → Inside (vs ++ (v ∷ [])) (v ∷ ws)
-last-first v vs ws h w q =
-    ⊎-elim (λ b. member-right w (v ∷ []) ws (h w b)) (member-more w (v ∷ []) [] ws (λ z. no-name w z)) (member-split w vs (v ∷ []) q)
+last-first v vs ws h w q = ⊎-elim (λ b. member-right w (v ∷ []) ws (h w b)) (member-more w (v ∷ []) [] ws (λ z. no-name w z)) (member-split w vs (v ∷ []) q)
 
 module _ (ms : List Module) (fresh : Fresh [] ms) where
   -- us stand before the modules from here on, and e are their names
@@ -165,23 +161,14 @@ answer-tested = answer-by turns-tested
 
 -- of modules that no text gives, it finds the cycle: M names A, and A, evaluated before, names M, evaluated before
 unfoldable cyclic : Module
-cyclic = record {
-  name = bytes "M";
-  parameters = [];
-  exports = record { sorts = []; functions = [] };
-  imports = record { name = bytes "A"; clauses = [] } ∷ [];
-  hidden = record { sorts = []; functions = [] };
-  groups = [];
-  equations = [];
-}
+cyclic =
+    let none : Signature = record { sorts = []; functions = [] } in
+    let imports : List Import = record { name = bytes "A"; clauses = [] } ∷ [] in
+    record { name = bytes "M"; parameters = []; exports = none; imports = imports; hidden = none; groups = []; equations = [] }
 
 in-a-cycle :
-    acyclic
-    (record { evaluated = record { name = bytes "A"; normal = empty }; names = bytes "M" ∷ [] }
-    ∷ record { evaluated = record { name = bytes "M"; normal = empty }; names = [] }
-    ∷ [])
-    cyclic
-    ≡ stop in-cycle (lone (bytes "M"))
+    acyclic (record { evaluated = record { name = bytes "A"; normal = empty }; names = bytes "M" ∷ [] }
+    ∷ record { evaluated = record { name = bytes "M"; normal = empty }; names = [] } ∷ []) cyclic ≡ stop in-cycle (lone (bytes "M"))
 unfolding all-opened cyclic acyclic reached-from
 in-a-cycle = refl
 

@@ -149,13 +149,9 @@ in-read f (refused-in l number at) = []
 homes : Texts → List ℕ
 homes texts = in-read (λ n. map (λ (e : ResolvedEquation). e .module-number) (n .hidden .equations)) (read-texts texts)
 
-one-homes : homes one-pair ≡ 1 ∷ 1 ∷ 2 ∷ []
-unfolding all-opened homes in-read in-ended one-pair
-one-homes = refl
-
-other-homes : homes other-pair ≡ 1 ∷ 2 ∷ 2 ∷ []
-unfolding all-opened homes in-read in-ended other-pair
-other-homes = refl
+homes-differ : (homes one-pair ≡ 1 ∷ 1 ∷ 2 ∷ []) × (homes other-pair ≡ 1 ∷ 2 ∷ 2 ∷ [])
+unfolding all-opened homes in-read in-ended one-pair other-pair
+homes-differ = (refl, refl)
 
 pub not-told : listing (answer memory-size program-output (bytes "M") one-pair) ≡ listing (answer memory-size program-output (bytes "M") other-pair)
 unfolding all-opened one-pair other-pair
@@ -172,13 +168,9 @@ b-parameter = two-texts [] (bytes "module A begin end A module B begin parameter
 declaring : Texts → List Name
 declaring texts = in-read (λ n. map (λ (p : Slot). p .home) (n .visible .parameters)) (read-texts texts)
 
-a-declares : declaring a-parameter ≡ bytes "A" ∷ []
-unfolding all-opened declaring in-read in-ended a-parameter
-a-declares = refl
-
-b-declares : declaring b-parameter ≡ bytes "B" ∷ []
-unfolding all-opened declaring in-read in-ended b-parameter
-b-declares = refl
+declared-apart : (declaring a-parameter ≡ bytes "A" ∷ []) × (declaring b-parameter ≡ bytes "B" ∷ [])
+unfolding all-opened declaring in-read in-ended a-parameter b-parameter
+declared-apart = (refl, refl)
 
 pub home-not-told : listing (answer memory-size program-output (bytes "M") a-parameter) ≡ listing (answer memory-size program-output (bytes "M") b-parameter)
 unfolding all-opened a-parameter b-parameter

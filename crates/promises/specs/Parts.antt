@@ -41,19 +41,14 @@ module _ {A : Type 0} where
   each-others p [] xs a = refl
   each-others p (t ∷ ts) xs a = ap₂ _++_ (keep-others p t xs (a .0)) (each-others p ts xs (a .1))
 
-  passes-later : (p : A → Bool) (ts : List (A → Bool)) (x : A) → any (λ (t : A → Bool). t x) (p ∷ ts) ≡ true → p x ≡ false
-      → any (λ (t : A → Bool). t x) ts ≡ true
-  unfolding any pick
-  passes-later p ts x e f = rw f at e
-
   pub parted : (ts : List (A → Bool)) (xs : List A) → Every (λ x. any (λ (t : A → Bool). t x) ts ≡ true) xs → Pairwise Apart ts
       → Rearranged xs (each (λ (t : A → Bool). keep t xs) ts)
-  unfolding each any
+  unfolding each any pick
   parted [] [] h a = List·Permᴰ·nil
   parted [] (x ∷ xs) h a = absurd (false≢true (h .0))
   parted (p ∷ ts) xs h a =
       let ys = others p xs in
-      let rest = every-so _ (λ x. any (λ (t : A → Bool). t x) ts ≡ true) ys (λ x k. passes-later p ts x (k .0) (not-true (p x) (k .1)))
+      let rest = every-so _ (λ x. any (λ (t : A → Bool). t x) ts ≡ true) ys (λ x k. rw (not-true (p x) (k .1)) at (k .0))
       (every-kept (λ x. any (λ (t : A → Bool). t x) (p ∷ ts) ≡ true) (λ (x : A). not (p x)) xs h) in
       let d = subst (Rearranged ys) (each-others p ts xs (a .0)) (parted ts ys rest (a .1)) in
       List·Permᴰ·trans (split p xs) (Permᴰ·append-left (keep p xs) d)

@@ -49,8 +49,7 @@ CounterpartsBut left-out asked ms ms′ x x′ =
     × But left-out same-imports (x .self .imports ≡ x′ .self .imports)
     × But left-out asked-unchanged (x .self .name ≡ asked → x .self ≡ x′ .self)
     × But left-out names-found (Every (λ w. missing (module-names ms) w ≡ missing (module-names ms′) w) (named-by (x .self)))
-    × But left-out names-found
-    (Every (λ w. too-late (module-names ms) (x .earlier) w ≡ too-late (module-names ms′) (x′ .earlier) w) (named-by (x .self)))
+    × But left-out names-found (Every (λ w. too-late (module-names ms) (x .earlier) w ≡ too-late (module-names ms′) (x′ .earlier) w) (named-by (x .self)))
 
 -- both are read; the asked module stands in both; the modules that it reaches correspond; the others are accepted in both
 abbrev pub ComparableBut : Premise → Name → Texts → Texts → List Module → List Module → Type 0
@@ -167,8 +166,7 @@ pub names-matter : Matters names-found
     (bytes "7 M1\n")
     (bytes "8 M1\n")
 unfolding matters-opened
-names-matter =
-    ((refl, refl, refl, refl, ((refl, refl, refl, refl, λ e. refl, tt, tt), tt), refl, refl), refl, refl, refl)
+names-matter = ((refl, refl, refl, refl, ((refl, refl, refl, refl, λ e. refl, tt, tt), tt), refl, refl), refl, refl, refl)
 
 -- the order of the modules: in the second text M1 stands after M2, and is not reached
 pub order-matters : Matters same-modules
@@ -177,8 +175,7 @@ pub order-matters : Matters same-modules
     (bytes "0 \nmodule=M2\n")
     (bytes "8 M1\n")
 unfolding matters-opened
-order-matters =
-    ((refl, refl, refl, refl, tt, tt, refl), refl, refl, refl)
+order-matters = ((refl, refl, refl, refl, tt, tt, refl), refl, refl, refl)
 
 -- an imported module that is not accepted: its own hidden sort clashes with its exported one
 pub acceptance-matters : Matters others-accepted

@@ -7,6 +7,7 @@ use native.Mathlib.Omega.{arith}
 use mathlib.Core.Bool.{Bool, true, false}
 use mathlib.Core.List.{List, [], _∷_, map}
 use lib.ListN.{length}
+use Rattle.meaning.specs.Laws.{by-cases}
 use Rattle.meaning.specs.Lists.{pick, each}
 use Rattle.meaning.specs.Names.{Name, member, same}
 use Rattle.meaning.specs.Numbers.{asked-absent, no-room, accepted, named-absent, named-late, lent-short}
@@ -27,7 +28,7 @@ use Rattle.promises.specs.Public.{accepted-shows, shown-only}
 use Rattle.promises.specs.Lines.{listing-shown}
 use Rattle.promises.specs.VisiblePart.{visible-part}
 use Rattle.promises.specs.Tied.{ended-tied}
-use Rattle.promises.specs.TwoCalls.{in-turn-so}
+use Rattle.promises.specs.TwoCalls.{pick-both, in-turn-so}
 use Rattle.promises.specs.Demand.{ReadAs, SameButHidden, Counterparts, InTurn, RefusedAtMost, InTheCall, Comparable, SameAnswer, ShortOfRoom, Agreeing, Demand3}
 use Rattle.meaning.specs.OutcomeLaws.{fine-same}
 use Rattle.meaning.specs.VisiblyLaws.{Seen, imported-visibly, evaluate-visibly}
@@ -74,8 +75,7 @@ seen-length [] = refl
 seen-length (e ∷ env) = ap suc (seen-length env)
 
 end-reflects : (o : Outcome Normal) (b : Outcome Visible) (c c′ : ℕ) (m : Name) (more : Normal → Ended) (more′ : Visible → EndedVisibly)
-    → c′ ≡ c → Mirrors visible-half o b → ((n : Normal) → Reflects (more n) (more′ (n .visible)))
-    → Reflects (end-or c m more o) (end-visibly c′ m more′ b)
+    → c′ ≡ c → Mirrors visible-half o b → ((n : Normal) → Reflects (more n) (more′ (n .visible))) → Reflects (end-or c m more o) (end-visibly c′ m more′ b)
 unfolding end-or end-visibly as-seen
 end-reflects (fine n) b c c′ m more more′ p h later = subst (λ r. Reflects (more n) (end-visibly c′ m more′ r)) (sym h) (later n)
 end-reflects (stop k w) b c c′ m more more′ p (inl h) later = inl h
@@ -92,17 +92,9 @@ in-turn-reflects d env last (x ∷ xs) =
     (λ n. in-turn-reflects d (record { name = x .self .name; normal = n } ∷ env) n xs)
 
 pub normalise-reflects : (asked : Name) (ms : List Module) → Reflects (normalise asked ms) (normalise-visibly asked ms)
-unfolding normalise normalise-visibly pick empty as-seen
-normalise-reflects asked ms = go (member asked (module-names ms))
-  where
-    absent : Culprit
-    absent = lone (short-or-blank asked)
-
-    go : (b : Bool)
-        → Reflects (pick b (in-turn (module-names ms) [] empty (reached asked ms)) (refused-at asked-absent 0 asked absent))
-        (pick b (in-turn-visibly (module-names ms) [] nothing-visible (reached asked ms)) (refuses asked-absent 0 asked absent))
-    go true = in-turn-reflects (module-names ms) [] empty (reached asked ms)
-    go false = inr refl
+unfolding normalise normalise-visibly empty as-seen
+normalise-reflects asked ms =
+    pick-both Reflects (member asked (module-names ms)) _ _ _ _ (in-turn-reflects (module-names ms) [] empty (reached asked ms)) (inr refl)
 
 -- ---- what a call shows
 
@@ -120,8 +112,7 @@ no-refusal c k c′ v m w e = let z : _≡_ {A = ℕ} 0 1 = cc in absurd (omega 
 
 -- ---- step 1: the names have the same outcome in both
 
-names-same : (d e d′ e′ : List Name) (ws : List Name)
-    → Every (λ w. missing d w ≡ missing d′ w) ws → Every (λ w. too-late d e w ≡ too-late d′ e′ w) ws
+names-same : (d e d′ e′ : List Name) (ws : List Name) → Every (λ w. missing d w ≡ missing d′ w) ws → Every (λ w. too-late d e w ≡ too-late d′ e′ w) ws
     → names-right d e ws ≡ names-right d′ e′ ws
 unfolding names-right
 names-same d e d′ e′ [] m l = refl
@@ -136,8 +127,7 @@ one-shown : (names names′ : Check) (env : List Seen) (m m′ : Module) → Sam
 one-shown names names′ env m m′ alike v v′ q q′ =
     let b = accepted-shows names env m v q in
     let b′ = accepted-shows names′ env m′ v′ q′ in
-    let p : b .imported ≡ b′ .imported =
-    fine-same _ _ (sym (b .from-imports) ∙ (λ i. imported-visibly env (alike .imports i)) ∙ b′ .from-imports) in
+    let p : b .imported ≡ b′ .imported = fine-same _ _ (sym (b .from-imports) ∙ (λ i. imported-visibly env (alike .imports i)) ∙ b′ .from-imports) in
     let shown : shown-only m ≡ shown-only m′ = λ i. record {
       name = alike .name i;
       parameters = alike .parameters i;
@@ -171,12 +161,10 @@ not-stopped t c u more (stop n w) q h = absurd (h n c w (sym q))
 
 -- the same outcome in both, and where it is fine the rest ends alike: the calls end alike
 one-turn : (t r : EndedVisibly) (o o′ : Outcome Visible) (c : ℕ) (u u′ : Name) (more more′ : Visible → EndedVisibly) → u ≡ u′ → o ≡ o′
-    → ((v : Visible) → more v ≡ t → more′ v ≡ r → t ≡ r)
-    → end-visibly c u more o ≡ t → end-visibly c u′ more′ o′ ≡ r → t ≡ r
+    → ((v : Visible) → more v ≡ t → more′ v ≡ r → t ≡ r) → end-visibly c u more o ≡ t → end-visibly c u′ more′ o′ ≡ r → t ≡ r
 unfolding end-visibly
 one-turn t r (fine v) o′ c u u′ more more′ p e later q q′ = later v q (ap (end-visibly c u′ more′) e ∙ q′)
-one-turn t r (stop k w) o′ c u u′ more more′ p e later q q′ =
-    sym q ∙ ap (λ (x : Name). refuses k c x w) p ∙ ap (end-visibly c u′ more′) e ∙ q′
+one-turn t r (stop k w) o′ c u u′ more more′ p e later q q′ = sym q ∙ ap (λ (x : Name). refuses k c x w) p ∙ ap (end-visibly c u′ more′) e ∙ q′
 
 all-turns : (asked : Name) (ms ms′ : List Module) (t r : EndedVisibly) (xs xs′ : List Placed) (env : List Seen) (last : Visible)
     → InTurn (Counterparts asked ms ms′) xs xs′ → InTurn (Passed t r) xs xs′
@@ -205,8 +193,7 @@ all-turns asked ms ms′ t r (x ∷ xs) (x′ ∷ xs′) env last c s q q′ =
 
     same-outcome : Passed t r x x′ → one ≡ other
     same-outcome (inl p) =
-        (λ i. evaluate-visibly (names i) env (x .self))
-        ∙ (λ i. evaluate-visibly (names-right (module-names ms′) (x′ .earlier) (named-by (p i))) env (p i))
+        (λ i. evaluate-visibly (names i) env (x .self)) ∙ (λ i. evaluate-visibly (names-right (module-names ms′) (x′ .earlier) (named-by (p i))) env (p i))
     same-outcome (inr n) =
         let y = not-stopped t _ _ _ _ q (n .0) in
         let z = not-stopped r _ _ _ _ q′ (n .1) in
@@ -301,15 +288,8 @@ seen-same asked (normalised c n) (normalised c′ n′) t t′ q = record {
     parts = cc
 seen-same asked (normalised c n) (refused-at k c′ m w) t t′ q = no-refusal c k c′ (n .visible) m w q
 seen-same asked (refused-at k c m w) (normalised c′ n′) t t′ q = no-refusal c′ k c (n′ .visible) m w (sym q)
-seen-same asked (refused-at k c m w) (refused-at k′ c′ m′ w′) t t′ q = record {
-  number = cc;
-  modules = cc;
-  evaluating = cc;
-  culprit = cc;
-  at = refl;
-  in-library = refl;
-  visible-lines = refl;
-}
+seen-same asked (refused-at k c m w) (refused-at k′ c′ m′ w′) t t′ q =
+    record { number = cc; modules = cc; evaluating = cc; culprit = cc; at = refl; in-library = refl; visible-lines = refl }
 
 pub ended-same : (asked : Name) (e e′ : Ended) → Tied (of-ended asked e) → Tied (of-ended asked e′) → Close e e′
     → Agreeing (of-ended asked e) (of-ended asked e′)
@@ -321,21 +301,12 @@ ended-same asked e e′ t t′ (inr (inr q)) = inr (inr (seen-same asked e e′ 
 abbrev pub Short : Answer → Answer → Type 0
 Short r r′ = (r .number ≡ lent-short) ⊎ (r ≡ r′)
 
-short-first : (b : Bool) (x y z : Answer) → x .number ≡ lent-short → Short y z → Short (pick b x y) z
-unfolding pick
-short-first true x y z p h = inl p
-short-first false x y z p h = h
-
-short-second : (b : Bool) (x y z : Answer) → y .number ≡ lent-short → Short x z → Short (pick b x y) z
-unfolding pick
-short-second true x y z p h = h
-short-second false x y z p h = inl p
-
 pub answer-ended : (memory output : ℕ) (asked : Name) (texts : Texts) (ms : List Module) → ReadAs texts ms
     → Short (answer memory output asked texts) (of-ended asked (normalise asked ms))
 unfolding answer within refusal of-read
 answer-ended memory output asked texts ms e =
-    short-first _ _ _ _ refl (short-second _ _ _ _ refl (inr (ap (of-read asked) (e .reads))))
+    let So : Answer → Type 0 = λ r. Short r (of-ended asked (normalise asked ms)) in
+    by-cases So _ _ _ (λ q. inl refl) (λ q. by-cases So _ _ _ (λ q. inr (ap (of-read asked) (e .reads))) (λ q. inl refl))
 
 -- a call that is refused by 18 is so told, or by 19
 pub eighteen-told : (asked : Name) (e : Ended) (r : Answer) → Eighteen e → Short r (of-ended asked e) → ShortOfRoom r
@@ -351,8 +322,7 @@ pub demand-3 : Demand3 InTheCall
 demand-3 asked texts texts′ ms ms′ c memory memory′ output output′ =
     agreeing _ _ _ _ (answer-ended memory output asked texts ms (c .read-as)) (answer-ended memory′ output′ asked texts′ ms′ (c .read-as′))
     (ended-same asked (normalise asked ms) (normalise asked ms′)
-    (ended-tied asked texts ms (c .read-as .reads)) (ended-tied asked texts′ ms′ (c .read-as′ .reads))
-    (normalise-close asked texts texts′ ms ms′ c))
+    (ended-tied asked texts ms (c .read-as .reads)) (ended-tied asked texts′ ms′ (c .read-as′ .reads)) (normalise-close asked texts texts′ ms ms′ c))
 
 pub has-room : (r : Answer) → r .number ≡ accepted → ShortOfRoom r → ⊥
 has-room r p (inl q) = omega (arith, p, q)

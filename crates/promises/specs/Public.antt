@@ -5,6 +5,7 @@ use mathlib.Core.Bool.{Bool, true, false, not}
 use mathlib.Core.Option.{Option, none, some}
 use mathlib.Core.List.{List, [], _∷_, _++_, map}
 use native.Mathlib.Omega.{arith}
+use borrow.Author.Tests.{not-false}
 use Rattle.meaning.specs.Lists.{pick, or-else, first-some, each, union}
 use Rattle.meaning.specs.Names.{Name, member}
 use Rattle.meaning.specs.Numbers.{bad-sort}
@@ -18,7 +19,7 @@ use Rattle.meaning.specs.Evaluate.{seen-sorts, joined-visible, own-checks}
 use Rattle.meaning.specs.OrderLaws.{Every, any-none}
 use Rattle.meaning.specs.OutcomeLaws.{fine-same, then-fine, bind-fine, unless-fine}
 use Rattle.meaning.specs.VisiblyLaws.{Seen, imported-visibly, joined-visibly, evaluate-visibly}
-use Rattle.laws.specs.EveryLaws.{every-so}
+use Rattle.laws.specs.EveryLaws.{every-so, every-split}
 
 -- a module without what it hides
 abbrev pub shown-only : Module → Module
@@ -48,30 +49,22 @@ none-each {A} {B} f (x ∷ xs) e = go (f x) refl e (none-each f xs)
     go none q e later = (q, later e)
     go (some b) q e later = let z : _≡_ {A = ℕ} 0 1 = cc in absurd (omega arith)
 
-every-split : {A : Type 0} (P : A → Type 0) (xs ys : List A) → Every P (xs ++ ys) → Every P xs × Every P ys
-every-split P [] ys h = (tt, h)
-every-split P (x ∷ xs) ys h = let r = every-split P xs ys (h .1) in ((h .0, r .0), r .1)
-
-not-lacking : (b : Bool) (a : Name) → pick b (some a) none ≡ none → b ≡ false
+pub pick-none : {A : Type 0} (b : Bool) (a : A) (more : Option A) → pick b (some a) more ≡ none → (b ≡ false) × (more ≡ none)
 unfolding pick
-not-lacking true a e = let z : _≡_ {A = ℕ} 0 1 = cc in absurd (omega arith)
-not-lacking false a e = refl
+pick-none true a more e = let z : _≡_ {A = ℕ} 0 1 = cc in absurd (omega arith)
+pick-none false a more e = (refl, e)
 
 -- ---- where no sort is lacking, none of the types that are shown has a hidden sort of the module's own
 
 module _ (m : Module) (seen : List Name) where
   resolved-shown : (s : Name) → not (member s seen) ≡ false → resolved m seen s ≡ resolved (shown-only m) seen s
   unfolding resolved pick
-  resolved-shown s e = rw (not-not (member s seen) e)
-    where
-      not-not : (b : Bool) → not b ≡ false → b ≡ true
-      not-not true e = refl
-      not-not false e = sym e
+  resolved-shown s e = rw (not-false (member s seen) e)
 
   function-shown : (sec : Section) (f : Function) → lacking seen f ≡ none → own-function m seen sec f ≡ own-function (shown-only m) seen sec f
   unfolding own-function function-type lacking
   function-shown sec f e =
-      let sorts = every-so _ _ (f .output ∷ f .inputs) resolved-shown (any-none _ (f .output ∷ f .inputs) (not-lacking _ (f .name) e)) in
+      let sorts = every-so _ _ (f .output ∷ f .inputs) resolved-shown (any-none _ (f .output ∷ f .inputs) (pick-none _ (f .name) none e .0)) in
       λ i. record {
         standing = sec;
         name = f .name;

@@ -47,17 +47,14 @@ module _ (a : Name) where
   chained k e [] = tt
   chained k e (m ∷ ms) =
       let h = chained (k + 1) (m .name ∷ e) ms in
-      by-cases (Chained a) (member (m .name) (wanted a ms)) _ _
-      (λ b. (sym (ap (member (m .name)) (wanted-wants (k + 1) (m .name ∷ e) ms)) ∙ b, h)) (λ b. h)
+      by-cases (Chained a) (member (m .name) (wanted a ms)) _ _ (λ b. (sym (ap (member (m .name)) (wanted-wants (k + 1) (m .name ∷ e) ms)) ∙ b, h)) (λ b. h)
 
-  asked-reached : (k : ℕ) (e : List Name) (ms : List Module) → member a (module-names ms) ≡ true
-      → member a (names-of (reached-among a k e ms)) ≡ true
+  asked-reached : (k : ℕ) (e : List Name) (ms : List Module) → member a (module-names ms) ≡ true → member a (names-of (reached-among a k e ms)) ≡ true
   unfolding module-names reached-among
   asked-reached k e [] h = h
   asked-reached k e (m ∷ ms) h =
       let later = asked-reached (k + 1) (m .name ∷ e) ms in
-      by-cases (λ (xs : List Placed). member a (names-of xs) ≡ true) (member (m .name) (wanted a ms)) _ _
-      (λ b. member-more a (m .name ∷ []) _ _ later h)
+      by-cases (λ (xs : List Placed). member a (names-of xs) ≡ true) (member (m .name) (wanted a ms)) _ _ (λ b. member-more a (m .name ∷ []) _ _ later h)
       (λ b. ⊎-elim (λ p. clear (sym (wanted-asked a ms) ∙ ap (λ (w : Name). member w (wanted a ms)) p ∙ b)) later (member-either a (m .name) _ h))
 
   -- what a reached module names, and is declared before it, is reached: `all` are the names of all that are reached
@@ -69,13 +66,11 @@ module _ (a : Name) where
   unfolding reached-among
   reaches all known k e [] c i = λ j. tt
   reaches all known k e (m ∷ ms) c i =
-      by-cases (λ (xs : List Placed). Inside (names-of xs) all → Every (Reaches all) xs) (member (m .name) (wanted a ms)) _ _
-      (λ b j. (
+      by-cases (λ (xs : List Placed). Inside (names-of xs) all → Every (Reaches all) xs) (member (m .name) (wanted a ms)) _ _ (λ b j. (
         (λ w h q. i w (c w (ap (member w) (wanted-here a m ms b) ∙ member-left w (named-by m) _ h) q)),
         reaches all (m .name ∷ known) (k + 1) (m .name ∷ e) ms (closed-more a m ms e known c)
             (inside-cons (m .name) known all (j (m .name) (member-here (m .name) _)) i) (λ w h. j w (member-right w (m .name ∷ []) _ h)),
-      ))
-      (λ b j. reaches all known (k + 1) (m .name ∷ e) ms (closed-skip a m ms e known b c) i j)
+      )) (λ b j. reaches all known (k + 1) (m .name ∷ e) ms (closed-skip a m ms e known b c) i j)
 
 -- ---- a correspondence of reached modules with modules of the other specification
 
@@ -113,8 +108,7 @@ module _ (asked : Name) (ms ms′ : List Module) where
       go : (b c : Bool) → member w d ≡ b → member w e ≡ c → c ≡ true
       go true true b c = refl
       go false true b c = refl
-      go true false b c =
-          clear (sym (ap₂ (λ (x y : Bool). x && not y) b c) ∙ q ∙ ap₂ (λ (x y : Bool). x && not y) h h′)
+      go true false b c = clear (sym (ap₂ (λ (x y : Bool). x && not y) b c) ∙ q ∙ ap₂ (λ (x y : Bool). x && not y) h h′)
       go false false b c = clear (sym (ap not b) ∙ p ∙ ap not h)
 
   each-holds : (P : Name → Type 0) (ws : List Name) → Every P ws → (w : Name) → member w ws ≡ true → P w
@@ -129,8 +123,7 @@ module _ (asked : Name) (ms ms′ : List Module) where
   used-reached all w d [] k e rest f h q u = no-name w u
   used-reached all w d (x ∷ xs) k e [] f h q u = absurd h
   used-reached all w d (x ∷ xs) k e (m ∷ rest) f (inl h) q u =
-      ⊎-elim
-      (λ b. f .0 w b (earlier-too w _ _ _ _ (each-holds _ (named-by (x .self)) (h .0 .both-missing) w b)
+      ⊎-elim (λ b. f .0 w b (earlier-too w _ _ _ _ (each-holds _ (named-by (x .self)) (h .0 .both-missing) w b)
       (each-holds _ (named-by (x .self)) (h .0 .both-late) w b) d q))
       (used-reached all w d xs (k + 1) (m .name ∷ e) rest (f .1) (h .1) (member-right w (m .name ∷ []) e q))
       (member-split w (named-by (x .self)) (used-by xs) u)
@@ -162,8 +155,7 @@ module _ (asked : Name) (ms ms′ : List Module) where
             ⊎-elim (λ g. sym (names-stand xs k (m .name ∷ e) rest h (m .name) g) ∙ not-later (m .name) (m .name ∷ e) rest (f .1) (member-here (m .name) e))
             (λ g. sym g ∙ f .0) (member-split (m .name) (names-of xs) e (i (m .name) q))
 
-    moved : (x : Name) (v : Name) (xs : List Placed) (e : List Name) → x ≡ v → Inside all ((x ∷ names-of xs) ++ e)
-        → Inside all (names-of xs ++ (v ∷ e))
+    moved : (x : Name) (v : Name) (xs : List Placed) (e : List Name) → x ≡ v → Inside all ((x ∷ names-of xs) ++ e) → Inside all (names-of xs ++ (v ∷ e))
     moved x v xs e p i w q =
         ⊎-elim (λ b. member-right w (names-of xs) (v ∷ e) (ap (λ (u : Name). member u (v ∷ e)) (b ∙ p) ∙ member-here v e))
         (member-more w (names-of xs) e (v ∷ e) (member-right w (v ∷ []) e)) (member-either w x _ (i w q))
@@ -189,8 +181,7 @@ module _ (asked : Name) (ms ms′ : List Module) where
     still-all xs v e i w q = member-more w (names-of xs) e (v ∷ e) (member-right w (v ∷ []) e) (i w q)
 
     -- so the counterparts are what is reached
-    only-those : (xs : List Placed) (k : ℕ) (e : List Name) (rest : List Module) → Inside (module-names rest) (module-names ms′)
-        → Fresh e rest
+    only-those : (xs : List Placed) (k : ℕ) (e : List Name) (rest : List Module) → Inside (module-names rest) (module-names ms′) → Fresh e rest
         → Chained asked xs → Every (Reaches asked all) xs → Inside all (names-of xs ++ e) → InOrderIn Alike xs (placed-among k e rest)
         → InTurn Alike xs (reached-among asked k e rest)
     unfolding placed-among reached-among module-names
@@ -200,26 +191,21 @@ module _ (asked : Name) (ms ms′ : List Module) where
         skipped [] m k e rest (d (m .name) (member-here (m .name) _)) f r i h
         (only-those [] (k + 1) (m .name ∷ e) rest (λ w q. d w (member-right w (m .name ∷ []) _ q)) (f .1) c r (still-all [] (m .name) e i) tt)
     only-those (x ∷ xs) k e (m ∷ rest) d f c r i (inl h) =
-        matched x xs m k e rest (h .0) (c .0)
-        (only-those xs (k + 1) (m .name ∷ e) rest (λ w q. d w (member-right w (m .name ∷ []) _ q)) (f .1) (c .1) (r .1)
+        matched x xs m k e rest (h .0) (c .0) (only-those xs (k + 1) (m .name ∷ e) rest (λ w q. d w (member-right w (m .name ∷ []) _ q)) (f .1) (c .1) (r .1)
         (moved (x .self .name) (m .name) xs e (h .0 .alike .name) i) (h .1))
     only-those (x ∷ xs) k e (m ∷ rest) d f c r i (inr h) =
         skipped (x ∷ xs) m k e rest (d (m .name) (member-here (m .name) _)) f r i h
-        (only-those (x ∷ xs) (k + 1) (m .name ∷ e) rest (λ w q. d w (member-right w (m .name ∷ []) _ q)) (f .1) c r
-        (still-all (x ∷ xs) (m .name) e i) h)
+        (only-those (x ∷ xs) (k + 1) (m .name ∷ e) rest (λ w q. d w (member-right w (m .name ∷ []) _ q)) (f .1) c r (still-all (x ∷ xs) (m .name) e i) h)
 
 -- ---- so it is enough, whichever way "accepted" is read
 
 pub reaches-no-more : (asked : Name) (ms ms′ : List Module) → Fresh [] ms′ → member asked (module-names ms) ≡ true
-    → InOrderIn (Counterparts asked ms ms′) (reached asked ms) (all-placed ms′)
-    → InTurn (Counterparts asked ms ms′) (reached asked ms) (reached asked ms′)
+    → InOrderIn (Counterparts asked ms ms′) (reached asked ms) (all-placed ms′) → InTurn (Counterparts asked ms ms′) (reached asked ms) (reached asked ms′)
 unfolding reached all-placed
 reaches-no-more asked ms ms′ fresh stands h =
     let all = names-of (reached-among asked 0 [] ms) in
-    only-those asked ms ms′ all (asked-reached asked 0 [] ms stands) (reached-among asked 0 [] ms) 0 [] ms′ (λ w q. q) fresh
-    (chained asked 0 [] ms)
-    (reaches asked all [] 0 [] ms (λ w q g. no-name w g) (λ w q. no-name w q) (λ w q. q))
-    (λ w q. member-left w all [] q) h
+    only-those asked ms ms′ all (asked-reached asked 0 [] ms stands) (reached-among asked 0 [] ms) 0 [] ms′ (λ w q. q) fresh (chained asked 0 [] ms)
+    (reaches asked all [] 0 [] ms (λ w q g. no-name w g) (λ w q. no-name w q) (λ w q. q)) (λ w q. member-left w all [] q) h
 
 pub is-enough : (OthersAccepted : Acceptance) → IsEnough OthersAccepted
 unfolding reached all-placed
@@ -228,8 +214,7 @@ is-enough OthersAccepted asked texts texts′ ms ms′ c = record {
   read-as′ = c .read-as′;
   stands = c .stands;
   stands′ = names-stand asked ms ms′ (reached asked ms) 0 [] ms′ (c .same-order) asked (asked-reached asked 0 [] ms (c .stands));
-  same-order =
-      reaches-no-more asked ms ms′ (read-fresh texts′ ms′ (c .read-as′ .reads)) (c .stands) (c .same-order);
+  same-order = reaches-no-more asked ms ms′ (read-fresh texts′ ms′ (c .read-as′ .reads)) (c .stands) (c .same-order);
   accepted = c .accepted;
   accepted′ = c .accepted′;
 }

@@ -1,16 +1,15 @@
 -- A normal form's listing does not depend on the order in which its items and equations were found: `one-listing`.
 use mathlib.Core.Path.{_≡_, refl, sym, ap, _∙_}
-use mathlib.Core.Bool.{Bool, true, false, not, false≢true}
-use mathlib.Core.List.{List, [], _∷_, map, List·Memᴰ, List·Permᴰ·nil, List·Permᴰ·cons, List·Permᴰ·swap, List·Permᴰ·trans, Permᴰ·refl, Permᴰ·map}
+use mathlib.Core.Bool.{Bool, true, false, false≢true}
+use mathlib.Core.List.{List, [], _∷_, map, map-map, List·Memᴰ, List·Permᴰ·nil, List·Permᴰ·cons, List·Permᴰ·swap, List·Permᴰ·trans, Permᴰ·refl, Permᴰ·map}
 use borrow.Author.Tests.{eqb-true}
-use Rattle.meaning.specs.Lists.{pick, keep, any, sorted}
-use Rattle.meaning.specs.Names.{Name, same, bytes-not-after, not-after, by-bytes}
+use Rattle.meaning.specs.Lists.{pick, keep, sorted}
+use Rattle.meaning.specs.Names.{Name, bytes-not-after, not-after, by-bytes}
 use Rattle.meaning.specs.Origins.{Shape, sort-shape, function-shape, variable-shape, is-sort, Item, ResolvedEquation}
 use Rattle.meaning.specs.Normal.{Slot, Visible, Normal, sorts-among}
 use Rattle.meaning.specs.Written.{origin-text, shape-text, equation-text, equation-order, shape-rank, standing-text, visible-order, visible-in-order, hidden-order, hidden-in-order, in-order}
 use Rattle.meaning.specs.Listing.{line, lines-text, equation-line, hidden-lines, listing-lines}
-use Rattle.meaning.specs.Grammar.{name, equation, is}
-use Rattle.meaning.specs.Answer.{listing}
+use Rattle.meaning.specs.Grammar.{name, is}
 use Rattle.meaning.specs.OrderLaws.{Rearranged, NoTie, order-of, then-both, bytes-ordered, bytes-antisymmetric, bytes-levelled, names-ordered, names-levelled, same-equal, not-after-antisymmetric, by-two-both, sorted-map, sorted-one, sorted-rearranged}
 use Rattle.meaning.specs.ListingOrder.{by-standing, by-rank, visible-ordered, hidden-ordered, Place, place-order, by-position, place-ordered, by-module}
 use Rattle.laws.specs.EveryLaws.{kept-member}
@@ -156,8 +155,7 @@ module _ (hidden : List Item) where
   lines-of-places : (es : List ResolvedEquation)
       → map (equation-line hidden) es ≡ map (λ (p : Place). line "equation" (p .text)) (map place-of es)
   unfolding place-of equation-line
-  lines-of-places [] = refl
-  lines-of-places (e ∷ es) = ap (equation-line hidden e ∷_) (lines-of-places es)
+  lines-of-places es = sym (map-map (λ (p : Place). line "equation" (p .text)) place-of es)
 
   ordered-places : (es : List ResolvedEquation) → map place-of (ordered-equations es) ≡ sorted place-order (map place-of es)
   unfolding equation-order place-order place-of

@@ -17,10 +17,10 @@ use Rattle.meaning.specs.Origins.{Section, export-section, parameter-section, h
 use Rattle.meaning.specs.Checks.{fine, least-at-odds, other-origin, sorts-clash, functions-clash, consistent}
 use Rattle.meaning.specs.Normal.{Slot, same-slot, is-parameter-of, move-sort, move-type, move-shape, move-name, move-item, move-hidden-item, move-visible, move-hidden, move, unite, unite-visible, unite-hidden, Visible, Normal, sorts-among}
 use Rattle.meaning.specs.Written.{origin-text, shape-rank, visible-in-order}
-use Rattle.promises.specs.ListingLaws.{Plain, told-origin, origins-of, SortIn, ShapeIn, told-shape, origin-equal, shape-self, item-equal, slot-equal}
+use Rattle.promises.specs.ListingLaws.{Plain, told-origin, origins-of, SortIn, ShapeIn, told-shape, slot-equal}
 use Rattle.meaning.specs.Grammar.{name, is}
 use Rattle.meaning.specs.OrderLaws.{Pairwise, sorted-rearranged, sorted-length, rearranged-member, none-at-odds, Every, same-self}
-use Rattle.laws.specs.Decides.{both-true}
+use Rattle.laws.specs.Decides.{both-true, items-decided, origins-decided, shapes-decided}
 use Rattle.laws.specs.EveryLaws.{every-so, every-append, kept-member, every-keep, pairwise-members}
 use Rattle.laws.specs.EveryLaws.{every-member, every-map, every-union, every-any, any-found, in-union-left, in-union-right, member-keep, member-map-to}
 use Rattle.laws.specs.Outcomes.{both-fine as then-fine}
@@ -42,12 +42,13 @@ compatible wrong is e a b m k =
 
 sorts-agree : (a b : Item) → a .shape ≡ sort-shape → b .shape ≡ sort-shape → a .name ≡ b .name → sorts-clash a b ≡ false → a .origin ≡ b .origin
 unfolding sorts-clash other-origin is-sort
-sorts-agree a b p q n e = origin-equal (a .origin) (b .origin) (not-false _ (rw (p, q, n, same-self (b .name)) at e))
+sorts-agree a b p q n e = origins-decided .equal (a .origin) (b .origin) (not-false _ (rw (p, q, n, same-self (b .name)) at e))
 
 pub functions-agree : (a b : Item) (t : FunctionType) → a .shape ≡ function-shape t → b .shape ≡ function-shape t → a .name ≡ b .name
     → functions-clash a b ≡ false → a .origin ≡ b .origin
 unfolding functions-clash other-origin is-function
-functions-agree a b t p q n e = origin-equal (a .origin) (b .origin) (not-false _ (rw (p, q, n, same-self (b .name), shape-self (function-shape t)) at e))
+functions-agree a b t p q n e =
+    origins-decided .equal (a .origin) (b .origin) (not-false _ (rw (p, q, n, same-self (b .name), shapes-decided .self (function-shape t)) at e))
 
 pub no-variable : (s : Shape) (r : Sort) → shape-rank s ≤ 1 → s ≡ variable-shape r → ⊥
 unfolding shape-rank
@@ -153,7 +154,7 @@ pub union-left : (xs ys : List Item) (i : Item) → List·Memᴰ i xs → List·
 union-left = in-union-left one-item
 
 pub union-right : (xs ys : List Item) (i : Item) → List·Memᴰ i ys → List·Memᴰ i (union one-item xs ys)
-union-right xs ys = in-union-right one-item (λ i. Unit {0}) (λ a b p q. item-equal a b) xs ys (every-any xs) (every-any ys)
+union-right xs ys = in-union-right one-item (λ i. Unit {0}) (λ a b p q. items-decided .equal a b) xs ys (every-any xs) (every-any ys)
 
 -- every hidden sort of the one is one of the other
 abbrev Covers : List Item → List Item → Type 0
@@ -170,16 +171,11 @@ pub sort-had : (is : List Item) (o : Origin) → HasSort o is → List·Memᴰ o
 unfolding sorts-among
 sort-had is o h = origin-of-item (member-keep (λ (i : Item). is-sort (i .shape)) is (h .0) (h .1) (h .2)) o (h .3)
 
-hidden-wider : (is js : List Item) → Covers is js → (i : Item) → SoundHidden is i → SoundHidden js i
-hidden-wider is js c i h = record {
-  standing = h .standing;
-  name = h .name;
-  shape = shape-wider (sorts-among is) (sorts-among js) (λ o m. sort-had js o (c o (has-sort is o m))) (i .shape) (h .shape);
-  origin = h .origin;
-}
-
 pub all-wider : (is js ks : List Item) → Covers is js → Every (SoundHidden is) ks → Every (SoundHidden js) ks
-all-wider is js ks c h = every-so (SoundHidden is) (SoundHidden js) ks (hidden-wider is js c) h
+all-wider is js ks c =
+    let wider = shape-wider (sorts-among is) (sorts-among js) (λ o m. sort-had js o (c o (has-sort is o m))) in
+    every-so (SoundHidden is) (SoundHidden js) ks
+    (λ i h. record { standing = h .standing; name = h .name; shape = wider (i .shape) (h .shape); origin = h .origin })
 
 -- more parameters, more places to stand
 stands-wider : (ps qs : List Slot) → ((p : Slot) → List·Memᴰ p ps → List·Memᴰ p qs) → (home : Name) (s : Section) → StandsIn ps home s → StandsIn qs home s
@@ -278,26 +274,8 @@ module _ (σ : Name → Name) (φ : Name → FunctionType → Name) (plain-σ : 
     origin = h .origin;
   }
 
-  move-hidden-sound : (is : List Item) (i : Item) → SoundHidden is i → SoundHidden is (move-hidden-item σ φ i)
-  unfolding move-hidden-item
-  move-hidden-sound is i h = record {
-    standing = h .standing;
-    name = h .name;
-    shape = move-shape-in (sorts-among is) (i .shape) (h .shape);
-    origin = h .origin;
-  }
-
-  move-covers : (is : List Item) → Covers is (map (move-hidden-item σ φ) is)
-  unfolding move-hidden-item
-  move-covers is o h =
-      (move-hidden-item σ φ (h .0), member-map-to (move-hidden-item σ φ) (h .1), move-is-sort (h .0 .shape) ∙ h .2, h .3)
-
-  moved-stand : (ps : List Slot) (is : List Item) → Every (Stands ps) is → Every (Stands ps) (map (move-item σ φ) is)
-  unfolding move-item
-  moved-stand ps is h = every-map (Stands ps) (Stands ps) (move-item σ φ) (λ i k. k) is h
-
   pub move-sound : (n : Normal) → Sound n → Sound (move σ φ n)
-  unfolding move move-visible move-hidden
+  unfolding move move-visible move-hidden move-item move-hidden-item
   move-sound n s =
       let is = n .hidden .items in
       let js = map (move-hidden-item σ φ) is in
@@ -306,12 +284,19 @@ module _ (σ : Name → Name) (φ : Name → FunctionType → Name) (plain-σ : 
         parameters = s .parameters;
         standing =
             every-union (Stands (n .visible .parameters)) one-item [] (map (move-item σ φ) (n .visible .items)) tt
-            (moved-stand (n .visible .parameters) (n .visible .items) (s .standing));
+            (every-map _ _ (move-item σ φ) (λ i k. k) (n .visible .items) (s .standing));
         visible =
             every-union SoundVisible one-item [] (map (move-item σ φ) (n .visible .items)) tt
             (every-map SoundVisible SoundVisible (move-item σ φ) move-item-sound (n .visible .items) (s .visible));
         hidden =
             every-union (SoundHidden ks) one-item [] js tt
-            (all-wider is ks js (λ o h. let c = move-covers is o h in (c .0, union-right [] js (c .0) (c .1), c .2, c .3))
-            (every-map (SoundHidden is) (SoundHidden is) (move-hidden-item σ φ) (move-hidden-sound is) is (s .hidden)));
+            (all-wider is ks js (λ o h. (
+              move-hidden-item σ φ (h .0),
+              union-right [] js (move-hidden-item σ φ (h .0)) (member-map-to (move-hidden-item σ φ) (h .1)),
+              move-is-sort (h .0 .shape) ∙ h .2,
+              h .3,
+            ))
+            (every-map (SoundHidden is) (SoundHidden is) (move-hidden-item σ φ) (λ i h.
+            record { standing = h .standing; name = h .name; shape = move-shape-in (sorts-among is) (i .shape) (h .shape); origin = h .origin }) is
+            (s .hidden)));
       }

@@ -3,40 +3,41 @@ use mathlib.Core.Path.{_≡_, refl, sym, subst}
 use mathlib.Core.Logic.{inl, inr}
 use Prim.Native.Nat.{ℕ, _+_}
 use native.Mathlib.Omega.{arith}
-use mathlib.Core.Bool.{Bool, true, false, not, _&&_, false≢true}
-use mathlib.Core.List.{List, [], _∷_, _++_, map, List·Memᴰ, List·Memᴰ·head, List·Memᴰ·tail, Memᴰ·append-left, Memᴰ·append-right, Permᴰ·symm}
+use mathlib.Core.Bool.{Bool, true, false, not, _&&_}
+use mathlib.Core.List.{List, [], _++_, map, Memᴰ·append-left, Memᴰ·append-right, Permᴰ·symm}
 use lib.Dec.{leb, lit<, lit≤}
 use lib.ListN.{length}
 use borrow.Author.Tests.{leb-true}
 use Rattle.meaning.specs.Laws.{by-cases}
 use Rattle.meaning.specs.Lists.{pick, keep, union, sorted-onto}
 use Rattle.meaning.specs.Names.{Name, same, member}
-use Rattle.meaning.specs.Origins.{visible-sort, Section, export-section, parameter-section, hidden-section, declared-sort, declared-function, is-sort, one-item, one-equation, Item, ResolvedEquation, in-parameter}
+use Rattle.meaning.specs.Origins.{visible-sort, Section, export-section, parameter-section, hidden-section, Declared, declared-sort, declared-function, is-sort, one-item, one-equation, Item, ResolvedEquation, in-parameter}
 use Rattle.meaning.specs.Checks.{lone, fine, Size, size, fits, room}
 use Rattle.meaning.specs.Own.{resolved, function-type, own-sort, own-function, own-section, own-slot, own-visible, own-variable, own-hidden-items, available-sorts}
 use Rattle.meaning.specs.Typing.{typed}
-use Rattle.meaning.specs.Syntax.{Function, Signature, Parameter, Variable, variables-of, Pair, Clause, Import, Module}
+use Rattle.meaning.specs.Syntax.{Function, Signature, group-variables, variables-of, Clause, renamed-by, bound-by, Import, Module}
 use Rattle.meaning.specs.Evaluate.{Evaluated, normal-of, clause, clauses, expressions, united, seen-sorts, joined-visible, own-checks, own-equations, joined-hidden, evaluate}
 use Rattle.meaning.specs.Clauses.{without-visible, without}
 use Rattle.meaning.specs.Normal.{Visible, nothing-visible, nothing-hidden, empty, unite-hidden, Slot, Normal, sorts-among}
 use Rattle.meaning.specs.Written.{shape-rank, visible-in-order, hidden-in-order, in-order}
 use Rattle.meaning.specs.Listing.{lines-text, listing-lines}
-use Rattle.promises.specs.ListingLaws.{Plain, PlainSection, PlainDeclared, SortIn, PlainEquation}
+use Rattle.promises.specs.ListingLaws.{member-found, Plain, PlainSection, PlainDeclared, PlainOrigin, SortIn}
 use Rattle.meaning.specs.Numbers.{asked-absent, parameter-room, item-room}
-use Rattle.meaning.specs.Grammar.{name, signature, exports, imports, variables, is}
+use Rattle.meaning.specs.Grammar.{name, signature, exports, imports, is}
 use Rattle.meaning.specs.Reached.{reached-among, reached, normalised, refused-at, in-turn, module-names, short-or-blank, normalise}
-use Rattle.meaning.specs.OrderLaws.{rearranged-every, rearranged-length, rearranged-member, Every, Pairwise, same-equal}
-use Rattle.laws.specs.EveryLaws.{every-so, every-append, every-kept, every-keep, every-map, every-member, every-union, member-keep, member-map-to, every-of}
+use Rattle.meaning.specs.OrderLaws.{rearranged-every, rearranged-length, rearranged-member, Every, Pairwise}
+use Rattle.laws.specs.EveryLaws.{every-so, every-append, every-kept, every-keep, every-map, every-member, every-union, member-keep, member-map-to, every-of, every-each}
 use Rattle.laws.specs.Outcomes.{Gives, both-fine, gives-of}
-use Rattle.laws.specs.Walk.{ClauseNames, EnvironmentOf, Evaluates, Keeps, NewNames, call-gives, clause-gives, expressions-give, module-gives, normal-had, reached-every, with-own, RightOwn}
+use Rattle.laws.specs.Walk.{ClauseNames, EnvironmentOf, Evaluates, Keeps, call-gives, clause-gives, expressions-give, module-gives, normal-had, reached-every, with-own, RightOwn}
+use Rattle.laws.specs.Reading.{ReadClause, ReadFunction, ReadGroup, ReadModule, ReadParameter, ReadSignature}
 use Rattle.laws.specs.OwnItems.{hidden-every, section-every, section-made, visible-every, declared-name}
 use Rattle.promises.specs.SameListing.{ItemsTold, same-ordered}
-use Rattle.promises.specs.Told.{Few, SameListed, Sound, SoundHidden, SoundVisible, Stands, StandsIn, told-by-bytes}
+use Rattle.promises.specs.Told.{EquationLines, Few, SameListed, Sound, SoundHidden, SoundVisible, Stands, StandsIn, told-by-bytes}
 use Rattle.promises.specs.Sound.{HasSort, all-stand, all-wider, move-sound, parameters-once, sort-had, sound-told, together, together-sound, union-left, union-right, unite-sound}
 use Rattle.promises.specs.WellTyped.{TypedEquation, WellTyped, in-order-typed, move-typed, typed-wider, unite-typed}
 use Rattle.promises.specs.Public.{shown-only, own-shown}
 use Rattle.promises.specs.TypedBinding.{bound-typed}
-use Rattle.promises.specs.TypedOwn.{InReach, equations-typed, typed-plain}
+use Rattle.promises.specs.TypedOwn.{InReach, equation-in-line, equations-typed}
 use Rattle.promises.specs.TermsTold.{OneOutput, one-output}
 use Rattle.meaning.specs.OutcomeLaws.{needs-fine}
 use Rattle.laws.specs.Decides.{both-true}
@@ -46,11 +47,11 @@ pub record Whole (n : Normal) : Type 0 where
   pub sound : Sound n
   pub typed : WellTyped n
 
--- the names in its equations are plain
-pub plain-equations : (n : Normal) → Whole n → Every PlainEquation (n .hidden .equations)
-plain-equations n w =
+-- its equations are written in one line each
+pub equation-lines : (n : Normal) → Whole n → EquationLines n
+equation-lines n w =
     let names = every-so SoundVisible (λ i. Plain (i .name)) (n .visible .items) (λ i h. h .name) (w .sound .visible) in
-    every-so _ PlainEquation (n .hidden .equations) (typed-plain (n .visible .items) (n .hidden .items) names) (w .typed)
+    every-so _ _ (n .hidden .equations) (equation-in-line (n .visible .items) (n .hidden .items) names) (w .typed)
 
 -- ---- clauses
 
@@ -91,10 +92,7 @@ whole-keeps = record {
   united = λ a b w w′. record { sound = unite-sound a b (w .sound) (w′ .sound); typed = unite-typed a b (w .typed) (w′ .typed) };
 }
 
--- the new names of a renaming or a binding are plain
-abbrev pub PlainPairs : List Pair → Type 0
-PlainPairs rs = NewNames Plain rs
-
+-- the new names of a clause are plain
 abbrev pub PlainClause : Clause → Type 0
 PlainClause c = ClauseNames Plain c
 
@@ -114,73 +112,39 @@ module _ (env : List Evaluated) (whole : WholeEnv env) where
 
 -- ---- M's own declarations
 
--- the names of a text, as far as they come into a normal form
-pub record PlainFunction (f : Function) : Type 0 where
-  pub name : Plain (f .name)
-  pub inputs : Every Plain (f .inputs)
-  pub output : Plain (f .output)
+-- what is read, its names plain
+abbrev pub PlainModule : Module → Type 0
+PlainModule m = ReadModule Plain Plain m
 
-pub record PlainSignature (s : Signature) : Type 0 where
-  pub sorts : Every Plain (s .sorts)
-  pub functions : Every PlainFunction (s .functions)
+clause-plain : (c : Clause) → ReadClause Plain Plain c → PlainClause c
+clause-plain (renamed-by rs) h = every-so _ _ rs (λ r k. k .1) (h .each-one)
+clause-plain (bound-by p rs m) h = every-so _ _ rs (λ r k. k .1) (h .each-one)
 
-pub record PlainParameter (p : Parameter) : Type 0 where
-  pub name : Plain (p .name)
-  pub signature : PlainSignature (p .signature)
-
-pub record PlainVariable (v : Variable) : Type 0 where
-  pub name : Plain (v .name)
-  pub sort : Plain (v .sort)
-
-pub record PlainModule (m : Module) : Type 0 where
-  pub name : Plain (m .name)
-  pub parameters : Every PlainParameter (m .parameters)
-  pub exports : PlainSignature (m .exports)
-  pub imports : Every (λ i. Every PlainClause (i .clauses)) (m .imports)
-  pub hidden : PlainSignature (m .hidden)
-  pub variables : Every PlainVariable (variables-of m)
-  pub tags : Every (λ e. Plain (e .tag)) (m .equations)
-
-member-found : (w : Name) (ws : List Name) → member w ws ≡ true → List·Memᴰ w ws
-unfolding member pick
-member-found w [] e = absurd (false≢true e)
-member-found w (v ∷ ws) e = go (same w v) refl e (member-found w ws)
-  where
-    go : (b : Bool) → same w v ≡ b → pick b true (member w ws) ≡ true → (member w ws ≡ true → List·Memᴰ w ws) → List·Memᴰ w (v ∷ ws)
-    go true q e i = List·Memᴰ·head (same-equal w v q)
-    go false q e i = List·Memᴰ·tail (i e)
+pub imports-plain : (m : Module) → PlainModule m → Every (λ i. Every PlainClause (i .clauses)) (m .imports)
+imports-plain m h = every-so _ _ (m .imports) (λ i k. every-so _ PlainClause (i .clauses) clause-plain k) (h .imports .each-one)
 
 module _ (m : Module) (plain : PlainModule m) (seen : List Name) where
-  declared-plain : (f : Function) → PlainFunction f → PlainDeclared (declared-function (f .name) (f .inputs) (f .output))
-  declared-plain f p = (p .name, p .inputs, p .output)
-
-  shown-sort-sound : (s : Section) → PlainSection s → (a : Name) → Plain a → SoundVisible (own-sort (shown-only m) seen s a)
-  unfolding own-sort shape-rank
-  shown-sort-sound s h a p = record {
-    standing = refl;
-    kind = lit≤ tt;
-    name = p;
-    shape = tt;
-    origin = record { home = plain .name; section = h; declared = p };
-  }
+  declared-plain : (f : Function) → ReadFunction Plain Plain f → PlainDeclared (declared-function (f .name) (f .inputs) (f .output))
+  declared-plain f p = (p .name, p .inputs .each-one, p .output)
 
   shown-resolved : (s : Name) → Plain s → SortIn [] (resolved (shown-only m) seen s)
   unfolding resolved member pick
   shown-resolved s p = by-cases (SortIn []) (member s seen) (visible-sort s) (visible-sort s) (λ e. p) (λ e. p)
 
-  shown-function-sound : (s : Section) → PlainSection s → (f : Function) → PlainFunction f → SoundVisible (own-function (shown-only m) seen s f)
-  unfolding own-function function-type shape-rank
-  shown-function-sound s h f p = record {
-    standing = refl;
-    kind = lit≤ tt;
-    name = p .name;
-    shape = (every-map Plain (SortIn []) (resolved (shown-only m) seen) shown-resolved (f .inputs) (p .inputs), shown-resolved (f .output) (p .output));
-    origin = record { home = plain .name; section = h; declared = declared-plain f p };
-  }
-
-  shown-section-sound : (s : Section) → PlainSection s → (g : Signature) → PlainSignature g → Every SoundVisible (own-section (shown-only m) seen s g)
-  shown-section-sound s h g p =
-      section-every SoundVisible (shown-only m) seen Plain PlainFunction s (shown-sort-sound s h) (shown-function-sound s h) g (p .sorts) (p .functions)
+  shown-section-sound : (s : Section) → PlainSection s → (g : Signature) → ReadSignature Plain Plain g
+      → Every SoundVisible (own-section (shown-only m) seen s g)
+  unfolding own-sort own-function function-type shape-rank
+  shown-section-sound s h g k =
+      section-every SoundVisible (shown-only m) seen Plain (ReadFunction Plain Plain) s
+      (λ a p. record { standing = refl; kind = lit≤ tt; name = p; shape = tt; origin = record { home = plain .name; section = h; declared = p } })
+      (λ f p. record {
+        standing = refl;
+        kind = lit≤ tt;
+        name = p .name;
+        shape = (every-map Plain _ (resolved (shown-only m) seen) shown-resolved (f .inputs) (p .inputs .each-one), shown-resolved (f .output) (p .output));
+        origin = record { home = plain .name; section = h; declared = declared-plain f p };
+      })
+      g (k .sorts) (k .functions)
 
   -- after 13 no type of M's own visible items has a hidden sort
   own-visible-sound : available-sorts m seen ≡ fine tt → Every SoundVisible (own-visible m seen .items)
@@ -219,43 +183,25 @@ module _ (m : Module) (plain : PlainModule m) (seen : List Name) where
       by-cases (SortIn (sorts-among (own-hidden-items m seen))) _ _ _ (λ e. p)
       (λ e. by-cases (SortIn (sorts-among (own-hidden-items m seen))) _ _ _ (λ f. sort-had (own-hidden-items m seen) _ (own-sort-there s f)) (λ f. p))
 
-  own-hidden-sort : (a : Name) → Plain a → SoundHidden (own-hidden-items m seen) (own-sort m seen hidden-section a)
-  unfolding own-sort declared-name
-  own-hidden-sort a p = record {
-    standing = refl;
-    name = refl;
-    shape = tt;
-    origin = record { home = plain .name; section = tt; declared = p };
-  }
-
-  own-hidden-function : (f : Function) → PlainFunction f → SoundHidden (own-hidden-items m seen) (own-function m seen hidden-section f)
-  unfolding own-function function-type declared-name
-  own-hidden-function f p = record {
-    standing = refl;
-    name = refl;
-    shape = (
-      every-map Plain (SortIn (sorts-among (own-hidden-items m seen))) (resolved m seen) resolved-hidden (f .inputs) (p .inputs),
-      resolved-hidden (f .output) (p .output),
-    );
-    origin = record { home = plain .name; section = tt; declared = declared-plain f p };
-  }
-
-  own-variable-sound : (v : Variable) → PlainVariable v → SoundHidden (own-hidden-items m seen) (own-variable m seen v)
-  unfolding own-variable declared-name
-  own-variable-sound v p = record {
-    standing = refl;
-    name = refl;
-    shape = resolved-hidden (v .sort) (p .sort);
-    origin = record { home = plain .name; section = tt; declared = (p .name, p .sort) };
-  }
-
   own-hidden-sound : Every (SoundHidden (own-hidden-items m seen)) (own-hidden-items m seen)
+  unfolding own-sort own-function own-variable function-type declared-name variables-of group-variables
   own-hidden-sound =
       let good : Item → Type 0 = SoundHidden (own-hidden-items m seen) in
+      let here : (d : Declared) → PlainDeclared d → PlainOrigin (record { home = m .name; section = hidden-section; declared = d }) =
+      λ d p. record { home = plain .name; section = tt; declared = p } in
       hidden-every good m seen
-      (section-every good m seen Plain PlainFunction hidden-section own-hidden-sort own-hidden-function (m .hidden) (plain .hidden .sorts)
-      (plain .hidden .functions))
-      (every-so PlainVariable (λ v. good (own-variable m seen v)) (variables-of m) own-variable-sound (plain .variables))
+      (section-every good m seen Plain (ReadFunction Plain Plain) hidden-section
+      (λ a p. record { standing = refl; name = refl; shape = tt; origin = here _ p })
+      (λ f p. record {
+        standing = refl;
+        name = refl;
+        shape = (every-map Plain _ (resolved m seen) resolved-hidden (f .inputs) (p .inputs .each-one), resolved-hidden (f .output) (p .output));
+        origin = here _ (declared-plain f p);
+      })
+      (m .hidden) (plain .hidden .sorts) (plain .hidden .functions))
+      (every-each (λ v. good (own-variable m seen v)) (ReadGroup Plain Plain) group-variables
+      (λ g h. every-map Plain _ _ (λ x p. record { standing = refl; name = refl; shape = resolved-hidden _ (h .sort); origin = here _ (p, h .sort) }) (g .names)
+      (h .names)) (m .groups) (plain .groups))
 
 -- ---- one module, and a whole call
 
@@ -272,13 +218,6 @@ in-order-sound n s =
           rearranged-every (SoundHidden js) (d .hidden-items)
           (all-wider is js is (λ o h. (h .0, rearranged-member (d .hidden-items) (h .1), h .2, h .3)) (s .hidden));
     }
-
-in-order-few : (n : Normal) → Few n → Few (in-order n)
-in-order-few n few = omega (arith, rearranged-length (same-ordered n .hidden-items))
-
-in-order-outputs : (n : Normal) → OneOutput (n .visible .items) → OneOutput (in-order n .visible .items)
-in-order-outputs n one a b t u m k =
-    let d = Permᴰ·symm (same-ordered n .items) in one a b t u (rearranged-member d m) (rearranged-member d k)
 
 -- a normal form that is accepted: put in order from one whose items are told; sound and well typed; its parameters of different names, its
 -- visible functions of one name and input type of one type (11); and not too large
@@ -309,23 +248,19 @@ module _ (m : Module) (plain : PlainModule m) (n : Normal) (whole : Whole n) whe
   own-part : List ResolvedEquation → Normal
   own-part es = record { visible = own-visible m own-seen; hidden = record { items = own-hidden-items m own-seen; equations = es } }
 
-  own-part-sound : (es : List ResolvedEquation) → available-sorts m own-seen ≡ fine tt → Sound (own-part es)
-  unfolding own-part own-visible own-slot
-  own-part-sound es a = record {
-    parameters = every-map PlainParameter (λ p. Plain (p .name)) (own-slot m own-seen) (λ q h. h .name) (m .parameters) (plain .parameters);
-    standing = own-visible-stands m plain own-seen;
-    visible = own-visible-sound m plain own-seen a;
-    hidden = own-hidden-sound m plain own-seen;
-  }
-
   abbrev all-of : List ResolvedEquation → Normal
   all-of es = with-own m n es
 
   all-sound : (es : List ResolvedEquation) → available-sorts m own-seen ≡ fine tt → Sound (all-of es)
-  unfolding own-part joined-visible joined-hidden together
+  unfolding own-part own-visible own-slot joined-visible joined-hidden together
   all-sound es a =
-      let s = own-part-sound es a in
-      together-sound n (own-part es) (own-visible m own-seen .parameters) (s .parameters) (λ q k. Memᴰ·append-right (n .visible .parameters) k) (whole .sound) s
+      let new = every-map (ReadParameter Plain Plain) (λ p. Plain (p .name)) (own-slot m own-seen) (λ q h. h .name) (m .parameters) (plain .parameters) in
+      together-sound n (own-part es) (own-visible m own-seen .parameters) new (λ q k. Memᴰ·append-right (n .visible .parameters) k) (whole .sound) (record {
+        parameters = new;
+        standing = own-visible-stands m plain own-seen;
+        visible = own-visible-sound m plain own-seen a;
+        hidden = own-hidden-sound m plain own-seen;
+      })
 
   abbrev all-visible : List Item
   all-visible = joined-visible m (n .visible) .items
@@ -355,7 +290,8 @@ module _ (m : Module) (plain : PlainModule m) (n : Normal) (whole : Whole n) whe
 
   own-typed : available-sorts m own-seen ≡ fine tt → (home : ℕ) → Gives (Every OwnTyped) (own-equations home m own-seen (joined-visible m (n .visible)))
   unfolding own-equations
-  own-typed a home = equations-typed _ all-visible all-hidden _ (known-reach a) home 0 (m .equations) (plain .tags)
+  own-typed a home = equations-typed _ all-visible all-hidden _ (known-reach a) home 0 (m .equations)
+      (every-so _ _ (m .equations) (λ e k. k .tag) (plain .equations))
 
   all-whole : (es : List ResolvedEquation) → Every OwnTyped es → available-sorts m own-seen ≡ fine tt → Whole (all-of es)
   unfolding joined-visible joined-hidden unite-hidden
@@ -378,14 +314,15 @@ module _ (m : Module) (plain : PlainModule m) (n : Normal) (whole : Whole n) whe
       let w = all-whole es (gives-of (Every OwnTyped) _ es (own-typed available home) (r .equations)) available in
       let few = room-few (all-of es) (r .fits) in
       let own = own-hidden-items m own-seen in
+      let d = Permᴰ·symm (same-ordered (all-of es) .items) in
       record {
         found = all-of es;
         ordered = refl;
         told = sound-told (all-of es) own (c .0) (w .sound) few;
         whole = record { sound = in-order-sound (all-of es) (w .sound); typed = in-order-typed (all-of es) (w .typed) };
         parameters = parameters-once (joined-visible m (n .visible)) own (c .0);
-        outputs = in-order-outputs (all-of es) (one-output (joined-visible m (n .visible)) own (c .0));
-        few = in-order-few (all-of es) few;
+        outputs = λ a b t u p q. one-output (joined-visible m (n .visible)) own (c .0) a b t u (rearranged-member d p) (rearranged-member d q);
+        few = omega (arith, few, rearranged-length (same-ordered (all-of es) .hidden-items));
       }
 
 empty-accepted : Accepted empty
@@ -403,7 +340,7 @@ empty-accepted = record {
 accepted-evaluates : Evaluates Plain PlainModule Whole Accepted
 accepted-evaluates = record {
   steps = whole-keeps;
-  imports = λ m plain. plain .imports;
+  imports = imports-plain;
   own = λ home m plain n whole. all-accepted m plain n whole home;
   nothing = empty-accepted;
   weaker = λ n a. a .whole;
@@ -448,4 +385,4 @@ pub one-normal-form : (asked asked′ : Name) (n n′ : Normal) → AcceptedCall
 one-normal-form asked asked′ n n′ a a′ e =
     let w = a .normal .whole in
     let w′ = a′ .normal .whole in
-    told-by-bytes asked asked′ n n′ (a .name) (a′ .name) (w .sound) (w′ .sound) (plain-equations n w) (plain-equations n′ w′) (a .normal .few) e
+    told-by-bytes asked asked′ n n′ (a .name) (a′ .name) (w .sound) (w′ .sound) (equation-lines n w) (equation-lines n′ w′) (a .normal .few) e

@@ -24,7 +24,7 @@ or-true : (x : Bool) → (x || true) ≡ true
 or-true true = refl
 or-true false = refl
 
--- a byte at which a word goes on is one of a name's, and so is a symbol
+-- a byte at which a word goes on is one of a name's, and so is a dot
 word-letter : (b : ℕ) (s : List ℕ) → at-word (b ∷ s) ≡ true → in-name b ≡ true
 unfolding run in-name pick is-word is-in
 word-letter b s e = go (eqb b (byte "-")) refl e
@@ -32,10 +32,6 @@ word-letter b s e = go (eqb b (byte "-")) refl e
     go : (h : Bool) → eqb b (byte "-") ≡ h → is-word (getD (b ∷ s) (pick h (suc (run at-hyphen s)) 0) 0) ≡ true → in-name b ≡ true
     go true q e = subst (λ (x : ℕ). in-name x ≡ true) (sym (eqb-true b (byte "-") q)) refl
     go false q e = rw e
-
-symbol-letter : (b : ℕ) → is-symbol b ≡ true → in-name b ≡ true
-unfolding in-name
-symbol-letter b e = rw e (or-true (is-word b))
 
 dot-letter : (b : ℕ) → eqb b (byte ".") ≡ true → in-name b ≡ true
 unfolding in-name is-word is-in pick
@@ -89,12 +85,9 @@ module _ (text : List ℕ) where
         let size : i + run at (drop i text) - i ≡ run at (drop i text) = omega arith in
         rw (size, drop-cons text i 0 h) (record { letters = name-run at letter (getD text i 0 ∷ drop (suc i) text); some-letter = begins (drop (suc i) text) })
 
-    word-plain : is-word (getD text i 0) ≡ true → Plain (slice text i (run-end at-word text i))
-    word-plain e = run-plain at-word word-letter (λ s. word-begins (getD text i 0) s e)
-
     symbols-plain : is-symbol (getD text i 0) ≡ true → Plain (slice text i (run-end at-symbol text i))
-    unfolding run pick
-    symbols-plain e = run-plain at-symbol (λ b s. symbol-letter b) (λ s. rw e tt)
+    unfolding run pick in-name
+    symbols-plain e = run-plain at-symbol (λ b s q. rw q (or-true (is-word b))) (λ s. rw e tt)
 
     dotted-plain : eqb (getD text i 0) (byte ".") ≡ true → eqb (getD text (run-end at-word text (i + 1)) 0) (byte ".") ≡ true
         → Plain (slice text i (run-end at-word text (i + 1) + 1))
@@ -122,7 +115,7 @@ module _ (text : List ℕ) where
       by-cases Named _ _ _
       (λ here. let h = ltb-true i (length text) here in
       by-cases Named _ _ _ (λ m e. absurd (no-mark _ m e))
-      (λ m. by-cases Named _ _ _ (λ w e. word-plain i h w)
+      (λ m. by-cases Named _ _ _ (λ w e. run-plain i h at-word word-letter (λ s. word-begins (getD text i 0) s w))
       (λ w. by-cases Named _ _ _ (λ q. by-cases Named _ _ _ (λ r e. absurd (false≢true e)) (λ r e. absurd (false≢true e)))
       (λ q. by-cases Named _ _ _ (λ a e. absurd (false≢true e))
       (λ a. by-cases Named _ _ _ (λ o e. symbols-plain i h (both-true _ _ o .0))

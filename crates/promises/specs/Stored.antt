@@ -29,13 +29,11 @@ MayBeKept OthersAccepted =
 still-up-to-date : (stored : List ℕ) (r r′ : Answer) → Agreeing r r′ → UpToDate stored r → ShortOfRoom r′ ⊎ UpToDate stored r′
 still-up-to-date stored r r′ (inl q) h = absurd (has-room r (h .is-accepted) q)
 still-up-to-date stored r r′ (inr (inl q)) h = inl q
-still-up-to-date stored r r′ (inr (inr q)) h =
-    inr (record { is-accepted = sym (q .number) ∙ h .is-accepted; shows = sym (q .visible-lines) ∙ h .shows })
+still-up-to-date stored r r′ (inr (inr q)) h = inr (record { is-accepted = sym (q .number) ∙ h .is-accepted; shows = sym (q .visible-lines) ∙ h .shows })
 
 kept-by : (OthersAccepted : Acceptance) → Demand3 OthersAccepted → MayBeKept OthersAccepted
 kept-by OthersAccepted demand asked texts texts′ ms ms′ c memory memory′ output output′ stored h =
-    still-up-to-date stored _ _
-    (demand asked texts texts′ ms ms′ (is-enough OthersAccepted asked texts texts′ ms ms′ c) memory memory′ output output′) h
+    still-up-to-date stored _ _ (demand asked texts texts′ ms ms′ (is-enough OthersAccepted asked texts texts′ ms ms′ c) memory memory′ output output′) h
 
 pub may-be-kept : MayBeKept InTheCall
 may-be-kept = kept-by InTheCall demand-3

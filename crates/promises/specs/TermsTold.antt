@@ -18,10 +18,10 @@ use Rattle.meaning.specs.Normal.{Visible}
 use Rattle.meaning.specs.Checks.{fine, other-output, overloaded, consistent}
 use Rattle.meaning.specs.OrderLaws.{Every, same-self}
 use Rattle.meaning.specs.OutcomeLaws.{unless-fine}
-use Rattle.laws.specs.Decides.{both-true, agree-self}
+use Rattle.laws.specs.Decides.{both-true, agree-self, origins-decided, shapes-decided, sorts-decided}
 use Rattle.laws.specs.EveryLaws.{every-member}
 use Rattle.laws.specs.Outcomes.{both-fine as then-fine}
-use Rattle.promises.specs.ListingLaws.{rest-of, not-empty, Within, StartsOutside, starts, told-run, apart, in-name, in-sort, Plain, plain-sort, told-number, number-written, origin-equal, origin-self, sort-self, sort-equal, shape-equal, shape-self, passes-both, before-most, no-name}
+use Rattle.promises.specs.ListingLaws.{rest-of, not-empty, Within, StartsOutside, starts, told-run, apart, in-name, in-sort, Plain, plain-sort, told-number, number-written, passes-both, before-most, no-name}
 use Rattle.promises.specs.Sound.{compatible}
 use Rattle.promises.specs.WellTyped.{head-type, sorts-of, Named, From, TypedHead, TypedTerm, TypedTerms, TypedSides, TypedEquation}
 
@@ -61,7 +61,7 @@ abbrev place-test : Origin → Shape → Item → Bool
 place-test o s i = same-origin o (i .origin) && same-shape s (i .shape)
 
 from-passes : {hidden : List Item} {o : Origin} {s : Shape} (d : From hidden o s) → place-test o s (d .0) ≡ true
-from-passes {o = o} {s = s} d = rw (d .2, d .3, origin-self o, shape-self s)
+from-passes {o = o} {s = s} d = rw (d .2, d .3, origins-decided .self o, shapes-decided .self s)
 
 module _ (hidden : List Item) (few : length hidden + 1 < 10 ^ 10) where
   -- the number of a hidden function or variable tells its origin and its type
@@ -77,8 +77,10 @@ module _ (hidden : List Item) (few : length hidden + 1 < 10 ^ 10) where
       one : (i : Item) → place-test o s i ≡ true → place-test p t i ≡ true → (o ≡ p) × (s ≡ t)
       one i f g =
           let a = both-true _ _ f in
-          let b = both-true _ _ g in
-          (origin-equal o (i .origin) (a .0) ∙ sym (origin-equal p (i .origin) (b .0)), shape-equal s (i .shape) (a .1) ∙ sym (shape-equal t (i .shape) (b .1)))
+          let b = both-true _ _ g in (
+            origins-decided .equal o (i .origin) (a .0) ∙ sym (origins-decided .equal p (i .origin) (b .0)),
+            shapes-decided .equal s (i .shape) (a .1) ∙ sym (shapes-decided .equal t (i .shape) (b .1)),
+          )
 
 -- ---- what follows a node
 
@@ -157,12 +159,6 @@ module _ (visible hidden : List Item) (plain : Every (λ i. Plain (i .name)) vis
   told-head (hidden-head o t) (hidden-head p u) d d′ i e =
       let r = told-place hidden few o p (function-shape t) (function-shape u) d d′ e in ap₂ hidden-head (r .0) (function-of (r .1))
 
-  told-variable : (o p : Origin) (s t : Sort) → From hidden o (variable-shape s) → From hidden p (variable-shape t)
-      → variable-text hidden o s ≡ variable-text hidden p t → var o s ≡ var p t
-  unfolding variable-text
-  told-variable o p s t d d′ e =
-      let r = told-place hidden few o p (variable-shape s) (variable-shape t) d d′ e in ap₂ var (r .0) (variable-sort (r .1))
-
   no-variable-head : {X : Type 0} (o : Origin) (s : Sort) (f : Head) → From hidden o (variable-shape s) → TypedHead visible hidden f
       → variable-text hidden o s ≡ head-text hidden f → X
   unfolding variable-text head-text
@@ -198,13 +194,15 @@ module _ (visible hidden : List Item) (plain : Every (λ i. Plain (i .name)) vis
       (sym (node-then t rest) ∙ e ∙ node-then u rest′)
 
   mutual
-    unfolding arguments-of argument-text term-text later-text node-text
+    unfolding arguments-of argument-text term-text later-text node-text variable-text
 
     -- a term can be told from what follows it
     told-term : (t u : ResolvedTerm) (rest rest′ : List ℕ) → TypedTerm visible hidden t → TypedTerm visible hidden u → Closed rest → Closed rest′
         → term-text hidden t ++ rest ≡ term-text hidden u ++ rest′ → (t ≡ u) × (rest ≡ rest′)
     told-term (var o s) (var p r) rest rest′ d d′ c c′ e =
-        let a = told-node (var o s) (var p r) rest rest′ d d′ c c′ e in (told-variable o p s r d d′ (a .0), a .1)
+        let a = told-node (var o s) (var p r) rest rest′ d d′ c c′ e in
+        let b = told-place hidden few o p (variable-shape s) (variable-shape r) d d′ (a .0) in
+        (ap₂ var (b .0) (variable-sort (b .1)), a .1)
     told-term (var o s) (app g ys) rest rest′ d d′ c c′ e =
         no-variable-head o s g d (d′ .0) (told-node (var o s) (app g ys) rest rest′ d d′ c c′ e .0)
     told-term (app f xs) (var p r) rest rest′ d d′ c c′ e =
@@ -308,8 +306,8 @@ unfolding overloaded other-output
 output-agrees a b t u p q n i e =
     let names = ap (same (a .name)) (sym n) ∙ same-self (a .name) in
     let f = sym (ap₂ other-output p q) ∙ first-false (same (a .name) (b .name)) _ _ names e in
-    let inputs = ap (agree same-sort (t .inputs)) (sym i) ∙ agree-self same-sort sort-self (t .inputs) in
-    let output = sort-equal (t .output) (u .output) (not-false _ (rw inputs at f)) in
+    let inputs = ap (agree same-sort (t .inputs)) (sym i) ∙ agree-self same-sort (sorts-decided .self) (t .inputs) in
+    let output = sorts-decided .equal (t .output) (u .output) (not-false _ (rw inputs at f)) in
     λ x. record { inputs = i x; output = output x }
 
 pub one-output : (v : Visible) (own : List Item) → consistent v own ≡ fine tt → OneOutput (v .items)

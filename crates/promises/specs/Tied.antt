@@ -15,12 +15,12 @@ use Rattle.promises.specs.VisiblePart.{visible-part}
 use Rattle.promises.specs.ListingLaws.{PlainLine}
 use Rattle.promises.specs.Told.{listing-plain}
 use Rattle.promises.specs.Tie.{visible-tie}
-use Rattle.promises.specs.SoundEvaluation.{plain-equations}
+use Rattle.promises.specs.SoundEvaluation.{equation-lines}
 use Rattle.promises.specs.OneListing.{AcceptedTexts, accepted-call, ended-so, answer-so}
 
 module _ (asked : Name) (texts : Texts) where
   lines-plain : (n : Normal) → AcceptedTexts asked n → Every PlainLine (listing-lines asked n)
-  lines-plain n t = let a = accepted-call asked n t in listing-plain asked n (a .name) (a .normal .whole .sound) (plain-equations n (a .normal .whole))
+  lines-plain n t = let a = accepted-call asked n t in listing-plain asked n (a .name) (a .normal .whole .sound) (equation-lines n (a .normal .whole))
 
   pub ended-tied : (ms : List Module) → read-texts texts ≡ all-read ms
       → visible-part (listing (of-ended asked (normalise asked ms))) ≡ lines-text (shown false (of-ended asked (normalise asked ms) .lines))

@@ -2,27 +2,23 @@
 -- items.
 use mathlib.Core.Path.{_≡_, refl, sym, ap, ap₂, subst, _∙_}
 use mathlib.Core.Logic.{_⊎_, ⊎-elim}
-use mathlib.Core.Option.{none}
 use Prim.Native.Nat.{ℕ, _+_, _-_, _^_, _≤_, _<_}
 use Prim.Native.String.{String}
 use native.Mathlib.Omega.{arith}
-use mathlib.Core.Bool.{Bool, true, false, not, false≢true}
-use mathlib.Core.List.{List, [], _∷_, _++_, map, append-assoc, append-cancel-left, List·Memᴰ, List·Memᴰ·head, List·Memᴰ·tail, List·Memᴰ·cases-cons}
+use mathlib.Core.Bool.{Bool, true, false}
+use mathlib.Core.List.{List, [], _∷_, _++_, map, map-map, append-assoc, append-cancel-left, List·Memᴰ, List·Memᴰ·head, List·Memᴰ·tail, List·Memᴰ·cases-cons}
 use lib.Dec.{lit<}
 use lib.ListN.{length}
-use Rattle.meaning.specs.Lists.{pick, keep, first, before, each}
+use Rattle.meaning.specs.Lists.{pick, keep, before, each}
 use Rattle.meaning.specs.Tokens.{is-in, is-word}
 use Rattle.meaning.specs.Names.{bytes, Name, same, member, words}
 use Rattle.meaning.specs.Origins.{Section, export-section, parameter-section, hidden-section, Origin, same-origin, Sort, visible-sort, hidden-sort, Shape, sort-shape, function-shape, variable-shape, is-sort, Item, in-parameter, ResolvedEquation}
-use Rattle.meaning.specs.Typing.{alone}
-use Rattle.meaning.specs.Syntax.{node, _then_}
 use Rattle.meaning.specs.Normal.{Slot, Visible, Normal, slot-names, formals, sorts-among}
 use Rattle.meaning.specs.Written.{numbered, sort-text, type-text, function-type-text, origin-text, shape-text, equation-text, shape-rank}
 use Rattle.meaning.specs.Listing.{is-exported, visible-lines, Line, origin-line, kind-key, item-line, exported-lines, formal-lines, parameter-lines, hidden-item-lines, line, lines-text, equation-line, hidden-lines, listing-lines, listing-keys}
-use Rattle.promises.specs.ListingLaws.{first-of, rest-of, not-empty, Within, StartsOutside, starts, told-run, in-name, Plain, PlainOrigin, told-origin, origins-of, SortIn, ShapeIn, told-shape, PlainLine, told-lines, by-kind, before-map, OneLine, in-line-then, plain-in-line, number-in-line, origin-in-line, shape-in-line, PlainEquation, equation-in-line}
-use Rattle.meaning.specs.Answer.{listing}
+use Rattle.promises.specs.ListingLaws.{first-of, rest-of, not-empty, Within, StartsOutside, starts, told-run, in-name, Plain, PlainOrigin, told-origin, origins-of, SortIn, ShapeIn, told-shape, PlainLine, told-lines, by-kind, before-map, OneLine, in-line-then, plain-in-line, number-in-line, origin-in-line, shape-in-line}
 use Rattle.meaning.specs.OrderLaws.{Every, same-self}
-use Rattle.laws.specs.EveryLaws.{every-map, every-made, every-so, every-append, kept-member}
+use Rattle.laws.specs.EveryLaws.{every-map, every-made, every-so, every-append, kept-member, member-map-to}
 use Rattle.laws.specs.EveryLaws.{every-keep, every-each}
 use Rattle.laws.specs.OwnItems.{declared-name}
 
@@ -64,21 +60,18 @@ Few n = length (n .hidden .items) + 1 < 10 ^ 10
 
 -- ---- an item from its two lines
 
-module _ (s f v : String) (sf : same (bytes s) (bytes f) ≡ false) (sv : same (bytes s) (bytes v) ≡ false) (fv : same (bytes f) (bytes v) ≡ false) where
-  other-key : {X : Type 0} (a b : List ℕ) → same a b ≡ false → a ≡ b → X
-  other-key a b d e = absurd (false≢true (sym d ∙ ap (same a) (sym e) ∙ same-self a))
+module _ (s f v : String) (fs : same (bytes f) (bytes s) ≡ false) (vs : same (bytes v) (bytes s) ≡ false) (vf : same (bytes v) (bytes f) ≡ false) where
+  key-rank : List ℕ → ℕ
+  key-rank k = pick (same k (bytes s)) 0 (pick (same k (bytes f)) 1 2)
+
+  rank-of : (a : Shape) → key-rank (kind-key s f v a) ≡ shape-rank a
+  unfolding kind-key shape-rank key-rank pick
+  rank-of sort-shape = rw (same-self (bytes s))
+  rank-of (function-shape t) = rw (fs, same-self (bytes f))
+  rank-of (variable-shape r) = rw (vs, vf)
 
   told-key : (a b : Shape) → kind-key s f v a ≡ kind-key s f v b → shape-rank a ≡ shape-rank b
-  unfolding kind-key shape-rank
-  told-key sort-shape sort-shape e = refl
-  told-key sort-shape (function-shape u) e = other-key (bytes s) (bytes f) sf e
-  told-key sort-shape (variable-shape r) e = other-key (bytes s) (bytes v) sv e
-  told-key (function-shape t) sort-shape e = other-key (bytes s) (bytes f) sf (sym e)
-  told-key (function-shape t) (function-shape u) e = refl
-  told-key (function-shape t) (variable-shape r) e = other-key (bytes f) (bytes v) fv e
-  told-key (variable-shape q) sort-shape e = other-key (bytes s) (bytes v) sv (sym e)
-  told-key (variable-shape q) (function-shape u) e = other-key (bytes f) (bytes v) fv (sym e)
-  told-key (variable-shape q) (variable-shape r) e = refl
+  told-key a b e = sym (rank-of a) ∙ ap key-rank e ∙ rank-of b
 
 -- what follows a name does not go on with it
 shape-outside : (hidden : List Item) (s : Shape) → StartsOutside in-name (shape-text hidden s)
@@ -102,17 +95,17 @@ told-visible a b h k r e o =
 abbrev pub item-lines : String → String → Item → List Line
 item-lines s f i = item-line (kind-key s f "variable" (i .shape)) (i .name) [] (i .shape) ∷ origin-line (i .origin) ∷ []
 
-told-items : (s f : String) → same (bytes s) (bytes f) ≡ false → same (bytes s) (bytes "variable") ≡ false → same (bytes f) (bytes "variable") ≡ false
+told-items : (s f : String) → same (bytes f) (bytes s) ≡ false → same (bytes "variable") (bytes s) ≡ false → same (bytes "variable") (bytes f) ≡ false
     → (is js : List Item) → Every SoundVisible is → Every SoundVisible js → each (item-lines s f) is ≡ each (item-lines s f) js → is ≡ js
 unfolding each origin-line
-told-items s f sf sv fv [] [] h k e = refl
-told-items s f sf sv fv [] (j ∷ js) h k e = not-empty e
-told-items s f sf sv fv (i ∷ is) [] h k e = not-empty (sym e)
-told-items s f sf sv fv (i ∷ is) (j ∷ js) h k e =
-    let kinds = told-key s f "variable" sf sv fv (i .shape) (j .shape) (ap (λ (l : Line). l .key) (first-of e)) in
+told-items s f fs vs vf [] [] h k e = refl
+told-items s f fs vs vf [] (j ∷ js) h k e = not-empty e
+told-items s f fs vs vf (i ∷ is) [] h k e = not-empty (sym e)
+told-items s f fs vs vf (i ∷ is) (j ∷ js) h k e =
+    let kinds = told-key s f "variable" fs vs vf (i .shape) (j .shape) (ap (λ (l : Line). l .key) (first-of e)) in
     let origins = ap (λ (l : Line). l .value) (first-of (rest-of e)) in
     ap₂ _∷_ (told-visible i j (h .0) (k .0) kinds (ap (λ (l : Line). l .value) (first-of e)) origins)
-    (told-items s f sf sv fv is js (h .1) (k .1) (rest-of (rest-of e)))
+    (told-items s f fs vs vf is js (h .1) (k .1) (rest-of (rest-of e)))
 
 -- ---- the hidden items from their lines: first their origins, so that a number means the same in both
 
@@ -144,8 +137,7 @@ item-of-origin (i ∷ is) m =
     ⊎-elim (λ e. (i, List·Memᴰ·head refl, e)) (λ k. let r = item-of-origin is k in (r .0, List·Memᴰ·tail (r .1), r .2)) (List·Memᴰ·cases-cons m)
 
 pub origin-of-item : {i : Item} {is : List Item} → List·Memᴰ i is → (o : Origin) → o ≡ i .origin → List·Memᴰ o (origins-of is)
-origin-of-item (List·Memᴰ·head e) o q = List·Memᴰ·head (q ∙ ap (λ (i : Item). i .origin) e)
-origin-of-item (List·Memᴰ·tail m) o q = List·Memᴰ·tail (origin-of-item m o q)
+origin-of-item {is} m o q = subst (λ (p : Origin). List·Memᴰ p (origins-of is)) (sym q) (member-map-to (λ (i : Item). i .origin) m)
 
 among-hidden : (is : List Item) (o : Origin) → List·Memᴰ o (origins-of (sorts-among is)) → List·Memᴰ o (origins-of is)
 unfolding sorts-among
@@ -161,14 +153,10 @@ module _ (hidden hidden′ : List Item) (same-origins : origins-of hidden ≡ or
       (before-map (λ (i : Item). i .origin) (same-origin o) hidden ∙ ap (before (same-origin o)) same-origins
       ∙ sym (before-map (λ (i : Item). i .origin) (same-origin o) hidden′))
 
-  same-sort-texts : (ss : List Sort) → map (sort-text hidden) ss ≡ map (sort-text hidden′) ss
-  same-sort-texts [] = refl
-  same-sort-texts (s ∷ ss) = ap₂ _∷_ (same-sort-text s) (same-sort-texts ss)
-
   same-shape-text : (s : Shape) → shape-text hidden s ≡ shape-text hidden′ s
   unfolding shape-text function-type-text
   same-shape-text sort-shape = refl
-  same-shape-text (function-shape t) = rw (same-sort-texts (t .inputs), same-sort-text (t .output))
+  same-shape-text (function-shape t) = λ i. type-text (map (λ s. same-sort-text s i) (t .inputs)) (same-sort-text (t .output) i)
   same-shape-text (variable-shape s) = rw (same-sort-text s)
 
   told-hidden : (few : length hidden + 1 < 10 ^ 10) (k : ℕ) (is js : List Item) → Every (SoundHidden hidden) is → Every (SoundHidden hidden′) js
@@ -283,8 +271,7 @@ module _ (v v′ : Visible) (sound : Every SoundVisible (v .items)) (sound′ : 
 -- what holds of each name
 pub every-named : (P : Name → Type 0) (ps : List Slot) → Every (λ p. P (p .name)) ps → Every P (slot-names ps)
 unfolding slot-names
-every-named P [] h = tt
-every-named P (p ∷ ps) h = (h .0, every-named P ps (h .1))
+every-named P ps h = every-map _ P _ (λ p k. k) ps h
 
 -- ---- what a listing tells
 
@@ -345,8 +332,7 @@ after-exported m n =
 equation-values : (hidden : List Item) (es : List ResolvedEquation)
     → map (λ (l : Line). l .value) (map (equation-line hidden) es) ≡ map (equation-text hidden) es
 unfolding equation-line
-equation-values hidden [] = refl
-equation-values hidden (e ∷ es) = ap (equation-text hidden e ∷_) (equation-values hidden es)
+equation-values hidden es = map-map (λ (l : Line). l .value) (equation-line hidden) es
 
 module _ (m m′ : Name) (n n′ : Normal) (sound : Sound n) (sound′ : Sound n′) (few : Few n) where
   -- the lines of a listing tell the normal form, but for the parameters' modules, the equations' modules and positions, and what stands at a
@@ -445,11 +431,15 @@ hidden-plain hidden k (i ∷ is) h = (
   (origin-plain (i .origin) (h .0 .origin), hidden-plain hidden (k + 1) is (h .1)),
 )
 
-equations-plain : (hidden : List Item) (es : List ResolvedEquation) → Every PlainEquation es → Every PlainLine (map (equation-line hidden) es)
-unfolding equation-line keys-opened
-equations-plain hidden es h = every-map PlainEquation PlainLine _ (λ e k. plain-line "equation" refl (equation-in-line hidden e k)) es h
+-- each equation is written in one line
+abbrev pub EquationLines : Normal → Type 0
+EquationLines n = Every (λ e. OneLine (equation-text (n .hidden .items) e)) (n .hidden .equations)
 
-pub listing-plain : (m : Name) (n : Normal) → Plain m → Sound n → Every PlainEquation (n .hidden .equations) → Every PlainLine (listing-lines m n)
+equations-plain : (n : Normal) → EquationLines n → Every PlainLine (equation-part n)
+unfolding equation-line keys-opened
+equations-plain n h = every-map _ PlainLine _ (λ e k. plain-line "equation" refl k) (n .hidden .equations) h
+
+pub listing-plain : (m : Name) (n : Normal) → Plain m → Sound n → EquationLines n → Every PlainLine (listing-lines m n)
 unfolding exported-lines keys-opened
 listing-plain m n g s p =
     subst (Every PlainLine) (sym (listing-parts m n)) (
@@ -461,13 +451,13 @@ listing-plain m n g s p =
           (every-each PlainLine Plain (parameter-lines (n .visible)) (parameter-plain (n .visible) (s .visible)) (slot-names (n .visible .parameters))
           (every-named Plain (n .visible .parameters) (s .parameters)))
           (every-append PlainLine (hidden-part n) _ (hidden-plain (n .hidden .items) 1 (n .hidden .items) (s .hidden))
-          (every-append PlainLine (equation-part n) (end-part m) (equations-plain (n .hidden .items) (n .hidden .equations) p)
+          (every-append PlainLine (equation-part n) (end-part m) (equations-plain n p)
           (plain-line "end" refl (plain-in-line m g), tt)))),
     )
 
 -- normal forms of different visible items, parameters, hidden items or written equations have different listings
-pub told-by-bytes : (m m′ : Name) (n n′ : Normal) → Plain m → Plain m′ → Sound n → Sound n′ → Every PlainEquation (n .hidden .equations)
-    → Every PlainEquation (n′ .hidden .equations) → Few n → lines-text (listing-lines m n) ≡ lines-text (listing-lines m′ n′) → SameListed m m′ n n′
+pub told-by-bytes : (m m′ : Name) (n n′ : Normal) → Plain m → Plain m′ → Sound n → Sound n′ → EquationLines n → EquationLines n′ → Few n
+    → lines-text (listing-lines m n) ≡ lines-text (listing-lines m′ n′) → SameListed m m′ n n′
 told-by-bytes m m′ n n′ g g′ s s′ p p′ few e =
     told-by-lines m m′ n n′ s s′ few
     (told-lines (listing-lines m n) (listing-lines m′ n′) (listing-plain m n g s p) (listing-plain m′ n′ g′ s′ p′) e)

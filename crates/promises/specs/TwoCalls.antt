@@ -6,7 +6,7 @@ use Prim.Native.Nat.{ℕ, _+_, suc}
 use native.Mathlib.Omega.{arith}
 use mathlib.Core.Bool.{Bool, true, false, _||_}
 use mathlib.Core.List.{List, [], _∷_, map}
-use lib.ListN.{length, length-map, getD}
+use lib.ListN.{length, getD}
 use Rattle.meaning.specs.Laws.{by-cases}
 use Rattle.meaning.specs.Lists.{pick}
 use Rattle.meaning.specs.Names.{Name, member}
@@ -48,47 +48,38 @@ came-through true k w o x e = (refl, e)
 came-through false k w o x e = never k w x e
 
 module _ {A : Type 0} (R : A → A → Type 0) where
+  -- what holds of no items, and with each pair more, holds of all that correspond
+  pub by-turns : (Q : List A → List A → Type 0) → Q [] [] → ((x x′ : A) (xs xs′ : List A) → R x x′ → Q xs xs′ → Q (x ∷ xs) (x′ ∷ xs′))
+      → (xs xs′ : List A) → InTurn R xs xs′ → Q xs xs′
+  by-turns Q none more [] [] k = none
+  by-turns Q none more [] (x′ ∷ xs′) k = absurd k
+  by-turns Q none more (x ∷ xs) [] k = absurd k
+  by-turns Q none more (x ∷ xs) (x′ ∷ xs′) k = more x x′ xs xs′ (k .0) (by-turns Q none more xs xs′ (k .1))
+
   pub in-turn-so : (S : A → A → Type 0) → ((x x′ : A) → R x x′ → S x x′) → (xs xs′ : List A) → InTurn R xs xs′ → InTurn S xs xs′
-  in-turn-so S h [] [] k = tt
-  in-turn-so S h [] (x′ ∷ xs′) k = absurd k
-  in-turn-so S h (x ∷ xs) [] k = absurd k
-  in-turn-so S h (x ∷ xs) (x′ ∷ xs′) k = (h x x′ (k .0), in-turn-so S h xs xs′ (k .1))
+  in-turn-so S h = by-turns (InTurn S) tt (λ x x′ xs xs′ r q. (h x x′ r, q))
 
   pub both-in-turn : (S : A → A → Type 0) (xs xs′ : List A) → InTurn R xs xs′ → InTurn S xs xs′ → InTurn (λ x x′. R x x′ × S x x′) xs xs′
-  both-in-turn S [] [] h k = tt
-  both-in-turn S [] (x′ ∷ xs′) h k = absurd h
-  both-in-turn S (x ∷ xs) [] h k = absurd h
-  both-in-turn S (x ∷ xs) (x′ ∷ xs′) h k = ((h .0, k .0), both-in-turn S xs xs′ (h .1) (k .1))
+  both-in-turn S = by-turns (λ xs xs′. InTurn S xs xs′ → InTurn (λ x x′. R x x′ × S x x′) xs xs′) (λ k. tt) (λ x x′ xs xs′ r q k. ((r, k .0), q (k .1)))
 
   -- in turn, and each of the first passes P, each of the second Q
   pub in-turn-each : (P Q : A → Type 0) (xs xs′ : List A) → InTurn R xs xs′ → Every P xs → Every Q xs′ → InTurn (λ x x′. R x x′ × (P x × Q x′)) xs xs′
-  in-turn-each P Q [] [] h p q = tt
-  in-turn-each P Q [] (x′ ∷ xs′) h p q = absurd h
-  in-turn-each P Q (x ∷ xs) [] h p q = absurd h
-  in-turn-each P Q (x ∷ xs) (x′ ∷ xs′) h p q = ((h .0, (p .0, q .0)), in-turn-each P Q xs xs′ (h .1) (p .1) (q .1))
+  in-turn-each P Q =
+      by-turns (λ xs xs′. Every P xs → Every Q xs′ → InTurn (λ x x′. R x x′ × (P x × Q x′)) xs xs′) (λ p q. tt)
+      (λ x x′ xs xs′ r more p q. ((r, (p .0, q .0)), more (p .1) (q .1)))
 
   pub every-first : (P : A → Type 0) → ((x x′ : A) → R x x′ → P x) → (xs xs′ : List A) → InTurn R xs xs′ → Every P xs
-  every-first P h [] [] k = tt
-  every-first P h [] (x′ ∷ xs′) k = absurd k
-  every-first P h (x ∷ xs) [] k = absurd k
-  every-first P h (x ∷ xs) (x′ ∷ xs′) k = (h x x′ (k .0), every-first P h xs xs′ (k .1))
+  every-first P h = by-turns (λ xs xs′. Every P xs) tt (λ x x′ xs xs′ r q. (h x x′ r, q))
 
   -- what is the same of both, of each in turn
   pub images-same : {B : Type 0} (f : A → B) → ((x x′ : A) → R x x′ → f x ≡ f x′) → (xs xs′ : List A) → InTurn R xs xs′ → map f xs ≡ map f xs′
-  images-same f h [] [] k = refl
-  images-same f h [] (x′ ∷ xs′) k = absurd k
-  images-same f h (x ∷ xs) [] k = absurd k
-  images-same f h (x ∷ xs) (x′ ∷ xs′) k = ap₂ _∷_ (h x x′ (k .0)) (images-same f h xs xs′ (k .1))
+  images-same f h = by-turns (λ xs xs′. map f xs ≡ map f xs′) refl (λ x x′ xs xs′ r q. ap₂ _∷_ (h x x′ r) q)
 
   pub equals-same : ((x x′ : A) → R x x′ → x ≡ x′) → (xs xs′ : List A) → InTurn R xs xs′ → xs ≡ xs′
-  equals-same h [] [] k = refl
-  equals-same h [] (x′ ∷ xs′) k = absurd k
-  equals-same h (x ∷ xs) [] k = absurd k
-  equals-same h (x ∷ xs) (x′ ∷ xs′) k = ap₂ _∷_ (h x x′ (k .0)) (equals-same h xs xs′ (k .1))
+  equals-same h = by-turns (λ xs xs′. xs ≡ xs′) refl (λ x x′ xs xs′ r q. ap₂ _∷_ (h x x′ r) q)
 
   pub lengths-same : (xs xs′ : List A) → InTurn R xs xs′ → length xs ≡ length xs′
-  lengths-same xs xs′ k =
-      let one : A → ℕ = λ x. 0 in sym (length-map xs one) ∙ ap length (images-same one (λ x x′ r. refl) xs xs′ k) ∙ length-map xs′ one
+  lengths-same = by-turns (λ xs xs′. length xs ≡ length xs′) refl (λ x x′ xs xs′ r q. ap suc q)
 
   pub in-turn-map : (f : A → A) → ((x : A) → R x (f x)) → (xs : List A) → InTurn R xs (map f xs)
   in-turn-map f h [] = tt
@@ -112,14 +103,11 @@ module _ (R : Module → Module → Type 0) (called : (m m′ : Module) → R m 
 
   wanted-alike : (asked : Name) (ms ms′ : List Module) → InTurn R ms ms′ → SameNames (wanted asked ms) (wanted asked ms′)
   unfolding wanted
-  wanted-alike asked [] [] a w = refl
-  wanted-alike asked [] (m′ ∷ ms′) a w = absurd a
-  wanted-alike asked (m ∷ ms) [] a w = absurd a
-  wanted-alike asked (m ∷ ms) (m′ ∷ ms′) a w =
-      let later = wanted-alike asked ms ms′ (a .1) in
-      rw (reached-too m m′ (a .0) (wanted asked ms) (wanted asked ms′) later)
+  wanted-alike asked =
+      by-turns R (λ ms ms′. SameNames (wanted asked ms) (wanted asked ms′)) (λ w. refl) (λ m m′ ms ms′ r later w.
+      rw (reached-too m m′ r (wanted asked ms) (wanted asked ms′) later)
       (pick-both (λ (u v : List Name). member w u ≡ member w v) (member (m′ .name) (wanted asked ms′)) _ _ _ _
-      (member-append w (named-by m) _ ∙ ap₂ _||_ (naming m m′ (a .0) w) (later w) ∙ sym (member-append w (named-by m′) _)) (later w))
+      (member-append w (named-by m) _ ∙ ap₂ _||_ (naming m m′ r w) (later w) ∙ sym (member-append w (named-by m′) _)) (later w)))
 
   placed-alike : (asked : Name) (k : ℕ) (earlier earlier′ : List Name) → earlier ≡ earlier′ → (ms ms′ : List Module) → InTurn R ms ms′
       → InTurn (PlacedAlike R) (reached-among asked k earlier ms) (reached-among asked k earlier′ ms′)
@@ -142,15 +130,11 @@ module _ (R : Module → Module → Type 0) (called : (m m′ : Module) → R m 
 
 -- what is told from k on is told one further on of the rest
 pub one-on : {A : Type 0} (at of : ℕ → A) (k : ℕ) → ((j : ℕ) → at (k + j) ≡ of j) → (at k ≡ of 0) × ((j : ℕ) → at (k + 1 + j) ≡ of (suc j))
-one-on at of k h = (
-  (let z : k ≡ k + 0 = omega arith in ap at z) ∙ h 0,
-  λ j. (let z : k + 1 + j ≡ k + suc j = omega arith in ap at z) ∙ h (suc j),
-)
+one-on at of k h = ((let z : k ≡ k + 0 = omega arith in ap at z) ∙ h 0, λ j. (let z : k + 1 + j ≡ k + suc j = omega arith in ap at z) ∙ h (suc j))
 
 -- what holds of all modules holds of each that is reached, and its number tells it
 pub reached-such : {A : Type 0} (P : Module → Type 0) (of : Module → A) (blank : A) (at : ℕ → A) (asked : Name) (k : ℕ) (e : List Name) (ms : List Module)
-    → Every P ms → ((j : ℕ) → at (k + j) ≡ getD (map of ms) j blank)
-    → Every (λ x. P (x .self) × (at (x .number) ≡ of (x .self))) (reached-among asked k e ms)
+    → Every P ms → ((j : ℕ) → at (k + j) ≡ getD (map of ms) j blank) → Every (λ x. P (x .self) × (at (x .number) ≡ of (x .self))) (reached-among asked k e ms)
 unfolding reached-among
 reached-such P of blank at asked k e [] h g = tt
 reached-such P of blank at asked k e (m ∷ ms) h g =
@@ -216,6 +200,5 @@ module _ (N : Normal → Normal → Type 0) (Freed : Type 0) where
         → InTurn P (reached asked ms) (reached asked ms′) → N empty empty → Ends (normalise asked ms) (normalise asked ms′)
     unfolding normalise
     normalise-two asked ms ms′ q q′ p l =
-        rw (q, q′)
-        (pick-both Ends (member asked declared) _ _ _ _
+        rw (q, q′) (pick-both Ends (member asked declared) _ _ _ _
         (in-turn-two (reached asked ms) (reached asked ms′) [] [] empty empty p tt l) (inr (refl, refl)))

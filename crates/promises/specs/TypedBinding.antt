@@ -16,11 +16,10 @@ use Rattle.meaning.specs.Clauses.{paired, otherwise, renaming, new-sort, new-fu
 use Rattle.meaning.specs.Checks.{fine}
 use Rattle.meaning.specs.PairLaws.{RightPair, pairs-fine}
 use Rattle.meaning.specs.OrderLaws.{any-none, same-equal, same-self}
-use Rattle.laws.specs.Decides.{both-true}
+use Rattle.laws.specs.Decides.{both-true, shapes-decided}
 use Rattle.laws.specs.EveryLaws.{any-found, any-passes, every-member, every-union, member-keep, member-map-to}
 use Rattle.promises.specs.Sound.{union-left, union-right}
 use Rattle.promises.specs.WellTyped.{Named, TypedEquation, WellTyped, moved-member, named-moved, typed-moved, typed-wider}
-use Rattle.promises.specs.ListingLaws.{shape-equal, shape-self}
 
 no-refusal : {X : Type 0} {w : Name} → some w ≡ none → X
 no-refusal e = let z : _≡_ {A = ℕ} 0 1 = cc in absurd (omega arith)
@@ -93,10 +92,10 @@ module _ (formal : List Item) (rs : List Pair) (whole actual : Visible) where
         let j = any-found _ (actual .items) (both-true (sorts-right formal rs whole actual t) _ s .1) in
         let b = both-true (same (r .0 .new) (j .0 .name)) _ (j .2) in
         let name = sym (same-equal _ _ (b .0)) ∙ sym (r .3) ∙ sym (ap (λ (c : Bool). pick c (renaming rs (i .name)) (i .name)) here) in
-        (j .0, j .1, name, sym (shape-equal _ _ (b .1)))
+        (j .0, j .1, name, sym (shapes-decided .equal _ _ (b .1)))
       where
         here : any (λ (k : Item). is-called (i .name) k && same-shape (function-shape t) (k .shape)) formal ≡ true
-        here = any-passes _ formal i m (rw (same-self (i .name), e, shape-self (function-shape t)))
+        here = any-passes _ formal i m (rw (same-self (i .name), e, shapes-decided .self (function-shape t)))
 
 module _ (p : Name) (rs : List Pair) (n actual : Normal) where
   abbrev formal-items : List Item

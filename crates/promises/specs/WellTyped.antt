@@ -85,15 +85,12 @@ module _ (visible hidden visible′ hidden′ : List Item) (v : (i : Item) → L
   sides-wider : (e : ResolvedSides) → TypedSides visible hidden e → TypedSides visible′ hidden′ e
   sides-wider e d = (term-wider (e .left) (d .0), term-wider (e .right) (d .1), d .2)
 
-  equation-wider : (e : ResolvedEquation) → TypedEquation visible hidden e → TypedEquation visible′ hidden′ e
-  equation-wider e d = record {
+  pub typed-wider : (es : List ResolvedEquation) → Every (TypedEquation visible hidden) es → Every (TypedEquation visible′ hidden′) es
+  typed-wider es = every-so (TypedEquation visible hidden) (TypedEquation visible′ hidden′) es (λ e d. record {
     tag = d .tag;
     conclusion = sides-wider (e .conclusion) (d .conclusion);
     conditions = every-so (TypedSides visible hidden) (TypedSides visible′ hidden′) (e .conditions) sides-wider (d .conditions);
-  }
-
-  pub typed-wider : (es : List ResolvedEquation) → Every (TypedEquation visible hidden) es → Every (TypedEquation visible′ hidden′) es
-  typed-wider es d = every-so (TypedEquation visible hidden) (TypedEquation visible′ hidden′) es equation-wider d
+  })
 
 -- ---- new names
 
@@ -146,18 +143,14 @@ module _ (σ : Name → Name) (φ : Name → FunctionType → Name) (visible hid
       let sorts = sort-moved (e .left) ∙ ap (move-sort σ φ) (d .2) ∙ sym (sort-moved (e .right)) in
       (term-moved (e .left) (d .0), term-moved (e .right) (d .1), sorts)
 
-  equation-moved : (e : ResolvedEquation) → TypedEquation visible hidden e → TypedEquation visible′ hidden′ (move-equation σ φ e)
-  unfolding move-equation
-  equation-moved e d = record {
-    tag = d .tag;
-    conclusion = sides-moved (e .conclusion) (d .conclusion);
-    conditions =
-        every-map (TypedSides visible hidden) (TypedSides visible′ hidden′) (move-sides σ φ) sides-moved (e .conditions) (d .conditions);
-  }
-
   pub typed-moved : (es : List ResolvedEquation) → Every (TypedEquation visible hidden) es
       → Every (TypedEquation visible′ hidden′) (map (move-equation σ φ) es)
-  typed-moved es d = every-map (TypedEquation visible hidden) (TypedEquation visible′ hidden′) (move-equation σ φ) equation-moved es d
+  unfolding move-equation
+  typed-moved es = every-map (TypedEquation visible hidden) (TypedEquation visible′ hidden′) (move-equation σ φ) (λ e d. record {
+    tag = d .tag;
+    conclusion = sides-moved (e .conclusion) (d .conclusion);
+    conditions = every-map (TypedSides visible hidden) (TypedSides visible′ hidden′) (move-sides σ φ) sides-moved (e .conditions) (d .conditions);
+  }) es
 
 -- ---- unions, translations and the order of a listing keep equations well typed
 

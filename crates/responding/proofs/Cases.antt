@@ -21,16 +21,16 @@ use Rattle.meaning.specs.Answer.{request-end, has-request, library-too-long, te
 use Rattle.meaning.specs.Answer as Meaning
 use Rattle.meaning.specs.Listing.{lines-text}
 use Rattle.meaning.specs.Contract.{call, same-length}
-use Rattle.pen.specs.Pen.{pen, written}
-use Rattle.pen.proofs.Laws.{reached}
-use Rattle.answers.specs.declared.Name.{Name}
-use Rattle.answers.specs.declared.Answer.{Answer}
-use Rattle.answers.specs.Answers as Answers
-use Rattle.answers.specs.Answers.{told-size, returned, told-call}
-use Rattle.framing.specs.declared.Framing.{Framing}
-use Rattle.framing.specs.declared.Framing.the-variants.{Alone, TooLong, Both}
-use Rattle.framing.specs.Framed.{Framed, AloneFramed, BothFramed}
-use Rattle.framing.proofs.Cases.{request-start, request-ends, request-ends-within, request-short, request-fits, behind-request, digits-size}
+use Rattle.list_pen.specs.Pen.{pen, written}
+use Rattle.list_pen.proofs.Laws.{reached}
+use Rattle.answer.specs.declared.Name.{Name}
+use Rattle.answer.specs.declared.Answer.{Answer}
+use Rattle.answer.specs.Answers as Answers
+use Rattle.answer.specs.Answers.{told-size, returned, told-call}
+use Rattle.input_lines.specs.declared.Framing.{Framing}
+use Rattle.input_lines.specs.declared.Framing.the-variants.{Alone, TooLong, Both}
+use Rattle.input_lines.specs.Framed.{Framed, AloneFramed, BothFramed}
+use Rattle.input_lines.proofs.Cases.{request-start, request-ends, request-ends-within, request-short, request-fits, behind-request, digits-size}
 use Rattle.answer_lines.specs.Lines.{line-of, spelled, actual-text, marked-place, refusal-text, answer-text}
 use Rattle.responding.specs.Program.{asfnorm-with, page-room, with-memory, answer-behind, Behind, Refused, Responded}
 use Rattle.responding.specs.Short.{with-short, behind-short}

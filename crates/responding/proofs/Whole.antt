@@ -5,7 +5,7 @@ use native.Mathlib.Omega.{arith}
 use mathlib.Core.List.{List}
 use lib.ListN.{length, take, drop}
 use lib.Seq.{take-at}
-use Rattle.pen.proofs.Laws.{count-fits, laid}
+use Rattle.list_pen.proofs.Laws.{count-fits, laid}
 use Rattle.responding.specs.Program.{asfnorm-with, page-room, Responded}
 
 module _ (input work out page : List ℕ) (size : ℕ) (work′ out′ page′ : List ℕ) (r : Responded input work out page size work′ out′ page′)

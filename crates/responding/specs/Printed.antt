@@ -14,7 +14,7 @@ use Rattle.meaning.specs.Written.{decimal}
 use Rattle.meaning.specs.Listing.{Line, line, line-text, lines-text}
 use Rattle.meaning.specs.Reached.{short-or-blank}
 use Rattle.meaning.specs.Answer as Meaning
-use Rattle.answers.specs.Answers.{held, told}
+use Rattle.answer.specs.Answers.{held, told}
 use Rattle.answer_lines.specs.Lines.{line-of, spelled, actual-text, marked-place, refusal-text, answer-text}
 use Rattle.responding.specs.Short.{Short}
 

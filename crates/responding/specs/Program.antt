@@ -11,10 +11,10 @@ use Rattle.meaning.specs.Names.{bytes}
 use Rattle.meaning.specs.Numbers.{text-size, memory-size, program-output, over-size, lent-short}
 use Rattle.meaning.specs.Checks.{lone}
 use Rattle.meaning.specs.Answer as Meaning
-use Rattle.pen.specs.Pen.{pen, written}
-use Rattle.answers.specs.declared.Name.{Name}
-use Rattle.answers.specs.declared.Answer.{Answer}
-use Rattle.answers.specs.Answers.{told}
+use Rattle.list_pen.specs.Pen.{pen, written}
+use Rattle.answer.specs.declared.Name.{Name}
+use Rattle.answer.specs.declared.Answer.{Answer}
+use Rattle.answer.specs.Answers.{told}
 
 unfoldable pub asfnorm-with : (memory-lent output-lent : ℕ) → List ℕ → List ℕ
 asfnorm-with memory-lent output-lent input = Meaning.printed (Meaning.answer-to memory-lent output-lent input)

@@ -1,15 +1,15 @@
 // What `asfnorm` prints for its input: the first line names the asked module, the second may say how long the library behind it is, and the
 // rest is the text. All that it works with is lent.
+use answer::Answer;
+use answer::lent_short;
+use answer::unread;
 use answer_lines::put_answer;
-use answers::Answer;
-use answers::lent_short;
-use answers::unread;
 use asf::memory_size;
 use asf::normalise;
-use framing::Framing;
-use framing::framed;
-use framing::has_request;
-use framing::line_end;
+use input_lines::Framing;
+use input_lines::framed;
+use input_lines::has_request;
+use input_lines::line_end;
 use meaning::numbers;
 ghost use Rattle.responding.specs.Program.{Refused, Behind, Responded};
 

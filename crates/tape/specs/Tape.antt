@@ -6,7 +6,7 @@ use lib.ListN.{take}
 use Rattle.meaning.specs.Lists.{pick, each}
 use Rattle.meaning.specs.Names.{Name, is-operator}
 use Rattle.meaning.specs.Syntax.{Function, Signature, Parameter, Pair, Clause, renamed-by, bound-by, Import, VariableGroup, Term, node, Terms, no-terms, _then_, Sides, Equation, Module}
-use Rattle.names.specs.Word.{name-of}
+use Rattle.text_names.specs.Word.{name-of}
 
 pub record Entry : Type 0 where
   pub role : ℕ

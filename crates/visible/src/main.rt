@@ -5,6 +5,6 @@ use libc::STDOUT_FILENO;
 fn main() {
     let mut buffer = [0u8; 65536];
     let n = io::read_full(STDIN_FILENO, &mut buffer);
-    let part = listing_reader::visible_part(&buffer[..n]);
+    let part = reader::visible_part(&buffer[..n]);
     io::write_all(STDOUT_FILENO, part);
 }

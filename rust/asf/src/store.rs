@@ -9,7 +9,7 @@ use std::rc::Rc;
 /// Keeps the visible parts of some modules. Given a new specification it asks what must be asked, keeps what may be kept, and tells what it did
 /// (`examples/store.rs`).
 ///
-/// With each part it remembers the specification that the part is held for, in the sense of `Held` in `crates/asking_again`: there the module was
+/// With each part it remembers the specification that the part is held for, in the sense of `Held` in `crates/ask_decision`: there the module was
 /// answered 0, or the part was kept for it. That is the old one of the next decision, also where specifications came between for which there is
 /// nothing to show. What is shown is what asking the module would show, byte for byte, or asking it would be answered 18 or 19.
 pub struct Store {

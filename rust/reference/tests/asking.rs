@@ -1,4 +1,4 @@
-//! The decision whether a stored visible part may be kept, on small specifications: those of `crates/asking_again/specs/Samples.antt`, and what
+//! The decision whether a stored visible part may be kept, on small specifications: those of `crates/ask_decision/specs/Samples.antt`, and what
 //! counts as a change.
 
 use reference::{decide, module_name, Answer, Decision, Name, Texts};

@@ -3,7 +3,7 @@
 use borrow.Author.Needs.{needs}
 use Prim.Native.Nat.{_-_}
 use Rattle.meaning.specs.Names.{Name, same}
-use Rattle.names.specs.Joint.{joint}
+use Rattle.text_names.specs.Joint.{joint}
 use Rattle.modules.proofs.Cases.{numbers, Seeking}
 use Rattle.modules.proofs.find_asked.Statement.{statement}
 use Rattle.modules.proofs.find_asked.Tie as tie

@@ -3,8 +3,8 @@
 use borrow.Author.Needs.{needs}
 use Prim.Native.Nat.{_-_}
 use Rattle.meaning.specs.Names.{same}
-use Rattle.names.specs.Word.{name-of}
-use Rattle.names.specs.Joint.{joint}
+use Rattle.text_names.specs.Word.{name-of}
+use Rattle.text_names.specs.Joint.{joint}
 use Rattle.modules.proofs.Cases.{numbers, Seeking}
 use Rattle.modules.proofs.find_number.Statement.{statement}
 use Rattle.modules.proofs.find_number.Tie as tie

@@ -1,6 +1,6 @@
 -- `modules::gathered` meets its contract.
 -- Assumes nothing.
-use Rattle.names.specs.Joint.{joint}
+use Rattle.text_names.specs.Joint.{joint}
 use borrow.Author.Needs.{needs}
 use Rattle.modules.specs.Modules.{named-set}
 use Rattle.modules.proofs.Cases.{sets, Gathering}

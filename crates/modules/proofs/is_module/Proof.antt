@@ -1,7 +1,7 @@
 -- `modules::is_module` meets its contract.
 -- Assumes nothing.
 use Rattle.modules.specs.Modules.{is-module}
-use Rattle.tables.proofs.Auto.{tests}
+use Rattle.form_rows.proofs.Auto.{tests}
 use Rattle.modules.proofs.is_module.Statement.{statement}
 use Rattle.modules.proofs.is_module.Tie as tie
 

@@ -2,8 +2,8 @@
 -- Assumes nothing.
 use mathlib.Core.Path.{_≡_}
 use Prim.Native.Nat.{_-_}
-use Rattle.names.specs.Joint.{joint}
-use Rattle.tables.proofs.Auto.{on, done}
+use Rattle.text_names.specs.Joint.{joint}
+use Rattle.form_rows.proofs.Auto.{on, done}
 use borrow.Author.Needs.{needs}
 use Rattle.module_set.specs.ModuleSet.{holds}
 use Rattle.modules.specs.Modules.{names-module, declared, picked, with-named, named-set}

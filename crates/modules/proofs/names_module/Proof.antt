@@ -2,7 +2,7 @@
 -- Assumes nothing.
 use Rattle.meaning.specs.Lists.{pick}
 use Rattle.modules.specs.Modules.{names-module}
-use Rattle.tables.proofs.Auto.{tests}
+use Rattle.form_rows.proofs.Auto.{tests}
 use Rattle.modules.proofs.names_module.Statement.{statement}
 use Rattle.modules.proofs.names_module.Tie as tie
 

@@ -3,10 +3,10 @@
 use mathlib.Core.Path.{_≡_}
 use Prim.Native.Nat.{_-_}
 use lib.ListN.{take}
-use Rattle.tables.proofs.Auto.{on, done}
+use Rattle.form_rows.proofs.Auto.{on, done}
 use borrow.Author.Needs.{needs}
 use Rattle.meaning.specs.Evaluate.{names-right}
-use Rattle.names.specs.Joint.{joint}
+use Rattle.text_names.specs.Joint.{joint}
 use Rattle.modules.specs.Modules.{names-module, declared, named-in, picked}
 use Rattle.modules.proofs.Cases.{scans}
 use Rattle.modules.proofs.names_right.Statement.{statement}

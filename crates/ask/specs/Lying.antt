@@ -1,0 +1,179 @@
+-- Two tapes in one memory: what is read into a part of it, and what that leaves of the rest.
+use mathlib.Core.Path.{_≡_, sym, ap, subst, _∙_}
+use Prim.Native.Nat.{ℕ, _+_, _-_, _^_, _<_, _≤_}
+use native.Mathlib.Omega.{arith}
+use mathlib.Core.Bool.{Bool, true, false}
+use mathlib.Core.List.{List, [], _++_, map}
+use lib.ListN.{length, take, drop, length-append, length-drop}
+use lib.Seq.{length-take-le, take-take, take-append-le, drop-at}
+use Rattle.meaning.specs.Names.{Name}
+use Rattle.meaning.specs.Numbers.{memory-size}
+use Rattle.meaning.specs.Distinct.{read-fresh}
+use Rattle.meaning.specs.Texts.{Texts, two-texts, refused-in, read-texts}
+use Rattle.text_names.specs.Joint.{joint}
+use Rattle.tape.specs.Tape.{spelled, entries}
+use Rattle.invariants.specs.Limits.{modules-few}
+use Rattle.form.specs.Memory.{part}
+use Rattle.form_layout.specs.Layout.{tape-end}
+use Rattle.read_both.specs.declared.Both.{Both}
+use Rattle.read_both.specs.declared.Both.the-variants.{Done, Refused}
+use Rattle.read_both.specs.Both as TwoTexts
+use Rattle.read_both.specs.Both.{Said}
+use Rattle.answer.specs.declared.Name as Held
+use Rattle.answer.specs.Answers.{held}
+use Rattle.ask_decision.specs.Decide.{of-readings, decide, not-read, names-read, module-called}
+use Rattle.ask.specs.declared.Decision.{Decision}
+use Rattle.ask.specs.Decided.{nameless-struct, told, Tells}
+use Rattle.ask.specs.Steps.{Spoken}
+
+-- the entries that were read are a tape of their own
+said-spoken : (library text : List ℕ) (n : ℕ) (read tape : List ℕ) → Said library text n read → tape ≡ take n read
+    → Spoken (read-texts (two-texts library text)) (joint library text) tape
+unfolding entries
+said-spoken library text n read tape s e =
+    let size : length tape ≡ n = ap length e ∙ length-take-le n read (omega (arith, s .within, s .room)) in
+    let whole : take (length tape) tape ≡ take n read = (λ i. take (size i) (e i)) ∙ take-take n n read (omega arith) in
+    record {
+      modules = s .modules;
+      read-so = s .read-so;
+      said = ap (map (spelled (joint library text))) whole ∙ s .said;
+      few = modules-few (two-texts library text) (s .modules) (s .read-so);
+      fresh = read-fresh (two-texts library text) (s .modules) (s .read-so);
+      short = omega (arith, size, s .within);
+    }
+
+-- what is refused is not read
+unread-tells : (r : Decision) (in-new in-library : Bool) (number place : ℕ) → r ≡ nameless-struct 2 0 in-new in-library number place
+    → Tells r (not-read in-new in-library number place)
+unfolding told
+unread-tells r in-new in-library number place e = record { so = e; first = tt }
+
+module _ (library text : List ℕ) (q : Both) (read : List ℕ) (e : TwoTexts.Told library text read q) where
+  refused-so : (in-library : Bool) (number place : ℕ) → q ≡ Refused in-library number place
+      → read-texts (two-texts library text) ≡ refused-in in-library number place
+  refused-so in-library number place d = subst (TwoTexts.Told library text read) d e
+
+  pub first-refused : (asked : Name) (new : Texts) (r : Decision) (in-library : Bool) (number place : ℕ) → q ≡ Refused in-library number place
+      → r ≡ nameless-struct 2 0 false in-library number place → Tells r (decide asked (two-texts library text) new)
+  unfolding decide of-readings
+  first-refused asked new r in-library number place d z =
+      rw (refused-so in-library number place d) (unread-tells r false in-library number place z)
+
+  pub second-refused : (asked : Name) (x : Texts) (old tape : List ℕ) (r : Decision) (in-library : Bool) (number place : ℕ) → Spoken (read-texts x) old tape
+      → q ≡ Refused in-library number place → r ≡ nameless-struct 2 0 true in-library number place → Tells r (decide asked x (two-texts library text))
+  unfolding decide of-readings
+  second-refused asked x old tape r in-library number place spoken d z =
+      rw (spoken .read-so, refused-so in-library number place d) (unread-tells r true in-library number place z)
+
+  pub name-unread : (k : ℕ) (r : Held.Name) (in-library : Bool) (number place : ℕ) → q ≡ Refused in-library number place → r ≡ held []
+      → r ≡ held (module-called (two-texts library text) k)
+  unfolding module-called names-read
+  name-unread k r in-library number place d z =
+      rw (refused-so in-library number place d) z
+
+module _ (w : List ℕ) (end : ℕ) (there : memory-size ≤ length w) (last : end ≡ tape-end) where
+  pub first-end : end ≤ length w
+  unfolding memory-size tape-end
+  first-end = omega (arith, there, last)
+
+  pub second-end : end + end ≤ length w
+  unfolding memory-size tape-end
+  second-end = omega (arith, there, last)
+
+  pub first-room : 65536 ≤ length (part w 0 end)
+  unfolding tape-end
+  first-room = omega (arith, length-take-le (end - 0) w (omega (arith, first-end)), last)
+
+  pub second-room : 65536 ≤ length (part w end (end + end))
+  unfolding tape-end
+  second-room =
+      let left : length (drop end w) ≡ length w - end = length-drop end w in
+      omega (arith, length-take-le (end + end - end) (drop end w) (omega (arith, left, second-end)), last)
+
+  -- ---- the old specification, at the front
+
+  module _ (library text : List ℕ) (q : Both) (read : List ℕ) (e : TwoTexts.Told library text read q) where
+    module _ (t : ℕ) (d : q ≡ Done t) where
+      says : Said library text t read
+      says = subst (TwoTexts.Told library text read) d e
+
+      abbrev after : List ℕ
+      after = read ++ drop (end - 0) (drop 0 w)
+
+      pub first-size : memory-size ≤ length after
+      unfolding tape-end
+      first-size =
+          omega (arith, there, length-append read (drop (end - 0) (drop 0 w)), says .room, length-drop (end - 0) w, first-end, last)
+
+      pub first-short : t ≤ tape-end
+      unfolding tape-end
+      first-short = says .within
+
+      pub first-within : t ≤ length after
+      first-within = omega (arith, length-append read (drop (end - 0) (drop 0 w)), says .within, says .room)
+
+      pub first-spoken : Spoken (read-texts (two-texts library text)) (joint library text) (part after 0 t)
+      first-spoken =
+          let z : t - 0 ≡ t = omega arith in
+          said-spoken library text t read (part after 0 t) says
+          (ap (λ (n : ℕ). take n after) z ∙ take-append-le t read (drop (end - 0) (drop 0 w)) (omega (arith, says .within, says .room)))
+
+  -- ---- the new one, behind it
+
+  module _ (x : Texts) (text : List ℕ) (t : ℕ) (early : t ≤ tape-end) (spoken : Spoken (read-texts x) text (part w 0 t))
+      (library new : List ℕ) (q : Both) (read : List ℕ) (e : TwoTexts.Told library new read q) where
+    module _ (n : ℕ) (d : q ≡ Done n) where
+      says-new : Said library new n read
+      says-new = subst (TwoTexts.Told library new read) d e
+
+      abbrev rest : List ℕ
+      rest = drop (end + end - end) (drop end w)
+
+      abbrev both : List ℕ
+      both = take end w ++ (read ++ rest)
+
+      front-size : length (take end w) ≡ end
+      front-size = length-take-le end w first-end
+
+      both-size : length w ≤ length both
+      unfolding tape-end
+      both-size =
+          omega (
+            arith,
+            length-append (take end w) (read ++ rest),
+            length-append read rest,
+            front-size,
+            says-new .room,
+            length-drop (end + end - end) (drop end w),
+            length-drop end w,
+            second-end,
+            last,
+          )
+
+      pub old-within : t ≤ length both
+      unfolding tape-end
+      old-within = omega (arith, both-size, first-end, early, last)
+
+      pub new-within : end + n ≤ length both
+      unfolding tape-end
+      new-within = omega (arith, both-size, second-end, says-new .within, last)
+
+      pub new-fits : end + n < 2 ^ 64
+      unfolding tape-end
+      new-fits = omega (arith, says-new .within, last)
+
+      pub old-spoken : Spoken (read-texts x) text (part both 0 t)
+      unfolding tape-end
+      old-spoken =
+          let here : t - 0 ≤ end = omega (arith, early, last) in
+          let kept : part both 0 t ≡ part w 0 t =
+          take-append-le (t - 0) (take end w) (read ++ rest) (omega (arith, here, front-size)) ∙ take-take (t - 0) end w here in
+          subst (Spoken (read-texts x) text) (sym kept) spoken
+
+      pub new-spoken : Spoken (read-texts (two-texts library new)) (joint library new) (part both end (end + n))
+      new-spoken =
+          let z : end + n - end ≡ n = omega arith in
+          said-spoken library new n read (part both end (end + n)) says-new
+          (ap (λ (m : ℕ). take m (drop end both)) z
+          ∙ ap (take n) (drop-at (take end w) (read ++ rest) end front-size)
+          ∙ take-append-le n read rest (omega (arith, says-new .within, says-new .room)))

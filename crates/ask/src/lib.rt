@@ -1,0 +1,358 @@
+// Whether a stored visible part of a module may be kept: from the old specification and the new one, each of two texts. Both are read into the lent
+// working memory, each onto a tape of its own, and the modules that the asked one reaches are compared in pairs.
+pub mod walk;
+
+use answer::Name;
+use answer::blank;
+use answer::name_in;
+use answer::short_or_blank;
+use ask_decision::reasons;
+use ask_objections::Objection;
+use ask_objections::Why;
+use form_layout::tape_end;
+use meaning::numbers;
+use memory::memory_size;
+use modules::Heads;
+use modules::find_asked;
+use modules::find_heads;
+use modules::name_of_module;
+use modules::reached;
+use read_both::Both;
+use read_both::read_both;
+use walk::against;
+use walk::changed_set;
+ghost use mathlib.Core.Path.{_≡_};
+ghost use mathlib.Core.List.{[]};
+ghost use Prim.Native.Nat.{_≤_};
+ghost use lib.ListN.{length};
+ghost use Rattle.meaning.specs.Numbers.{memory-size};
+ghost use Rattle.meaning.specs.Texts.{two-texts, read-texts};
+ghost use Rattle.meaning.specs.Reached.{short-or-blank};
+ghost use Rattle.text_names.specs.Joint.{joint};
+ghost use Rattle.answer.specs.Answers.{held};
+ghost use Rattle.ask_decision.specs.Decide as Meaning;
+ghost use Rattle.ask_decision.specs.Decide.{why, ask-again, unless-against, deciding, module-called};
+ghost use Rattle.module_set.specs.ModuleSet.{holds};
+ghost use Rattle.form_layout.specs.Layout.{tape-end};
+ghost use Rattle.form.specs.Memory.{part};
+ghost use Rattle.modules.specs.Modules.{reached-set};
+ghost use Rattle.ask_objections.specs.Objections.{why-of};
+ghost use Rattle.ask.specs.Walk.{against-at, changed-at};
+ghost use Rattle.ask.specs.Decided.{nameless-struct, ask-struct, Tells, Decided, Named};
+ghost use Rattle.ask.specs.Steps.{Spoken};
+
+// What to do before the stored part of the asked module is shown. `answer` is 0: keep it once the modules of `set`, by their numbers in the new
+// specification, are answered 0; 1: ask the module itself, for the reason, with the module concerned and another name; 2: one of the two is not
+// read, the new one where `in_new` says so, with the refusal's number and place; 19: too little working memory is lent. What is not told is 0.
+pub struct Decision {
+    pub answer: u32,
+    pub set: u64,
+    pub reason: u32,
+    pub by: Name,
+    pub name: Name,
+    pub in_new: bool,
+    pub in_library: bool,
+    pub number: u8,
+    pub place: usize,
+}
+
+// ---- the four answers
+
+// 0 after the modules of the set, 2 with the refusal, or 19: no reason is told, and no name.
+fn nameless(
+    answer: u32,
+    set: u64,
+    in_new: bool,
+    in_library: bool,
+    number: u8,
+    place: usize,
+) -> Decision
+    ensures { λ r. ⌜ r ≡ nameless-struct answer set «in_new» «in_library» number place ⌝ }
+{
+    let none = blank();
+    Decision {
+        answer,
+        set,
+        reason: 0,
+        by: none,
+        name: none,
+        in_new,
+        in_library,
+        number,
+        place,
+    }
+}
+
+// 1, for the reason and with these names.
+fn ask(reason: u32, by: Name, name: Name) -> Decision
+    ensures { λ r. ⌜ r ≡ ask-struct reason by name ⌝ }
+{
+    Decision {
+        answer: 1,
+        set: 0,
+        reason,
+        by,
+        name,
+        in_new: false,
+        in_library: false,
+        number: 0,
+        place: 0,
+    }
+}
+
+// 1, where no module is called as asked.
+fn absent(asked: &[u8], reason: u32) -> Decision
+    ensures { λ r. ⌜ Tells r (ask-again (why reason (short-or-blank (now (asked .entry))) [])) ⌝ }
+{
+    let by = short_or_blank(asked);
+    let none = blank();
+    ask(reason, by, none)
+}
+
+// 1, as an objection says.
+fn objected(library: &[u8], text: &[u8], behind: &[u8], other: &[u8], w: Why) -> Decision
+    ensures { λ r. ⌜ Tells r (ask-again (why-of (joint (now (library .entry)) (now (text .entry))) (joint (now (behind .entry)) (now (other .entry))) w)) ⌝ }
+{
+    let by = name_in(library, text, w.by);
+    let in_new = w.new_name;
+    if in_new {
+        let name = name_in(behind, other, w.name);
+        return ask(w.reason, by, name);
+    }
+    let name = name_in(library, text, w.name);
+    ask(w.reason, by, name)
+}
+
+// ---- the decision
+
+// The decision where the asked module reaches these sets of modules.
+fn decide_sets(
+    asked: &[u8],
+    library: &[u8],
+    text: &[u8],
+    tape: &[u32],
+    h: Heads,
+    behind: &[u8],
+    other: &[u8],
+    more: &[u32],
+    g: Heads,
+    set: u64,
+    new_set: u64,
+) -> Decision
+    requires { ⌜ g .count ≤ 64 ⌝ }
+    ensures { λ r. ⌜ Tells r (unless-against (against-at (joint (now (library .entry)) (now (text .entry))) (now (tape .entry)) h (joint (now (behind .entry)) (now (other .entry))) (now (more .entry)) g (now (asked .entry)) (holds set) (holds «new_set»)) (changed-at (joint (now (library .entry)) (now (text .entry))) (now (tape .entry)) h (joint (now (behind .entry)) (now (other .entry))) (now (more .entry)) g (holds set) (holds «new_set»))) ⌝ }
+{
+    match against(
+        asked,
+        library,
+        text,
+        tape,
+        h,
+        behind,
+        other,
+        more,
+        g,
+        set,
+        new_set,
+    ) {
+        Objection::Against(w) => objected(library, text, behind, other, w),
+        Objection::Nothing => {
+            let first = changed_set(library, text, tape, h, behind, other, more, g, set, new_set);
+            nameless(0, first, false, false, 0, 0)
+        }
+    }
+}
+
+// The decision where the asked module is number k of the old specification and number new_k of the new one.
+fn decide_reached(
+    asked: &[u8],
+    library: &[u8],
+    text: &[u8],
+    tape: &[u32],
+    h: Heads,
+    behind: &[u8],
+    other: &[u8],
+    more: &[u32],
+    g: Heads,
+    k: u32,
+    new_k: u32,
+) -> Decision
+    requires { ⌜ g .count ≤ 64 ⌝ }
+    ensures { λ r. ⌜ Tells r (unless-against (against-at (joint (now (library .entry)) (now (text .entry))) (now (tape .entry)) h (joint (now (behind .entry)) (now (other .entry))) (now (more .entry)) g (now (asked .entry)) (reached-set (joint (now (library .entry)) (now (text .entry))) (now (tape .entry)) h k) (reached-set (joint (now (behind .entry)) (now (other .entry))) (now (more .entry)) g «new_k»)) (changed-at (joint (now (library .entry)) (now (text .entry))) (now (tape .entry)) h (joint (now (behind .entry)) (now (other .entry))) (now (more .entry)) g (reached-set (joint (now (library .entry)) (now (text .entry))) (now (tape .entry)) h k) (reached-set (joint (now (behind .entry)) (now (other .entry))) (now (more .entry)) g «new_k»))) ⌝ }
+{
+    let set = reached(library, text, tape, h, k);
+    let new_set = reached(behind, other, more, g, new_k);
+    decide_sets(
+        asked,
+        library,
+        text,
+        tape,
+        h,
+        behind,
+        other,
+        more,
+        g,
+        set,
+        new_set,
+    )
+}
+
+// The decision where both are read, each onto its tape.
+fn decide_read(
+    asked: &[u8],
+    library: &[u8],
+    text: &[u8],
+    tape: &[u32],
+    behind: &[u8],
+    other: &[u8],
+    more: &[u32],
+) -> Decision
+    requires { ⌜ Spoken (read-texts (two-texts (now library) (now text))) (joint (now library) (now text)) (now tape) ⌝ }
+    requires { ⌜ Spoken (read-texts (two-texts (now behind) (now other))) (joint (now behind) (now other)) (now more) ⌝ }
+    ensures { λ r. ⌜ Tells r (Meaning.decide (now (asked .entry)) (two-texts (now (library .entry)) (now (text .entry))) (two-texts (now (behind .entry)) (now (other .entry)))) ⌝ }
+{
+    let h = find_heads(tape, tape.len() as u32);
+    let g = find_heads(more, more.len() as u32);
+    let k = find_asked(library, text, tape, h, asked);
+    let new_k = find_asked(behind, other, more, g, asked);
+    let count = h.count;
+    let new_count = g.count;
+    if count <= k {
+        return absent(asked, reasons::ABSENT_BEFORE);
+    }
+    if new_count <= new_k {
+        return absent(asked, reasons::ABSENT_NOW);
+    }
+    decide_reached(
+        asked,
+        library,
+        text,
+        tape,
+        h,
+        behind,
+        other,
+        more,
+        g,
+        k,
+        new_k,
+    )
+}
+
+// The decision where the old specification lies on the first t words of the memory.
+fn decide_behind(
+    asked: &[u8],
+    library: &[u8],
+    text: &[u8],
+    behind: &[u8],
+    other: &[u8],
+    work: &mut [u32],
+    t: usize,
+) -> Decision
+    requires { ⌜ memory-size ≤ length (now work) ⌝ }
+    requires { ⌜ t ≤ tape-end ⌝ }
+    requires { ⌜ Spoken (read-texts (two-texts (now library) (now text))) (joint (now library) (now text)) (part (now work) 0 t) ⌝ }
+    ensures { λ r. ⌜ Tells r (Meaning.decide (now (asked .entry)) (two-texts (now (library .entry)) (now (text .entry))) (two-texts (now (behind .entry)) (now (other .entry)))) ⌝ }
+{
+    let end = tape_end() as usize;
+    match read_both(behind, other, &mut work[end..end + end]) {
+        Both::Refused {
+            in_library,
+            number,
+            place,
+        } => nameless(2, 0, true, in_library, number, place),
+        Both::Done(n) => decide_read(
+            asked,
+            library,
+            text,
+            &work[0..t],
+            behind,
+            other,
+            &work[end..end + n],
+        ),
+    }
+}
+
+// The decision where there is enough working memory.
+fn decide_texts(
+    asked: &[u8],
+    library: &[u8],
+    text: &[u8],
+    behind: &[u8],
+    other: &[u8],
+    work: &mut [u32],
+) -> Decision
+    requires { ⌜ memory-size ≤ length (now work) ⌝ }
+    ensures { λ r. ⌜ Tells r (Meaning.decide (now (asked .entry)) (two-texts (now (library .entry)) (now (text .entry))) (two-texts (now (behind .entry)) (now (other .entry)))) ⌝ }
+{
+    let end = tape_end() as usize;
+    match read_both(library, text, &mut work[0..end]) {
+        Both::Refused {
+            in_library,
+            number,
+            place,
+        } => nameless(2, 0, false, in_library, number, place),
+        Both::Done(t) => decide_behind(asked, library, text, behind, other, work, t),
+    }
+}
+
+// Whether the stored visible part of the asked module is kept, from the old specification to the new one; an empty library is none.
+pub fn decide(
+    asked: &[u8],
+    old_library: &[u8],
+    old_text: &[u8],
+    new_library: &[u8],
+    new_text: &[u8],
+    work: &mut [u32],
+) -> Decision
+    ensures { λ r. ⌜ Decided r (now (work .exit)) (deciding (now (work .entry)) (now (asked .entry)) (two-texts (now («old_library» .entry)) (now («old_text» .entry))) (two-texts (now («new_library» .entry)) (now («new_text» .entry)))) ⌝ }
+{
+    let size = memory_size();
+    if work.len() < size {
+        memory::zero_all(work);
+        return nameless(numbers::LENT_SHORT, 0, false, false, 0, 0);
+    }
+    let r = decide_texts(asked, old_library, old_text, new_library, new_text, work);
+    memory::zero_all(work);
+    r
+}
+
+// ---- a module's name by its number
+
+// The name of module k of a tape; blank where there is none.
+fn name_read(library: &[u8], text: &[u8], tape: &[u32], k: u32) -> Name
+    requires { ⌜ Spoken (read-texts (two-texts (now library) (now text))) (joint (now library) (now text)) (now tape) ⌝ }
+    ensures { λ r. ⌜ r ≡ held (module-called (two-texts (now (library .entry)) (now (text .entry))) k) ⌝ }
+{
+    let h = find_heads(tape, tape.len() as u32);
+    let count = h.count;
+    if count <= k {
+        return blank();
+    }
+    name_in(library, text, name_of_module(tape, h, k))
+}
+
+// The name of module k where there is enough working memory; blank where the texts are not read.
+fn name_in_texts(library: &[u8], text: &[u8], work: &mut [u32], k: u32) -> Name
+    requires { ⌜ memory-size ≤ length (now work) ⌝ }
+    ensures { λ r. ⌜ r ≡ held (module-called (two-texts (now (library .entry)) (now (text .entry))) k) ⌝ }
+{
+    let end = tape_end() as usize;
+    match read_both(library, text, &mut work[0..end]) {
+        Both::Refused { .. } => blank(),
+        Both::Done(t) => name_read(library, text, &work[0..t], k),
+    }
+}
+
+// The name of the module with the number that a decision has; blank where there is none, or too little working memory is lent.
+pub fn module_name(library: &[u8], text: &[u8], work: &mut [u32], k: u32) -> Name
+    ensures { λ r. ⌜ Named r (now (work .exit)) (now (work .entry)) (two-texts (now (library .entry)) (now (text .entry))) k ⌝ }
+{
+    let size = memory_size();
+    if work.len() < size {
+        memory::zero_all(work);
+        return blank();
+    }
+    let r = name_in_texts(library, text, work, k);
+    memory::zero_all(work);
+    r
+}

@@ -1,3 +1,0 @@
-pub mod PairCases
-pub mod SearchCases
-pub mod VerdictCases

@@ -1,2 +1,0 @@
-pub mod Clashes
-pub mod Consistent

@@ -1,0 +1,18 @@
+-- `clause::bound` meets its contract.
+-- Assumes nothing.
+use Rattle.clause.specs.WholeSteps.{hidden-step}
+use Rattle.clause.proofs.Cases.{whole}
+use borrow.Author.Needs.{needs}
+use Rattle.clause.proofs.bound.Statement.{statement}
+use Rattle.clause.proofs.bound.Tie as tie
+
+pub bound-spec : {M : Type 1} → statement M
+bound-spec =
+    tie.close
+    (tie.spec
+    (λ c κs. search needs)  -- bound-front-requires
+    (λ c κs. search (hidden-step, c .before .before .before .bound-front .ensures, c .before .before .before .before .before .before .before .before .pre, needs))  -- bound-hidden-requires
+    (λ c κs. search needs)  -- checked-requires
+    (λ c. search needs)  -- same-length
+    (λ c. search whole)  -- returns
+    )

@@ -1,0 +1,10 @@
+pub mod Rooms
+pub mod Binding
+pub mod Places
+pub mod ActualNotes
+pub mod OwnSteps
+pub mod VisibleSteps
+pub mod HiddenSteps
+pub mod WholeSteps
+pub mod Outcomes
+pub mod Renaming

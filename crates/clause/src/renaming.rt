@@ -1,0 +1,84 @@
+// A form renamed, 14, and a form united with another: each is made in a block, and checked.
+use clause_checks::renamings::wrong_renaming;
+use clause_translation::Mode;
+use clause_translation::modes;
+use form::Block;
+use form::Form;
+use form::Made;
+use form::Verdict;
+use unite::empty_form;
+use unite::unite;
+use unite_checks::checked::checked;
+ghost use lib.ListN.{length};
+ghost use Rattle.text_names.specs.Joint.{joint};
+ghost use Rattle.unite_checks.specs.Steps.{MakeRoom, Renamed, RenamedForm, JoinRoom, JoinedForm};
+
+// g, with the pairs' new names.
+fn renamed(
+    library: &[u8],
+    text: &[u8],
+    work: &mut [u32],
+    t: usize,
+    pairs: u32,
+    g: Form,
+    b: Block,
+) -> Made
+    requires { ⌜ MakeRoom (length (now work)) t g b ⌝ }
+    ensures { λ r. ⌜ RenamedForm (joint (now (library .entry)) (now (text .entry))) t (now (work .entry)) pairs g b r (now (work .exit)) ⌝ }
+{
+    let m = Mode {
+        kind: modes::RENAMING,
+        pairs,
+        parameter: 0,
+        visible: 0,
+        count: 0,
+    };
+    let e = empty_form(b);
+    let f = unite(library, text, work, t, m, g, e, b);
+    checked(library, text, work, t, f, b)
+}
+
+// The renaming of g by the pairs on the tape from `pairs` on: 14.
+pub fn rename(
+    library: &[u8],
+    text: &[u8],
+    work: &mut [u32],
+    t: usize,
+    pairs: u32,
+    g: Form,
+    b: Block,
+) -> Made
+    requires { ⌜ MakeRoom (length (now work)) t g b ⌝ }
+    ensures { λ r. ⌜ Renamed (joint (now (library .entry)) (now (text .entry))) t (now (work .entry)) pairs g b r (now (work .exit)) ⌝ }
+{
+    let visible = g.visible;
+    let count = g.visible_count;
+    match wrong_renaming(library, text, work, t, pairs, visible, count) {
+        Verdict::Stop(k, w) => Made::Refused(k, w),
+        Verdict::Fine => renamed(library, text, work, t, pairs, g, b),
+    }
+}
+
+// g united with f, which lies in the block.
+pub fn join(
+    library: &[u8],
+    text: &[u8],
+    work: &mut [u32],
+    t: usize,
+    g: Form,
+    f: Form,
+    b: Block,
+) -> Made
+    requires { ⌜ JoinRoom (length (now work)) t g f b ⌝ }
+    ensures { λ r. ⌜ JoinedForm (joint (now (library .entry)) (now (text .entry))) t (now (work .entry)) g f b r (now (work .exit)) ⌝ }
+{
+    let m = Mode {
+        kind: modes::AS_IS,
+        pairs: 0,
+        parameter: 0,
+        visible: 0,
+        count: 0,
+    };
+    let u = unite(library, text, work, t, m, g, f, b);
+    checked(library, text, work, t, u, b)
+}

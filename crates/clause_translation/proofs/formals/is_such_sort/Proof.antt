@@ -1,0 +1,17 @@
+-- `clause_translation::formals::is_such_sort` meets its contract.
+-- Assumes nothing.
+use Rattle.clause_translation.proofs.FormalItems.{tests}
+use borrow.Author.Needs.{needs}
+use Rattle.clause_translation.proofs.formals.is_such_sort.Statement.{statement}
+use Rattle.clause_translation.proofs.formals.is_such_sort.Tie as tie
+
+pub is-such-sort-spec : {M : Type 1} → statement M
+is-such-sort-spec =
+    tie.close
+    (tie.spec
+    (λ c κs. search needs)  -- in-parameter-requires
+    (λ c κs. search needs)  -- same-word-requires
+    (λ c. search tests)  -- returns
+    (λ c. search tests)  -- returns-2
+    (λ c. search tests)  -- returns-3
+    )

@@ -1,3 +1,0 @@
-pub mod Environment
-pub mod Growing
-pub mod Starting

@@ -1,0 +1,172 @@
+-- One law for each way through the code.
+use mathlib.Core.Path.{_≡_, sym, ap, _∙_, subst}
+use mathlib.Core.Bool.{Bool, true, false}
+use mathlib.Core.List.{List}
+use lib.Dec.{eqb}
+use Prim.Native.Nat.{ℕ, zero, suc, _+_, _-_, _≤_, _<_}
+use native.Mathlib.Omega.{arith}
+use mir.Syntax.{w32}
+use mir.Val.{Fits}
+use borrow.Author.Needs.{needs}
+use lib.ListN.{length, take, drop, getD, length-take}
+use Rattle.meaning.specs.Lists.{pick}
+use Rattle.meaning.specs.Normal.{empty}
+use Rattle.meaning.specs.Checks.{Check, fine, _>>_}
+use Rattle.meaning.specs.Evaluate.{names-right, imported}
+use Rattle.meaning.specs.Reached.{total-of}
+use Rattle.tape.specs.Tape.{import-role}
+use Rattle.form_rows.specs.Entries.{role-at, next-with}
+use Rattle.form.specs.declared.Form.{Form}
+use Rattle.form.specs.declared.Block.{Block}
+use Rattle.form.specs.declared.Culprit.{Culprit}
+use Rattle.form.specs.declared.Made.{Made}
+use Rattle.form.specs.declared.Made.the-variants.{Done}
+use Rattle.form.specs.declared.Verdict.{Verdict}
+use Rattle.form.specs.declared.Verdict.the-variants.{Fine, Stop}
+use Rattle.form.specs.Memory.{part}
+use Rattle.form.specs.Verdicts.{culprit-of, told}
+use Rattle.form.specs.Forms.{Stands}
+use Rattle.form.specs.Blocks.{MadeThere}
+use Rattle.form_layout.specs.Layout.{joining-block, tape-end, kept-start}
+use Rattle.modules.specs.declared.Heads.{Heads}
+use Rattle.modules.specs.Modules.{declared, named-in}
+use Rattle.own_declarations.specs.Scans.{walked}
+use Rattle.own_declarations.specs.Once.{once-at}
+use Rattle.unite.specs.United.{empty-in}
+use Rattle.unite.specs.Standing.{empty-stands}
+use Rattle.unite_checks.specs.Made.{makes-as, stops, goes-on}
+use Rattle.imports.specs.Spelling.{ImportsAt}
+use Rattle.imports.specs.Expressions.{ImportsRoom, ImportsMade, all-imported}
+use Rattle.own_completing.specs.declared.Totals.{Totals}
+use Rattle.own_completing.specs.Room.{StillRight}
+use Rattle.evaluate_storing.specs.Places.{StoreRoom}
+use Rattle.evaluate_storing.specs.Storing.{Stored}
+use Rattle.evaluate_module.specs.declared.states.State.{State}
+use Rattle.evaluate_module.specs.declared.evaluate.Stepped.{Stepped}
+use Rattle.evaluate_module.specs.declared.evaluate.Stepped.the-variants.{Refused as NotKept}
+use Rattle.evaluate_module.specs.States.{first-state, with-form, KeptRoom, KeptState}
+use Rattle.evaluate_module.specs.Steps.{first-checks, ImportedRoom, Imported}
+use Rattle.evaluate_module.specs.Completes.{CompletedRoom, completed-refused, complete-room, completed-all}
+use Rattle.evaluate_module.specs.Stepping.{Stepping}
+use Rattle.evaluate_module.specs.FirstSteps.{refused-first, passed-first}
+use Rattle.evaluate_module.specs.Next.{LastStepping, last-completed, last-refused, kept-room, last-kept}
+
+-- ---- one check after the other
+
+told-stop : (text : List ℕ) (a b : Check) (v : Verdict) (k : ℕ) (x : Culprit) → told text v ≡ a → v ≡ Stop k x → told text (Stop k x) ≡ (a >> b)
+unfolding told
+told-stop text a b v k x e h = sym (stops a b k (culprit-of text x) (sym e ∙ ap (told text) h))
+
+told-fine : (text : List ℕ) (a b : Check) (v r : Verdict) → told text v ≡ a → v ≡ Fine → told text r ≡ b → told text r ≡ (a >> b)
+unfolding told
+told-fine text a b v r e h q = q ∙ sym (goes-on a b (sym e ∙ ap (told text) h))
+
+module _ (text tape : List ℕ) (h : Heads) (k from end : ℕ) where
+  pub names-stop : (v : Verdict) (j : ℕ) (x : Culprit) → told text v ≡ names-right (declared text tape h) (take k (declared text tape h)) (named-in text tape h k)
+      → v ≡ Stop j x → told text (Stop j x) ≡ first-checks text tape h k from end
+  unfolding first-checks
+  names-stop v j x e q = told-stop text _ _ v j x e q
+
+  pub names-fine : (v r : Verdict) → told text v ≡ names-right (declared text tape h) (take k (declared text tape h)) (named-in text tape h k) → v ≡ Fine
+      → told text r ≡ walked (once-at text tape from) from (end - from) → told text r ≡ first-checks text tape h k from end
+  unfolding first-checks
+  names-fine v r e q z = told-fine text _ _ v r e q z
+
+-- ---- imports
+
+next-within : (role : ℕ) (tape : List ℕ) (c i : ℕ) → next-with role tape i c ≤ i + c
+unfolding next-with pick
+next-within role tape zero i = omega arith
+next-within role tape (suc c) i = go (eqb (role-at tape i) role) (next-within role tape c (suc i))
+  where
+    go : (b : Bool) → next-with role tape (suc i) c ≤ suc i + c → pick b i (next-with role tape (suc i) c) ≤ i + suc c
+    go true h = omega arith
+    go false h = omega arith
+
+place-small : (w : List ℕ) (t : ℕ) (h : Heads) (from end i : ℕ) → ImportedRoom w t h from end → i ≡ next-with import-role (part w 0 t) from (end - from)
+    → i < 131072
+unfolding tape-end
+place-small w t h from end i c e =
+    let l = next-within 11 (part w 0 t) (end - from) from in
+    let k = c .ground .tape in
+    omega (arith, e, l, k, c .begins, c .within)
+
+nothing-there : (b : Block) (f : Form) → f ≡ empty-in b → MadeThere b f
+unfolding empty-in
+nothing-there b f e = rw e (omega arith)
+
+pub place-fits : (w : List ℕ) (t : ℕ) (h : Heads) (from end i : ℕ) → ImportedRoom w t h from end → i ≡ next-with import-role (part w 0 t) from (end - from)
+    → Fits w32 i
+place-fits w t h from end i c e = omega (arith, place-small w t h from end i c e)
+
+pub imports-room : (w : List ℕ) (t : ℕ) (h : Heads) (from end i j : ℕ) (b : Block) (f : Form) → ImportedRoom w t h from end
+    → i ≡ next-with import-role (part w 0 t) from (end - from) → j ≡ i → b ≡ joining-block → f ≡ empty-in b → ImportsRoom w t h j (Done f)
+imports-room w t h from end i j b f c e q z g = record {
+  ground = c .ground;
+  there = nothing-there joining-block f (g ∙ ap empty-in z);
+  place = subst (λ (n : ℕ). n < 131072) (sym q) (place-small w t h from end i c e);
+}
+
+pub all-made : (text : List ℕ) (t : ℕ) (w w′ : List ℕ) (h : Heads) (from end i j : ℕ) (b : Block) (f : Form) (r : Made)
+    → i ≡ next-with import-role (part w 0 t) from (end - from) → j ≡ i → b ≡ joining-block → f ≡ empty-in b → ImportsMade text t w h 32768 j (Done f) r w′
+    → Imported text t w h from end r w′
+all-made text t w w′ h from end i j b f r e q z g x = record {
+  kept = x .kept;
+  made-in = x .made-in;
+  made = λ is env at few clauses v.
+      makes-as text (part w′ 0 t) w′ r _ (imported env is) (sym (all-imported env is))
+      (x .made is env (fine empty) (subst (λ (n : ℕ). ImportsAt text (part w 0 t) n is) (sym (q ∙ e)) at) few clauses v
+      (subst (λ (k : Form). Stands text (part w 0 t) w k empty) (sym g) (empty-stands text (part w 0 t) w b)));
+}
+
+pub imports-of : (w : List ℕ) (t : ℕ) (h : Heads) (from end : ℕ) (totals : Totals) → CompletedRoom w t h from end totals → ImportedRoom w t h from end
+imports-of w t h from end totals c = c .imports
+
+-- ---- what is kept
+
+pub summed : (totals : Totals) (f : Form) (items : ℕ) → items ≡ f .«visible_count» + f .«hidden_count»
+    → record { items = totals .items + items; equations = totals .equations + f .«equation_count»; nodes = totals .nodes + f .«node_count» } ≡ with-form totals f
+unfolding with-form
+summed totals f items e = rw e
+
+pub store-room : (size t k : ℕ) (f : Form) (s : State) → KeptRoom size t k f s → StoreRoom size t k f (s .cursor)
+store-room size t k f s c = c .store
+
+pub sums-right : (size t k : ℕ) (f : Form) (s : State) → KeptRoom size t k f s → StillRight (s .totals) (Done f)
+sums-right size t k f s c = c .right
+
+pub kept-more : (text : List ℕ) (t k : ℕ) (f : Form) (s : State) (c : ℕ) (sums : Totals) (w w′ : List ℕ) → sums ≡ with-form (s .totals) f
+    → Stored text t k f (s .cursor) c w w′ → KeptState text t k f s (record { cursor = c; totals = sums }) w w′
+kept-more text t k f s c sums w w′ e x = record { stored = x; totals = e }
+
+pub nothing-kept : (c : ℕ) → c ≡ kept-start → record { cursor = c; totals = record { items = 0; equations = 0; nodes = 0 } } ≡ first-state
+unfolding first-state
+nothing-kept c e = ap (λ (i : ℕ). record { cursor = i; totals = record { items = 0; equations = 0; nodes = 0 } }) e
+
+-- ---- the four steps
+
+module _ (text : List ℕ) (t : ℕ) (w : List ℕ) (h : Heads) (k from end : ℕ) (s : State) (v : Verdict) (begins : from ≡ getD (h .places) k 0)
+    (ends : end ≡ getD (h .places) (k + 1) 0) (checked : told text v ≡ first-checks text (part w 0 t) h k from end) where
+  checks-there : first-checks text (part w 0 t) h k (getD (h .places) k 0) (getD (h .places) (k + 1) 0) ≡ told text v
+  checks-there = rw (← begins, ← ends) (sym checked)
+
+  short : length (part w 0 t) ≤ t
+  short = omega (arith, length-take (t - 0) (drop 0 w))
+
+  pub steps-stop : (j : ℕ) (y : Culprit) → v ≡ Stop j y → Stepping text t w h k s (NotKept j y) w
+  unfolding told
+  steps-stop j y e = record {
+    meant = λ ms env m ys earlier sofar d f.
+        refused-first text (part w 0 t) t h ms (sofar .told) short k m ys d earlier f env (total-of env) j (culprit-of text y)
+        (checks-there ∙ ap (told text) e);
+  }
+
+  pub steps-on : (r : Stepped) (w′ : List ℕ) → v ≡ Fine → LastStepping text t w h k s r w′ → Stepping text t w h k s r w′
+  unfolding told
+  steps-on r w′ e x = record {
+    meant = λ ms env m ys earlier sofar d f.
+        x .meant ms env m ys earlier sofar d
+        (passed-first text (part w 0 t) t h ms (sofar .told) short k m ys d earlier f env (total-of env) (checks-there ∙ ap (told text) e));
+  }
+
+pub ruleset cases = (nothing-kept, names-stop, names-fine, place-fits, imports-room, all-made, imports-of, completed-refused, complete-room, completed-all, summed, store-room, sums-right, kept-more, last-completed, last-refused, kept-room, last-kept, steps-stop, steps-on, needs)

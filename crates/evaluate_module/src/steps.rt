@@ -1,0 +1,86 @@
+// The four steps for one module: the first two need its entries alone; imports are united, and its own declarations joined.
+use form::Made;
+use form::Verdict;
+use form_layout::joining_block;
+use form_rows::entries::next_with;
+use imports::imports::imports_from;
+use modules::Heads;
+use modules::names_right;
+use own_completing::Totals;
+use own_completing::complete::complete;
+use own_declarations::once::declared_once;
+use tape::roles;
+use unite::empty_form;
+ghost use mathlib.Core.Path.{_≡_};
+ghost use lib.ListN.{length};
+ghost use Rattle.text_names.specs.Joint.{joint};
+ghost use Rattle.form.specs.Verdicts.{told};
+ghost use Rattle.evaluate_module.specs.Steps.{first-checks, ImportedRoom, Imported};
+ghost use Rattle.evaluate_module.specs.Completes.{CompletedRoom, CompletedAll};
+
+// Steps 1 and 2 for module k, whose entries stand from `from` up to `end`: 7, 8, 9.
+pub fn first_checks(
+    library: &[u8],
+    text: &[u8],
+    tape: &[u32],
+    h: Heads,
+    k: u32,
+    from: u32,
+    end: u32,
+) -> Verdict
+    ensures { λ r. ⌜ told (joint (now (library .entry)) (now (text .entry))) r ≡ first-checks (joint (now (library .entry)) (now (text .entry))) (now (tape .entry)) h k from end ⌝ }
+{
+    match names_right(library, text, tape, h, k) {
+        Verdict::Stop(n, w) => Verdict::Stop(n, w),
+        Verdict::Fine => declared_once(library, text, tape, from, end),
+    }
+}
+
+// Step 3, and the union of step 4: what the module whose entries stand from `from` up to `end` imports.
+pub fn imported(
+    library: &[u8],
+    text: &[u8],
+    work: &mut [u32],
+    t: usize,
+    h: Heads,
+    from: u32,
+    end: u32,
+) -> Made
+    requires { ⌜ ImportedRoom (now work) t h from end ⌝ }
+    ensures { λ r. ⌜ Imported (joint (now (library .entry)) (now (text .entry))) t (now (work .entry)) h from end r (now (work .exit)) ⌝ }
+{
+    let i = next_with(&work[0..t], roles::IMPORT, from as usize, end as usize);
+    let b = joining_block();
+    let nothing = empty_form(b);
+    imports_from(
+        library,
+        text,
+        work,
+        t,
+        h,
+        32768,
+        i as u32,
+        Made::Done(nothing),
+    )
+}
+
+// Steps 3 and 4 for module k, but for the order of the listing.
+pub fn completed(
+    library: &[u8],
+    text: &[u8],
+    work: &mut [u32],
+    t: usize,
+    h: Heads,
+    k: u32,
+    from: u32,
+    end: u32,
+    totals: Totals,
+) -> Made
+    requires { ⌜ CompletedRoom (now work) t h from end totals ⌝ }
+    ensures { λ r. ⌜ CompletedAll (joint (now (library .entry)) (now (text .entry))) t (now (work .entry)) h k from end totals r (now (work .exit)) ⌝ }
+{
+    match imported(library, text, work, t, h, from, end) {
+        Made::Refused(n, w) => Made::Refused(n, w),
+        Made::Done(f) => complete(library, text, work, t, k, from, end, f, totals),
+    }
+}

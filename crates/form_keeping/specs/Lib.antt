@@ -1,0 +1,4 @@
+pub mod Keeping
+pub mod Environment
+pub mod Growing
+pub mod Starting

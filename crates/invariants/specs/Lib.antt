@@ -1,0 +1,4 @@
+pub mod Nodes
+pub mod Limits
+pub mod HiddenItems
+pub mod HiddenEvaluated

@@ -1,1 +1,0 @@
-// What is read against the sizes of document 01: this crate has no code.

@@ -1,0 +1,18 @@
+-- `list::parts::put_hidden` meets its contract.
+-- Assumes nothing.
+use Rattle.list.specs.Lines.{hidden-text}
+use Rattle.list.proofs.Cases.{cases}
+use borrow.Author.Needs.{needs}
+use Rattle.list.proofs.parts.put_hidden.Statement.{statement}
+use Rattle.list.proofs.parts.put_hidden.Tie as tie
+
+pub put-hidden-spec : {M : Type 1} → statement M
+unfolding hidden-text
+put-hidden-spec =
+    tie.close
+    (tie.spec
+    (λ c κs. search needs)  -- put-hidden-items-requires
+    (λ c κs. search needs)  -- put-equations-requires
+    (λ c. search needs)  -- same-length
+    (λ c. search cases)  -- returns
+    )

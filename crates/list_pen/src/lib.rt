@@ -1,0 +1,142 @@
+// Bytes written to lent output. The same calls count and write: lent no output, they only move the place; lent less than the limit asks,
+// they write the part that ends one before it.
+use text_names::joint::leading;
+use text_names::joint::token_room;
+use text_names::joint::trailing;
+ghost use mathlib.Core.Path.{_≡_};
+ghost use mathlib.Core.List.{[], _∷_};
+ghost use Prim.Native.Nat.{_+_, _-_};
+ghost use Rattle.meaning.specs.Written.{digits, decimal, numbered};
+ghost use Rattle.text_names.specs.Word.{token-of, name-of};
+ghost use Rattle.text_names.specs.Joint.{joint};
+ghost use Rattle.list_pen.specs.Pen.{shown, pen, written, part};
+
+// How many places lie before a window of `size` places.
+fn places_before(limit: usize, size: usize) -> usize
+    ensures { λ r. ⌜ r ≡ limit - (size + 1) ⌝ }
+{
+    if size < limit {
+        return limit - size - 1;
+    }
+    0
+}
+
+// One byte at `at`, through a window behind so many places.
+fn show(out: &mut [u8], before: usize, at: usize, byte: u8)
+    ensures { λ _. ⌜ now (out .exit) ≡ shown before at byte (now (out .entry)) ⌝ }
+{
+    if before <= at {
+        let i = at - before;
+        if i < out.len() {
+            out[i] = byte;
+        }
+    }
+}
+
+// One byte at `at`. The next place; it never passes the limit.
+pub fn put(out: &mut [u8], at: usize, limit: usize, byte: u8) -> usize
+    ensures { λ r. ⌜ pen r (now (out .exit)) ≡ written limit (byte ∷ []) (pen at (now (out .entry))) ⌝ }
+{
+    if at < limit {
+        let before = places_before(limit, out.len());
+        show(out, before, at, byte);
+        return at + 1;
+    }
+    at
+}
+
+// The text's bytes from `start` on, `size` of them or as many as there are.
+pub fn put_bytes(
+    out: &mut [u8],
+    at: usize,
+    limit: usize,
+    text: &[u8],
+    start: usize,
+    size: usize,
+) -> usize
+    ensures { λ r. ⌜ pen r (now (out .exit)) ≡ written limit (part (now (text .entry)) start size) (pen at (now (out .entry))) ⌝ }
+{
+    let mut to = at;
+    let mut i = start;
+    let mut left = size;
+    while 0 < left {
+        if text.len() <= i {
+            return to;
+        }
+        to = put(out, to, limit, text[i]);
+        i += 1;
+        left -= 1;
+    }
+    to
+}
+
+// A whole text.
+pub fn put_text(out: &mut [u8], at: usize, limit: usize, text: &[u8]) -> usize
+    ensures { λ r. ⌜ pen r (now (out .exit)) ≡ written limit (now (text .entry)) (pen at (now (out .entry))) ⌝ }
+{
+    put_bytes(out, at, limit, text, 0, text.len())
+}
+
+// The token of the name w of the text and the library behind it; a word that reaches over the seam is written from both.
+fn put_token(out: &mut [u8], at: usize, limit: usize, library: &[u8], text: &[u8], w: u32) -> usize
+    ensures { λ r. ⌜ pen r (now (out .exit)) ≡ written limit (token-of (joint (now (library .entry)) (now (text .entry))) w) (pen at (now (out .entry))) ⌝ }
+{
+    let n = text.len();
+    let start = (w / 256) as usize;
+    let size = token_room(w);
+    if start < n {
+        let there = put_bytes(out, at, limit, text, start, size);
+        let left = n - start;
+        if left < size {
+            return put_bytes(out, there, limit, library, 0, size - left);
+        }
+        return there;
+    }
+    put_bytes(out, at, limit, library, start - n, size)
+}
+
+// The name w, with the underlines of an operator.
+pub fn put_name(
+    out: &mut [u8],
+    at: usize,
+    limit: usize,
+    library: &[u8],
+    text: &[u8],
+    w: u32,
+) -> usize
+    ensures { λ r. ⌜ pen r (now (out .exit)) ≡ written limit (name-of (joint (now (library .entry)) (now (text .entry))) w) (pen at (now (out .entry))) ⌝ }
+{
+    let a = put_bytes(out, at, limit, b"_", 0, leading(w));
+    let b = put_token(out, a, limit, library, text, w);
+    put_bytes(out, b, limit, b"_", 0, trailing(w))
+}
+
+// The digits of n, `size` of them at most.
+pub fn put_digits(out: &mut [u8], at: usize, limit: usize, n: usize, size: usize) -> usize
+    ensures { λ r. ⌜ pen r (now (out .exit)) ≡ written limit (digits size n) (pen at (now (out .entry))) ⌝ }
+{
+    if size == 0 {
+        return at;
+    }
+    if n < 10 {
+        return put(out, at, limit, (48 + n) as u8);
+    }
+    let to = put_digits(out, at, limit, n / 10, size - 1);
+    put(out, to, limit, (48 + n % 10) as u8)
+}
+
+// A number in decimal.
+pub fn put_number(out: &mut [u8], at: usize, limit: usize, n: u32) -> usize
+    ensures { λ r. ⌜ pen r (now (out .exit)) ≡ written limit (decimal n) (pen at (now (out .entry))) ⌝ }
+{
+    put_digits(out, at, limit, n as usize, 10)
+}
+
+// The number of a hidden item.
+pub fn put_numbered(out: &mut [u8], at: usize, limit: usize, n: u32) -> usize
+    ensures { λ r. ⌜ pen r (now (out .exit)) ≡ written limit (numbered n) (pen at (now (out .entry))) ⌝ }
+{
+    let a = put(out, at, limit, b'{');
+    let b = put_number(out, a, limit, n);
+    put(out, b, limit, b'}')
+}

@@ -1,0 +1,15 @@
+-- `list_terms::sorts::is_sort_row` meets its contract.
+-- Assumes nothing.
+use Rattle.list_terms.proofs.Cases.{cases}
+use borrow.Author.Needs.{needs}
+use Rattle.list_terms.proofs.sorts.is_sort_row.Statement.{statement}
+use Rattle.list_terms.proofs.sorts.is_sort_row.Tie as tie
+
+pub is-sort-row-spec : {M : Type 1} → statement M
+is-sort-row-spec =
+    tie.close
+    (tie.spec
+    (λ c κs. search needs)  -- read-row-requires
+    (λ c κs. search needs)  -- is-hidden-sort-requires
+    (λ c. search cases)  -- returns
+    )

@@ -1,0 +1,41 @@
+-- The stages one after the other.
+use mathlib.Core.Path.{_≡_}
+use mathlib.Core.List.{List}
+use Prim.Native.Nat.{ℕ, _+_, _≤_}
+use borrow.Author.Needs.{needs}
+use lib.ListN.{length}
+use Rattle.form.specs.declared.Form.{Form}
+use Rattle.form.specs.declared.Block.{Block}
+use Rattle.form.specs.declared.Made.{Made}
+use Rattle.own_declarations.specs.declared.Own.{Own}
+use Rattle.own_items.specs.declared.OwnRows.{OwnRows}
+use Rattle.own_equations.specs.Own.{owned, own-at}
+use Rattle.unite.specs.United.{with-items}
+use Rattle.own_completing.specs.declared.Totals.{Totals}
+use Rattle.own_completing.specs.Said.{said-form, RoomMade, MadeJoined}
+use Rattle.own_completing.specs.Completed.{Rooms, Counted, EquationsJoined}
+use Rattle.own_completing.specs.EquationLaws.{said-room, typed-few, room-made, equations-completed}
+use Rattle.own_completing.specs.ItemLaws.{own-room, own-ready, counted, ready-still, check-room, rooms-still, items-refused, items-fine, rooms-laid, completed}
+
+-- ---- `complete_equations`: the forms as what made them says
+
+module _ (t : ℕ) (own : Own) (f : Form) (counts : OwnRows) (b : Block) (scratch : ℕ) (totals : Totals) (said : Form) (few : Counted own f counts)
+    (es : said ≡ said-form f counts scratch) where
+  pub type-room : (size : ℕ) → Rooms size t own f b scratch totals → said .«visible_count» + said .«hidden_count» ≤ 65536
+  type-room size room = rw es (typed-few t own f counts b scratch totals few size room)
+
+  module _ (text w : List ℕ) (home : ℕ) (room : Rooms (length w) t own f b scratch totals) (made : Made) (w₁ : List ℕ)
+      (typed : owned made w₁ ≡ own-at text t said home (own .from) (own .end) w) (seen : Form)
+      (eq : seen ≡ with-items f (counts .«parameter_count») (counts .«visible_count») (f .«hidden_count»)) where
+    pub made-rooms : (size : ℕ) → size ≡ length w → RoomMade size t made seen b
+    made-rooms size e = room-made t own f counts b scratch totals few text w home room made w₁ (rw es at typed) size seen e eq
+
+    pub equations-done : (r : Made) (w′ : List ℕ) → MadeJoined text t w₁ made seen b totals r w′
+        → EquationsJoined text t w home own f counts b scratch totals r w′
+    equations-done r w′ x = equations-completed t own f counts b scratch totals few text w home room made w₁ (rw es at typed) r w′ (rw eq at x)
+
+pub ruleset equations-stage = (said-room, type-room, made-rooms, equations-done, needs)
+
+pub ruleset items-stage = (own-room, own-ready, counted, ready-still, check-room, rooms-still, items-refused, items-fine, needs)
+
+pub ruleset whole = (rooms-laid, completed, needs)

@@ -1,0 +1,307 @@
+// Terms: primaries and the operators that join them. A primary is a name, a name with one to eight arguments, or a term in brackets. Terms and
+// argument lists call each other, with the depth falling.
+use super::kept::begins;
+use super::kept::entries_of;
+use super::kept::follows;
+use super::kept::keep;
+use super::kept::kept;
+use super::kept::not_here;
+use super::kept::over;
+use super::kept::pass;
+use super::kept::words;
+use meaning::numbers;
+use read_entries::Place;
+use read_entries::Reading;
+use read_entries::forms;
+use read_entries::roles;
+use read_entries::steps::mark;
+use read_entries::steps::next_in;
+use read_entries::steps::next_is;
+use read_entries::steps::next_short;
+use read_entries::steps::read_name;
+use read_entries::steps::read_operator;
+use read_entries::steps::refuse;
+use read_entries::steps::step;
+use read_entries::steps::unexpected;
+use types::Token;
+ghost use mathlib.Core.Path.{_≡_};
+ghost use Rattle.meaning.specs.Names.{byte};
+ghost use Rattle.meaning.specs.Grammar.{begins-term};
+ghost use Prim.Native.Nat.{_-_, _≤_};
+ghost use lib.ListN.{length};
+ghost use Rattle.read_entries.specs.Model.{out, onward, stay, mark, pushed, inserted, node-role, counted, term-name, prefixed, joins, separated, term, primary};
+ghost use Rattle.read_entries.specs.Steps.{still, next-role};
+ghost use Rattle.tape.specs.Tape.{close-role};
+ghost use Rattle.read_terms.specs.Kept.{kept};
+ghost use Rattle.read_terms.specs.Parts.{operator-in, operands-from, applied};
+
+// What a name in a term is, by the token after it.
+fn node_role(text: &[u8], t: Token) -> u8
+    ensures { λ r. ⌜ r ≡ node-role (now (text .entry)) t ⌝ }
+{
+    let end = t.end;
+    let after = text_tokens::next_token(text, end);
+    let kind = after.kind;
+    if kind == b'(' {
+        return roles::HEAD;
+    }
+    roles::ALONE
+}
+
+// One node of the equation more, if it may have one.
+fn counted(at: Reading) -> Reading
+    ensures { λ r. ⌜ r ≡ still (counted stay) at ⌝ }
+{
+    match at {
+        Reading::Refused { number, place } => Reading::Refused { number, place },
+        Reading::Done(p) => {
+            let nodes = p.nodes;
+            if numbers::NODE_LIMIT <= nodes {
+                return refuse(at, numbers::OVER_SIZE);
+            }
+            let token = p.token;
+            let entries = p.entries;
+            Reading::Done(Place {
+                token,
+                nodes: nodes + 1,
+                entries,
+            })
+        }
+    }
+}
+
+// What the name that is next is.
+fn next_role(text: &[u8], at: Reading) -> u8
+    ensures { λ r. ⌜ r ≡ next-role (now (text .entry)) at ⌝ }
+{
+    match at {
+        Reading::Refused { number, place } => roles::ALONE,
+        Reading::Done(p) => {
+            let token = p.token;
+            node_role(text, token)
+        }
+    }
+}
+
+// A name in a term.
+fn term_name(text: &[u8], tape: &mut [u32], at: Reading) -> Reading
+    ensures { λ r. ⌜ out r (now (tape .exit)) ≡ onward at (now (tape .entry)) (term-name (now (text .entry))) ⌝ }
+{
+    if next_is(at, text_tokens::IDENT) {
+        let role = next_role(text, at);
+        return read_name(text, tape, counted(at), role);
+    }
+    unexpected(at)
+}
+
+// The entry of a prefix operator, if one is next.
+fn read_prefix(text: &[u8], tape: &mut [u32], at: Reading) -> Reading
+    ensures { λ r. ⌜ out r (now (tape .exit)) ≡ onward at (now (tape .entry)) (prefixed (now (text .entry))) ⌝ }
+{
+    if next_is(at, text_tokens::OPERATOR) {
+        return read_operator(text, tape, counted(at), forms::PREFIX, roles::PREFIX);
+    }
+    at
+}
+
+// A word at i, and those from there on moved up by one, as far as `end`.
+fn push(tape: &mut [u32], i: usize, end: usize, word: u32)
+    requires { ⌜ end ≤ length (now tape) ⌝ }
+    ensures { λ r. ⌜ now (tape .exit) ≡ pushed (end - i) i word (now (tape .entry)) ⌝ }
+{
+    let mut at = i;
+    let mut carried = word;
+    while at < end {
+        let next = tape[at];
+        tape[at] = carried;
+        carried = next;
+        at += 1;
+    }
+}
+
+// A word more on the tape before those from `start` on, where there is room.
+fn insert(tape: &mut [u32], at: Reading, start: usize, word: u32) -> Reading
+    ensures { λ r. ⌜ out r (now (tape .exit)) ≡ onward at (now (tape .entry)) (inserted start word) ⌝ }
+{
+    match at {
+        Reading::Refused { number, place } => Reading::Refused { number, place },
+        Reading::Done(p) => {
+            let n = p.entries;
+            if n < tape.len() {
+                push(tape, start, n + 1, word);
+                let token = p.token;
+                let nodes = p.nodes;
+                return Reading::Done(Place {
+                    token,
+                    nodes,
+                    entries: n + 1,
+                });
+            }
+            Reading::Done(p)
+        }
+    }
+}
+
+// The operator that is next, as an infix one: its entry goes before what it joins to what follows, the entries from `start` on.
+fn join(text: &[u8], tape: &mut [u32], at: Reading, start: usize) -> Reading
+    ensures { λ r. ⌜ out r (now (tape .exit)) ≡ onward at (now (tape .entry)) (joins (now (text .entry)) start) ⌝ }
+{
+    if next_is(at, text_tokens::OPERATOR) {
+        let a = counted(at);
+        if next_short(a) {
+            let w = next_in(a, forms::INFIX);
+            let b = insert(tape, a, start, w * 32 + roles::INFIX as u32);
+            return step(text, b);
+        }
+        return refuse(a, numbers::OVER_SIZE);
+    }
+    unexpected(at)
+}
+
+// A name in a term, from the words on.
+fn pass_name(text: &&[u8], tape: &mut [u32], state: &mut [usize; 6])
+    ensures { λ r. ⌜ out (kept (now (state .exit))) (now (tape .exit)) ≡ onward (kept (now (state .entry))) (now (tape .entry)) (term-name (now (now (text .entry)))) ⌝ }
+{
+    let at = kept(state);
+    let next = term_name(*text, tape, at);
+    keep(state, next);
+}
+
+// The end of arguments.
+fn close(tape: &mut [u32], state: &mut [usize; 6])
+    ensures { λ r. ⌜ out (kept (now (state .exit))) (now (tape .exit)) ≡ onward (kept (now (state .entry))) (now (tape .entry)) (mark close-role) ⌝ }
+{
+    let at = kept(state);
+    let next = mark(tape, at, roles::CLOSE);
+    keep(state, next);
+}
+
+// The operator that is next, as an infix one that joins the entries from `start` on, or as a prefix one, if it is there. One function for both, so
+// that what it takes on the stack is in no level of a term.
+fn pass_operator(
+    text: &&[u8],
+    tape: &mut [u32],
+    state: &mut [usize; 6],
+    start: usize,
+    between: bool,
+)
+    ensures { λ r. ⌜ out (kept (now (state .exit))) (now (tape .exit)) ≡ onward (kept (now (state .entry))) (now (tape .entry)) (operator-in (now (now (text .entry))) start between) ⌝ }
+{
+    if between {
+        let left = kept(state);
+        let joined = join(*text, tape, left, start);
+        keep(state, joined);
+        return;
+    }
+    if follows(state, text_tokens::OPERATOR) {
+        let at = kept(state);
+        let next = read_prefix(*text, tape, at);
+        keep(state, next);
+        return;
+    }
+}
+
+// A name alone, as no bracket may be open. It is apart from the primaries that may have some, so that a name is read in no level's frame.
+fn read_flat(text: &&[u8], tape: &mut [u32], state: &mut [usize; 6])
+    ensures { λ r. ⌜ out (kept (now (state .exit))) (now (tape .exit)) ≡ onward (kept (now (state .entry))) (now (tape .entry)) (primary (now (now (text .entry))) 0) ⌝ }
+{
+    if follows(state, b'(') {
+        over(state);
+        return;
+    }
+    pass_name(text, tape, state);
+    if follows(state, b'(') {
+        over(state);
+        return;
+    }
+}
+
+// A term in which `depth` more brackets may be open: a primary, perhaps after a prefix operator, and what infix operators join to it.
+fn read_deep(text: &&[u8], tape: &mut [u32], state: &mut [usize; 6], depth: usize)
+    ensures { λ r. ⌜ out (kept (now (state .exit))) (now (tape .exit)) ≡ onward (kept (now (state .entry))) (now (tape .entry)) (term (now (now (text .entry))) depth) ⌝ }
+{
+    let start = entries_of(state);
+    pass_operator(text, tape, state, start, false);
+    read_operands(text, tape, state, start, depth);
+}
+
+// A primary, and operators, each with the primary that it joins to the entries from `start` on.
+fn read_operands(text: &&[u8], tape: &mut [u32], state: &mut [usize; 6], start: usize, depth: usize)
+    ensures { λ r. ⌜ out (kept (now (state .exit))) (now (tape .exit)) ≡ onward (kept (now (state .entry))) (now (tape .entry)) (operands-from (now (now (text .entry))) start depth) ⌝ }
+{
+    let mut left: usize = numbers::NODE_LIMIT;
+    loop {
+        read_primary(text, tape, state, depth);
+        if follows(state, text_tokens::OPERATOR) {
+            if left == 0 {
+                over(state);
+                return;
+            }
+            pass_operator(text, tape, state, start, true);
+            left -= 1;
+        } else {
+            return;
+        }
+    }
+}
+
+// A name, a name with arguments, or a term in brackets.
+fn read_primary(text: &&[u8], tape: &mut [u32], state: &mut [usize; 6], depth: usize)
+    ensures { λ r. ⌜ out (kept (now (state .exit))) (now (tape .exit)) ≡ onward (kept (now (state .entry))) (now (tape .entry)) (primary (now (now (text .entry))) depth) ⌝ }
+{
+    if depth == 0 {
+        read_flat(text, tape, state);
+        return;
+    }
+    if follows(state, b'(') {
+        pass(text, state, b'(');
+        read_deep(text, tape, state, depth - 1);
+        pass(text, state, b')');
+        return;
+    }
+    pass_name(text, tape, state);
+    if follows(state, b'(') {
+        read_applied(text, tape, state, depth - 1);
+        return;
+    }
+}
+
+// The arguments of a name, in their brackets.
+fn read_applied(text: &&[u8], tape: &mut [u32], state: &mut [usize; 6], depth: usize)
+    ensures { λ r. ⌜ out (kept (now (state .exit))) (now (tape .exit)) ≡ onward (kept (now (state .entry))) (now (tape .entry)) (applied (now (now (text .entry))) depth) ⌝ }
+{
+    pass(text, state, b'(');
+    read_arguments(text, tape, state, depth, numbers::ARGUMENT_LIMIT);
+    pass(text, state, b')');
+    close(tape, state);
+}
+
+// Arguments, of which `left` more may come.
+fn read_arguments(text: &&[u8], tape: &mut [u32], state: &mut [usize; 6], depth: usize, left: usize)
+    ensures { λ r. ⌜ out (kept (now (state .exit))) (now (tape .exit)) ≡ onward (kept (now (state .entry))) (now (tape .entry)) (separated (now (now (text .entry))) left (byte ",") begins-term (term (now (now (text .entry))) depth)) ⌝ }
+{
+    let mut rest = left;
+    while 0 < rest {
+        read_deep(text, tape, state, depth);
+        if follows(state, b',') {
+            pass(text, state, b',');
+            rest -= 1;
+        } else {
+            return;
+        }
+    }
+    if begins(state) {
+        over(state);
+        return;
+    }
+    not_here(state);
+}
+
+// A term in which `depth` more brackets may be open.
+pub fn read_term(text: &[u8], tape: &mut [u32], at: Reading, depth: usize) -> Reading
+    ensures { λ r. ⌜ out r (now (tape .exit)) ≡ onward at (now (tape .entry)) (term (now (text .entry)) depth) ⌝ }
+{
+    let mut state = words(at);
+    read_deep(&text, tape, &mut state, depth);
+    kept(&state)
+}

@@ -1,0 +1,16 @@
+-- `text_names::joint::has_room` meets its contract.
+-- Assumes nothing.
+use Rattle.text_names.proofs.Joined.{cases}
+use borrow.Author.Needs.{needs}
+use Rattle.text_names.proofs.joint.has_room.Statement.{statement}
+use Rattle.text_names.proofs.joint.has_room.Tie as tie
+
+pub has-room-spec : {M : Type 1} → statement M
+has-room-spec =
+    tie.close
+    (tie.spec
+    (λ c. search needs)  -- cast-result
+    (λ c. search needs)  -- add-result
+    (λ c. search cases)  -- returns
+    (λ c. search cases)  -- returns-2
+    )

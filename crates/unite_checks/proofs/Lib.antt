@@ -1,0 +1,4 @@
+pub mod PairCases
+pub mod SearchCases
+pub mod VerdictCases
+pub mod Checks

@@ -1,0 +1,14 @@
+-- `unite_checks::pairs::other_origin` meets its contract. Assumes nothing.
+use Rattle.unite_checks.proofs.PairCases.{cases}
+use borrow.Author.Needs.{needs}
+use Rattle.unite_checks.proofs.pairs.other_origin.Statement.{statement}
+use Rattle.unite_checks.proofs.pairs.other_origin.Tie as tie
+
+pub other-origin-spec : {M : Type 1} → statement M
+other-origin-spec =
+    tie.close
+    (tie.spec
+    (λ c κs. search needs)  -- same-origin-requires
+    (λ c. search cases)  -- returns
+    (λ c. search cases)  -- returns-2
+    )

@@ -1,0 +1,15 @@
+-- `unite_checks::pairs::other_output` meets its contract. Assumes nothing.
+use Rattle.unite_checks.proofs.PairCases.{cases}
+use borrow.Author.Needs.{needs}
+use Rattle.unite_checks.proofs.pairs.other_output.Statement.{statement}
+use Rattle.unite_checks.proofs.pairs.other_output.Tie as tie
+
+pub other-output-spec : {M : Type 1} → statement M
+other-output-spec =
+    tie.close
+    (tie.spec
+    (λ c. search cases)  -- returns
+    (λ c. search cases)  -- returns-2
+    (λ c κs. search needs)  -- other-type-requires
+    (λ c. search cases)  -- returns-3
+    )
