@@ -18,8 +18,9 @@ use Rattle.answer.specs.declared.Answer.{Answer}
 use Rattle.answer.specs.Answers.{told, returned, told-call}
 use Rattle.answer.specs.Told.{refusal-leaves}
 use Rattle.memory.proofs.Cases.{same-zeros}
-use Rattle.asf.specs.Steps.{Answered, Spoken}
-use Rattle.asf.specs.Meant.{end-within, tape-room, unread-answered, read-spoken, tape-within, tape-small, asked-found, absent-answered, found-within, found-given, refused-answered, form-evaluated, listed-within, hidden-few, listed-answered, long-answered}
+use Rattle.answer_listing.specs.Answered.{Answered}
+use Rattle.asf.specs.Steps.{Spoken}
+use Rattle.asf.specs.Meant.{end-within, tape-room, unread-answered, read-spoken, tape-within, tape-small, asked-found, absent-answered, found-within, found-given, refused-answered, form-evaluated}
 
 -- ---- the whole call
 
@@ -43,4 +44,4 @@ module _ (asked : List ℕ) (t : Texts) (w o : List ℕ) (size : ℕ) (e : size 
       rw there
       (λ i. record { answer = a .answer i; output = a .output i; memory = (z ∙ same-zeros w₁ w s) i })
 
-pub ruleset cases = (tape-fits, memory-short, call-answered, end-within, tape-room, unread-answered, read-spoken, tape-within, asked-found, absent-answered, found-within, found-given, refused-answered, form-evaluated, listed-within, hidden-few, listed-answered, long-answered, needs)
+pub ruleset cases = (tape-fits, memory-short, call-answered, end-within, tape-room, unread-answered, read-spoken, tape-within, asked-found, absent-answered, found-within, found-given, refused-answered, form-evaluated, needs)

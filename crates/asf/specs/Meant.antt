@@ -1,6 +1,6 @@
 -- From one step of a call to the next: what is read, found, evaluated and listed, and how the call ends.
 use mathlib.Core.Path.{_≡_, sym, ap, subst, _∙_}
-use Prim.Native.Nat.{ℕ, _+_, _-_, _*_, _<_, _≤_}
+use Prim.Native.Nat.{ℕ, _+_, _-_, _<_, _≤_}
 use native.Mathlib.Omega.{arith}
 use mathlib.Core.Bool.{Bool, true, false}
 use mathlib.Core.List.{List, [], _++_, map}
@@ -8,18 +8,16 @@ use lib.ListN.{length, getD, take, drop, length-append, length-drop}
 use lib.Seq.{length-take-le, take-take, take-append-le}
 use Rattle.meaning.specs.Lists.{pick, before}
 use Rattle.meaning.specs.Names.{Name, same, member}
-use Rattle.meaning.specs.Numbers.{memory-size, asked-absent, lent-short}
+use Rattle.meaning.specs.Numbers.{memory-size, asked-absent}
 use Rattle.meaning.specs.Syntax.{Module}
 use Rattle.meaning.specs.Distinct.{read-fresh}
 use Rattle.meaning.specs.Texts.{Reading, two-texts, refused-in, read-texts}
 use Rattle.meaning.specs.Normal.{Normal, empty}
 use Rattle.meaning.specs.Checks.{lone}
 use Rattle.meaning.specs.Reached.{normalised, refused-at, in-turn, reached, module-names, short-or-blank, normalise}
-use Rattle.meaning.specs.Listing.{lines-text, listing-lines}
 use Rattle.meaning.specs.Answer.{refusal, of-ended, unread, of-read, within, output-after}
 use Rattle.text_names.specs.Word.{name-of}
 use Rattle.text_names.specs.Joint.{joint}
-use Rattle.form.specs.Forms.{form-size}
 use Rattle.read_both.specs.declared.Both.{Both}
 use Rattle.read_both.specs.declared.Both.the-variants.{Done, Refused}
 use Rattle.read_both.specs.Both.{Said}
@@ -30,38 +28,30 @@ use Rattle.invariants.specs.HiddenItems.{HiddenSound}
 use Rattle.laws.specs.Outcomes.{Ends}
 use Rattle.invariants.specs.HiddenEvaluated.{normalise-sound}
 use Rattle.form.specs.declared.Culprit.{Culprit}
-use Rattle.form.specs.declared.Form.{Form}
 use Rattle.form.specs.Memory.{part}
 use Rattle.form.specs.Verdicts.{culprit-of}
-use Rattle.form_layout.specs.Layout.{tape-end, table-start}
-use Rattle.form_keeping.specs.Keeping.{form-at}
+use Rattle.form_layout.specs.Layout.{tape-end}
 use Rattle.modules.specs.declared.Heads.{Heads}
 use Rattle.modules.specs.Modules.{HeadsOf, declared}
 use Rattle.modules.specs.ModuleLaws.{heads-number, declared-names}
 use Rattle.modules.specs.Members.{member-found, member-absent}
 use Rattle.modules.specs.ReachedLaws.{found-name, names-number}
 use Rattle.modules.specs.Meant.{asked-number}
-use Rattle.form_keeping.specs.Environment.{kept-form}
+use Rattle.form_keeping.specs.Environment.{LastStands}
 use Rattle.evaluate_module.specs.Sofar.{Told}
 use Rattle.evaluate_turns.specs.declared.Ended.{Ended}
-use Rattle.evaluate_turns.specs.Turns.{LastStands, EndsAs, Given, AllTurned}
-use Rattle.list.specs.declared.Written.{Written}
-use Rattle.list.specs.declared.Written.the-variants.{Fits, TooLong}
-use Rattle.list.specs.Lines.{listing-text}
-use Rattle.list.specs.Meant.{listing-meant}
-use Rattle.list.specs.Fit.{result, fitted}
-use Rattle.list.specs.Lent.{Lent, answer-when, lent-meant}
+use Rattle.evaluate_turns.specs.Turns.{EndsAs, Given, AllTurned}
 use Rattle.answer.specs.declared.Answer.{Answer}
-use Rattle.answer.specs.Answers.{held, told, told-listed}
-use Rattle.answer.specs.Told.{short-name, refusal-within, refusal-leaves, unread-within, unread-leaves}
-use Rattle.asf.specs.Steps.{Answered, Spoken, Found, Evaluated}
+use Rattle.answer.specs.Answers.{told}
+use Rattle.answer.specs.Told.{refusal-within, refusal-leaves, unread-within, unread-leaves}
+use Rattle.answer_listing.specs.Answered.{Answered, Evaluated}
+use Rattle.asf.specs.Steps.{Spoken, Found}
 use Rattle.evaluate_turns.specs.ByNumber.{name-there}
 use Rattle.meaning.specs.Checks as Checks
 use Rattle.meaning.specs.Reached as Reached
 use Rattle.meaning.specs.Answer as Meaning
 use Rattle.read_both.specs.Both as TwoTexts
 use Rattle.evaluate_turns.specs.declared.Ended.the-variants as Ended
-use Rattle.list.specs.Fit as Fit
 
 -- ---- a refusal leaves the output
 
@@ -253,80 +243,3 @@ module _ (asked : List ℕ) (x : Reading) (text : List ℕ) (t : ℕ) (w : List 
           called = ap (name-of text) n ∙ called-asked;
           ended = answering ∙ ap (of-ended asked) (end .ended);
         }
-
--- ---- what is listed
-
-listing-told : (asked : Name) (count : ℕ) (n : Normal)
-    → told (of-ended asked (normalised count n)) ≡ told-listed count (length (Meaning.listing (of-ended asked (normalised count n))))
-unfolding told told-listed of-ended
-listing-told asked count n = λ i. record {
-  number = 0;
-  modules = count;
-  evaluating = held (short-name [] (omega arith) i);
-  culprit = held [];
-  actual = held [];
-  at = 0;
-  «in_library» = false;
-  listing = length (lines-text (listing-lines asked n));
-}
-
-fits-size : (b : Bool) (n : ℕ) (bs o o′ : List ℕ)
-    → result (Fits n) o′ ≡ pick b (result (Fits (length bs)) (bs ++ drop (length bs) o)) (result TooLong o) → n ≡ length bs
-unfolding pick
-fits-size true n bs o o′ e = let f : Fits n ≡ Fits (length bs) = ap (λ (x : Fit.Result). x .ended) e in cc
-fits-size false n bs o o′ e = let f : Fits n ≡ TooLong = ap (λ (x : Fit.Result). x .ended) e in cc
-
-module _ (asked : List ℕ) (x : Reading) (text : List ℕ) (t : ℕ) (w : List ℕ) (name count last : ℕ) (evaluated : Evaluated asked x text t w name count last) where
-  pub listed-within : t ≤ length w
-  listed-within = evaluated .tape
-
-  module _ (table : ℕ) (f : Form) (place : table ≡ table-start) (form : f ≡ form-at w (table + last * form-size)) where
-    form-so : f ≡ kept-form w last
-    form-so = form ∙ ap (λ (b : ℕ). form-at w (b + last * form-size)) place
-
-    pub hidden-few : f .«hidden_count» < 2147483648
-    hidden-few =
-        let fits = evaluated .stands .fits in
-        let same : f .«hidden_count» ≡ kept-form w last .«hidden_count» = ap (λ (g : Form). g .«hidden_count») form-so in
-        omega (arith, same, fits .items)
-
-    abbrev whole : Meaning.Answer
-    whole = of-ended asked (normalised count (evaluated .normal))
-
-    bytes-so : listing-text text (part w 0 t) w name f ≡ Meaning.listing whole
-    unfolding of-ended
-    bytes-so =
-        ap (listing-text text (part w 0 t) w name) form-so
-        ∙ listing-meant text (part w 0 t) w (kept-form w last) (evaluated .normal) name (evaluated .stands .stands) (evaluated .sound)
-        ∙ ap (λ (m : Name). lines-text (listing-lines m (evaluated .normal))) (evaluated .called)
-
-    module _ (o : List ℕ) (v : Written) (o′ : List ℕ) (e : result v o′ ≡ fitted (listing-text text (part w 0 t) w name f) o) where
-      written : result v o′ ≡ fitted (Meaning.listing whole) o
-      written = e ∙ ap (λ (bs : List ℕ). fitted bs o) bytes-so
-
-      lent : Lent asked whole o v o′
-      lent = lent-meant asked whole o v o′ written
-
-      output-so : o′ ≡ output-after (within (length o) asked (of-read asked x)) o
-      output-so = sym (ap (λ (a : Meaning.Answer). output-after (within (length o) asked a) o) (evaluated .ended) ∙ lent .output)
-
-      answer-lent : within (length o) asked (of-read asked x) ≡ answer-when asked whole v
-      answer-lent = ap (within (length o) asked) (evaluated .ended) ∙ lent .answer
-
-      pub listed-answered : (n : ℕ) (r : Answer) → v ≡ Fits n → r ≡ told-listed count n → Answered asked x o r o′
-      unfolding answer-when fitted
-      listed-answered n r d q =
-          let size : n ≡ length (Meaning.listing whole) = fits-size _ n (Meaning.listing whole) o o′ (rw d at written) in
-          record {
-            answer =
-                q
-                ∙ ap (told-listed count) size
-                ∙ sym (listing-told asked count (evaluated .normal))
-                ∙ ap told (sym (answer-lent ∙ ap (answer-when asked whole) d));
-            output = output-so;
-          }
-
-      pub long-answered : (r : Answer) → v ≡ TooLong → r ≡ told (refusal lent-short count asked (lone []) 0) → Answered asked x o r o′
-      unfolding answer-when of-ended
-      long-answered r d q =
-          record { answer = q ∙ ap told (sym (answer-lent ∙ ap (answer-when asked whole) d)); output = output-so }

@@ -2,16 +2,12 @@
 use answer::Answer;
 use answer::absent;
 use answer::lent_short;
-use answer::listed;
 use answer::refused;
 use answer::unread;
+use answer_listing::list_module;
 use evaluate_turns::Ended;
 use evaluate_turns::evaluate_reached;
-use form_keeping::read_form;
-use form_layout::table_start;
 use form_layout::tape_end;
-use list::Written;
-use list::write_listing;
 pub use memory::memory_size;
 use modules::Heads;
 use modules::find_asked;
@@ -27,31 +23,8 @@ ghost use Rattle.meaning.specs.Texts.{two-texts, read-texts};
 ghost use Rattle.meaning.specs.Contract.{call};
 ghost use Rattle.text_names.specs.Joint.{joint};
 ghost use Rattle.answer.specs.Answers.{returned, told-call};
-ghost use Rattle.asf.specs.Steps.{Answered, Spoken, Found, Evaluated};
-
-// The listing of the form kept for module number `last`, under the name, after `count` modules were evaluated; 19 where it is longer than the
-// lent output.
-fn list_module(
-    asked: &[u8],
-    library: &[u8],
-    text: &[u8],
-    work: &[u32],
-    t: usize,
-    name: u32,
-    count: u32,
-    last: u32,
-    out: &mut [u8],
-) -> Answer
-    requires { ⌜ Evaluated (now asked) (read-texts (two-texts (now library) (now text))) (joint (now library) (now text)) t (now work) name count last ⌝ }
-    ensures { λ r. ⌜ Answered (now (asked .entry)) (read-texts (two-texts (now (library .entry)) (now (text .entry)))) (now (out .entry)) r (now (out .exit)) ⌝ }
-{
-    let table = table_start();
-    let f = read_form(work, table, last);
-    match write_listing(library, text, work, t, name, f, out) {
-        Written::Fits(n) => listed(count, n),
-        Written::TooLong => lent_short(asked, count),
-    }
-}
+ghost use Rattle.answer_listing.specs.Answered.{Answered};
+ghost use Rattle.asf.specs.Steps.{Spoken, Found};
 
 // The answer for module k of a tape of t entries.
 fn module_answer(

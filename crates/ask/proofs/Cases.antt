@@ -21,18 +21,18 @@ use Rattle.memory.proofs.Cases.{same-zeros}
 use Rattle.module_set.specs.ModuleSet.{holds, nothing}
 use Rattle.modules.specs.declared.Heads.{Heads}
 use Rattle.ask_decision.specs.Decide as Meaning
-use Rattle.ask_decision.specs.Decide.{Why, why, ask-again, unless-against, decide, deciding, module-called}
+use Rattle.ask_decision.specs.Decide.{Why, why, ask-again, unless-against, decide, deciding}
 use Rattle.ask_objections.specs.declared.Objection.{Objection}
 use Rattle.ask_objections.specs.declared.Objection.the-variants.{Nothing, Against}
 use Rattle.ask_objections.specs.declared.Why as Code
 use Rattle.ask_objections.specs.Objections as Objections
 use Rattle.ask_objections.specs.Objections.{why-of}
+use Rattle.ask_walk.specs.Walk.{with-all, against-at, changed-at}
+use Rattle.ask_names.specs.Lying.{first-end, first-room, first-size, first-short, first-spoken}
 use Rattle.ask.specs.declared.Decision.{Decision}
-use Rattle.ask.specs.Walk.{with-all, against-at, changed-at}
-use Rattle.ask.specs.Decided.{nameless-struct, ask-struct, told, Tells, Decided, name-told, Named}
+use Rattle.ask.specs.Decided.{nameless-struct, ask-struct, told, Tells, Decided}
 use Rattle.ask.specs.Numbered.{changed-listed}
-use Rattle.ask.specs.Meant.{name-absent, name-there}
-use Rattle.ask.specs.Lying.{first-end, second-end, first-room, second-room, first-refused, name-unread, first-size, first-short, first-within, first-spoken, second-refused, old-within, new-within, new-fits, old-spoken, new-spoken}
+use Rattle.ask.specs.Lying.{second-end, second-room, first-refused, second-refused, old-within, new-within, new-fits, old-spoken, new-spoken}
 
 -- ---- the answers
 
@@ -113,18 +113,4 @@ module _ (w : List ℕ) (size : ℕ) (e : size ≡ memory-size) where
         let enough = le-ltb (length w) memory-size (omega (arith, e, l)) in
         record { decision = rw enough t; memory-so = z ∙ same-zeros w₁ w s }
 
-  module _ (t : Texts) (k : ℕ) (r : Name) where
-    pub named-short : (w′ : List ℕ) → length w < size → w′ ≡ memory-after w → r ≡ held [] → Named r w′ w t k
-    unfolding name-told pick
-    named-short w′ l z q = record { name-so = rw (lt-ltb (length w) memory-size (omega (arith, e, l))) q; memory-so = z }
-
-    pub named-whole : (w₁ w₂ : List ℕ) → size ≤ length w → r ≡ held (module-called t k) → length w₁ ≡ length w → w₂ ≡ memory-after w₁ → Named r w₂ w t k
-    unfolding name-told pick
-    named-whole w₁ w₂ l q s z =
-        record { name-so = rw (le-ltb (length w) memory-size (omega (arith, e, l))) q; memory-so = z ∙ same-zeros w₁ w s }
-
-pub ruleset calling = (decided-short, decided-whole, named-short, named-whole, needs)
-
--- ---- a module's name
-
-pub ruleset naming = (name-absent, name-there, first-end, first-room, name-unread, first-within, first-spoken, needs)
+pub ruleset calling = (decided-short, decided-whole, needs)

@@ -1,18 +1,15 @@
--- The decision as the code has it, and the meaning's (asking_again/specs/Decide.antt); and a module's name by its number.
+-- The decision as the code has it, and the meaning's (asking_again/specs/Decide.antt).
 use mathlib.Core.Path.{_≡_, refl, sym, ap, _∙_}
 use Prim.Native.Nat.{ℕ, _^_, _<_}
 use mathlib.Core.Bool.{Bool, true, false}
 use mathlib.Core.List.{List, [], _∷_}
-use lib.Dec.{eqb, ltb}
-use lib.ListN.{length}
+use lib.Dec.{eqb}
 use Rattle.meaning.specs.Lists.{pick}
-use Rattle.meaning.specs.Numbers.{memory-size, lent-short}
-use Rattle.meaning.specs.Answer.{memory-after}
-use Rattle.meaning.specs.Texts.{Texts}
+use Rattle.meaning.specs.Numbers.{lent-short}
 use Rattle.answer.specs.declared.Name.{Name}
 use Rattle.answer.specs.Answers.{held}
 use Rattle.ask_decision.specs.Decide as Meaning
-use Rattle.ask_decision.specs.Decide.{memory-short, not-read, ask-again, keep-after, Deciding, module-called}
+use Rattle.ask_decision.specs.Decide.{memory-short, not-read, ask-again, keep-after, Deciding}
 use Rattle.module_set.specs.ModuleSet.{holds, mask-fixed}
 use Rattle.ask.specs.declared.Decision.{Decision}
 
@@ -92,11 +89,3 @@ tells-coincide r q d t u = t .so ∙ same-told (r .set) (q .set) d (t .first) (u
 
 pub decided-coincide : (r q : Decision) (w v : List ℕ) (d : Deciding) → Decided r w d → Decided q v d → (r ≡ q) × (w ≡ v)
 decided-coincide r q w v d t u = (tells-coincide r q (d .decision) (t .decision) (u .decision), t .memory-so ∙ sym (u .memory-so))
-
--- the name of module k, in 42 bytes; blank where too little working memory is lent
-unfoldable pub name-told : List ℕ → Texts → ℕ → Name
-name-told memory t k = held (pick (ltb (length memory) memory-size) [] (module-called t k))
-
-pub record Named (r : Name) (memory′ memory : List ℕ) (t : Texts) (k : ℕ) : Type 0 where
-  pub name-so : r ≡ name-told memory t k
-  pub memory-so : memory′ ≡ memory-after memory

@@ -3,44 +3,24 @@ use mathlib.Core.Path.{_≡_, sym, ap, subst, _∙_}
 use Prim.Native.Nat.{ℕ, _+_, _-_, _^_, _<_, _≤_}
 use native.Mathlib.Omega.{arith}
 use mathlib.Core.Bool.{Bool, true, false}
-use mathlib.Core.List.{List, [], _++_, map}
+use mathlib.Core.List.{List, _++_}
 use lib.ListN.{length, take, drop, length-append, length-drop}
 use lib.Seq.{length-take-le, take-take, take-append-le, drop-at}
 use Rattle.meaning.specs.Names.{Name}
 use Rattle.meaning.specs.Numbers.{memory-size}
-use Rattle.meaning.specs.Distinct.{read-fresh}
-use Rattle.meaning.specs.Texts.{Texts, two-texts, refused-in, read-texts}
+use Rattle.meaning.specs.Texts.{Texts, two-texts, read-texts}
 use Rattle.text_names.specs.Joint.{joint}
-use Rattle.tape.specs.Tape.{spelled, entries}
-use Rattle.invariants.specs.Limits.{modules-few}
 use Rattle.form.specs.Memory.{part}
 use Rattle.form_layout.specs.Layout.{tape-end}
 use Rattle.read_both.specs.declared.Both.{Both}
 use Rattle.read_both.specs.declared.Both.the-variants.{Done, Refused}
 use Rattle.read_both.specs.Both as TwoTexts
 use Rattle.read_both.specs.Both.{Said}
-use Rattle.answer.specs.declared.Name as Held
-use Rattle.answer.specs.Answers.{held}
-use Rattle.ask_decision.specs.Decide.{of-readings, decide, not-read, names-read, module-called}
+use Rattle.ask_decision.specs.Decide.{of-readings, decide, not-read}
+use Rattle.ask_names.specs.Steps.{Spoken}
+use Rattle.ask_names.specs.Lying.{said-spoken, refused-so, first-end}
 use Rattle.ask.specs.declared.Decision.{Decision}
 use Rattle.ask.specs.Decided.{nameless-struct, told, Tells}
-use Rattle.ask.specs.Steps.{Spoken}
-
--- the entries that were read are a tape of their own
-said-spoken : (library text : List ℕ) (n : ℕ) (read tape : List ℕ) → Said library text n read → tape ≡ take n read
-    → Spoken (read-texts (two-texts library text)) (joint library text) tape
-unfolding entries
-said-spoken library text n read tape s e =
-    let size : length tape ≡ n = ap length e ∙ length-take-le n read (omega (arith, s .within, s .room)) in
-    let whole : take (length tape) tape ≡ take n read = (λ i. take (size i) (e i)) ∙ take-take n n read (omega arith) in
-    record {
-      modules = s .modules;
-      read-so = s .read-so;
-      said = ap (map (spelled (joint library text))) whole ∙ s .said;
-      few = modules-few (two-texts library text) (s .modules) (s .read-so);
-      fresh = read-fresh (two-texts library text) (s .modules) (s .read-so);
-      short = omega (arith, size, s .within);
-    }
 
 -- what is refused is not read
 unread-tells : (r : Decision) (in-new in-library : Bool) (number place : ℕ) → r ≡ nameless-struct 2 0 in-new in-library number place
@@ -49,40 +29,22 @@ unfolding told
 unread-tells r in-new in-library number place e = record { so = e; first = tt }
 
 module _ (library text : List ℕ) (q : Both) (read : List ℕ) (e : TwoTexts.Told library text read q) where
-  refused-so : (in-library : Bool) (number place : ℕ) → q ≡ Refused in-library number place
-      → read-texts (two-texts library text) ≡ refused-in in-library number place
-  refused-so in-library number place d = subst (TwoTexts.Told library text read) d e
-
   pub first-refused : (asked : Name) (new : Texts) (r : Decision) (in-library : Bool) (number place : ℕ) → q ≡ Refused in-library number place
       → r ≡ nameless-struct 2 0 false in-library number place → Tells r (decide asked (two-texts library text) new)
   unfolding decide of-readings
   first-refused asked new r in-library number place d z =
-      rw (refused-so in-library number place d) (unread-tells r false in-library number place z)
+      rw (refused-so library text q read e in-library number place d) (unread-tells r false in-library number place z)
 
   pub second-refused : (asked : Name) (x : Texts) (old tape : List ℕ) (r : Decision) (in-library : Bool) (number place : ℕ) → Spoken (read-texts x) old tape
       → q ≡ Refused in-library number place → r ≡ nameless-struct 2 0 true in-library number place → Tells r (decide asked x (two-texts library text))
   unfolding decide of-readings
   second-refused asked x old tape r in-library number place spoken d z =
-      rw (spoken .read-so, refused-so in-library number place d) (unread-tells r true in-library number place z)
-
-  pub name-unread : (k : ℕ) (r : Held.Name) (in-library : Bool) (number place : ℕ) → q ≡ Refused in-library number place → r ≡ held []
-      → r ≡ held (module-called (two-texts library text) k)
-  unfolding module-called names-read
-  name-unread k r in-library number place d z =
-      rw (refused-so in-library number place d) z
+      rw (spoken .read-so, refused-so library text q read e in-library number place d) (unread-tells r true in-library number place z)
 
 module _ (w : List ℕ) (end : ℕ) (there : memory-size ≤ length w) (last : end ≡ tape-end) where
-  pub first-end : end ≤ length w
-  unfolding memory-size tape-end
-  first-end = omega (arith, there, last)
-
   pub second-end : end + end ≤ length w
   unfolding memory-size tape-end
   second-end = omega (arith, there, last)
-
-  pub first-room : 65536 ≤ length (part w 0 end)
-  unfolding tape-end
-  first-room = omega (arith, length-take-le (end - 0) w (omega (arith, first-end)), last)
 
   pub second-room : 65536 ≤ length (part w end (end + end))
   unfolding tape-end
@@ -90,35 +52,7 @@ module _ (w : List ℕ) (end : ℕ) (there : memory-size ≤ length w) (last : e
       let left : length (drop end w) ≡ length w - end = length-drop end w in
       omega (arith, length-take-le (end + end - end) (drop end w) (omega (arith, left, second-end)), last)
 
-  -- ---- the old specification, at the front
-
-  module _ (library text : List ℕ) (q : Both) (read : List ℕ) (e : TwoTexts.Told library text read q) where
-    module _ (t : ℕ) (d : q ≡ Done t) where
-      says : Said library text t read
-      says = subst (TwoTexts.Told library text read) d e
-
-      abbrev after : List ℕ
-      after = read ++ drop (end - 0) (drop 0 w)
-
-      pub first-size : memory-size ≤ length after
-      unfolding tape-end
-      first-size =
-          omega (arith, there, length-append read (drop (end - 0) (drop 0 w)), says .room, length-drop (end - 0) w, first-end, last)
-
-      pub first-short : t ≤ tape-end
-      unfolding tape-end
-      first-short = says .within
-
-      pub first-within : t ≤ length after
-      first-within = omega (arith, length-append read (drop (end - 0) (drop 0 w)), says .within, says .room)
-
-      pub first-spoken : Spoken (read-texts (two-texts library text)) (joint library text) (part after 0 t)
-      first-spoken =
-          let z : t - 0 ≡ t = omega arith in
-          said-spoken library text t read (part after 0 t) says
-          (ap (λ (n : ℕ). take n after) z ∙ take-append-le t read (drop (end - 0) (drop 0 w)) (omega (arith, says .within, says .room)))
-
-  -- ---- the new one, behind it
+  -- ---- the new specification, behind the old one
 
   module _ (x : Texts) (text : List ℕ) (t : ℕ) (early : t ≤ tape-end) (spoken : Spoken (read-texts x) text (part w 0 t))
       (library new : List ℕ) (q : Both) (read : List ℕ) (e : TwoTexts.Told library new read q) where
@@ -133,7 +67,7 @@ module _ (w : List ℕ) (end : ℕ) (there : memory-size ≤ length w) (last : e
       both = take end w ++ (read ++ rest)
 
       front-size : length (take end w) ≡ end
-      front-size = length-take-le end w first-end
+      front-size = length-take-le end w (first-end w end there last)
 
       both-size : length w ≤ length both
       unfolding tape-end
@@ -152,7 +86,7 @@ module _ (w : List ℕ) (end : ℕ) (there : memory-size ≤ length w) (last : e
 
       pub old-within : t ≤ length both
       unfolding tape-end
-      old-within = omega (arith, both-size, first-end, early, last)
+      old-within = omega (arith, both-size, first-end w end there last, early, last)
 
       pub new-within : end + n ≤ length both
       unfolding tape-end

@@ -1,12 +1,11 @@
 -- From one step of a decision to the next: what is told of two tapes is the decision of the meaning (asking_again/specs/Decide.antt).
 use mathlib.Core.Path.{_≡_, refl, sym, ap, subst, _∙_}
-use Prim.Native.Nat.{ℕ, zero, suc, _-_, _<_, _≤_}
+use Prim.Native.Nat.{ℕ, _<_, _≤_}
 use native.Mathlib.Omega.{arith}
 use mathlib.Core.Bool.{Bool, true, false}
 use mathlib.Core.Option.{Option, none, some}
-use mathlib.Core.List.{List, [], _∷_, map}
-use lib.ListN.{length, getD, take, List·getD-eq-default}
-use lib.Seq.{length-take-le, getD-take}
+use mathlib.Core.List.{List, []}
+use lib.ListN.{length}
 use Rattle.meaning.specs.Lists.{pick, before, or-else}
 use Rattle.meaning.specs.Names.{Name, same, member}
 use Rattle.meaning.specs.OrderLaws.{Every}
@@ -14,26 +13,23 @@ use Rattle.meaning.specs.Syntax.{Module}
 use Rattle.meaning.specs.Distinct.{Fresh}
 use Rattle.meaning.specs.Texts.{Texts, Reading, read-texts}
 use Rattle.meaning.specs.Reached.{Placed, reached, module-names, short-or-blank}
-use Rattle.text_names.specs.Word.{name-of}
-use Rattle.form_rows.specs.Entries.{word-at, name-at}
-use Rattle.answer.specs.declared.Name as Held
-use Rattle.answer.specs.Answers.{held}
 use Rattle.ask_decision.specs.Reasons.{absent-before, absent-now}
 use Rattle.ask_decision.specs.Decide as Meaning
-use Rattle.ask_decision.specs.Decide.{Why, why, in-pairs, against, changed, numbers, ask-again, unless-against, to-ask, of-readings, decide, names-read, module-called}
+use Rattle.ask_decision.specs.Decide.{Why, why, in-pairs, against, changed, numbers, ask-again, unless-against, to-ask, of-readings, decide}
 use Rattle.modules.specs.declared.Heads.{Heads}
 use Rattle.modules.specs.Modules.{HeadsOf, declared, reached-set}
-use Rattle.modules.specs.ModuleLaws.{Spells, heads-number, declared-names, names-by-number}
+use Rattle.modules.specs.ModuleLaws.{Spells, heads-number, declared-names}
 use Rattle.modules.specs.Members.{member-found, member-absent}
-use Rattle.modules.specs.ReachedLaws.{chosen, names-number}
+use Rattle.modules.specs.ReachedLaws.{chosen}
 use Rattle.modules.specs.Meant.{none-earlier, asked-number, reached-modules}
 use Rattle.ask_objections.specs.Objections.{named, objection-at}
 use Rattle.ask_objections.specs.Spelled.{PlacedIn, name-spelled}
 use Rattle.ask_objections.specs.Meant.{objection-of, module-meant, objection-meant}
+use Rattle.ask_walk.specs.Walk.{members, pairs-at, changed-pairs, pass-by-pass, same-at, in-pairs-at, against-at, changed-at}
+use Rattle.ask_names.specs.Steps.{Spoken}
+use Rattle.ask_names.specs.Meant.{spells, count-so}
 use Rattle.ask.specs.declared.Decision.{Decision}
-use Rattle.ask.specs.Walk.{members, pairs-at, changed-pairs, pass-by-pass, same-at, in-pairs-at, against-at, changed-at}
 use Rattle.ask.specs.Decided.{Tells}
-use Rattle.ask.specs.Steps.{Spoken}
 use Rattle.ask.specs.Numbered.{chosen-members, chosen-placed, pairs-meant, changed-meant}
 
 -- ---- the modules that the asked one reaches on a tape
@@ -123,55 +119,21 @@ module _
 -- ---- both are read, each onto its tape
 
 -- a tape that says what was read, with its heads and the number of the asked name
-module _ (x : Reading) (text tape : List ℕ) (spoken : Spoken x text tape) (h : Heads) (heads : HeadsOf tape (length tape) h) where
-  spells : Spells text tape (length tape) (spoken .modules) h
-  spells = record { within = omega arith; says = spoken .said; few = spoken .few; begun = heads }
-
-  count-so : h .count ≡ length (module-names (spoken .modules))
-  count-so = heads-number text tape (length tape) (spoken .modules) h spells ∙ sym (names-number (spoken .modules))
-
-  module _ (asked : Name) (k : ℕ) (e : k ≡ before (λ (w : Name). same w asked) (declared text tape h)) where
+module _
+    (x : Reading) (text tape : List ℕ) (spoken : Spoken x text tape) (h : Heads) (heads : HeadsOf tape (length tape) h) (asked : Name) (k : ℕ)
+    (e : k ≡ before (λ (w : Name). same w asked) (declared text tape h))
+  where
     number-so : k ≡ before (same asked) (module-names (spoken .modules))
     number-so =
-        e ∙ asked-number asked (declared text tape h) ∙ ap (before (same asked)) (declared-names text tape (length tape) (spoken .modules) h spells)
+        e
+        ∙ asked-number asked (declared text tape h)
+        ∙ ap (before (same asked)) (declared-names text tape (length tape) (spoken .modules) h (spells x text tape spoken h heads))
 
     is-there : k < h .count → member asked (module-names (spoken .modules)) ≡ true
-    is-there l = member-found asked (module-names (spoken .modules)) (omega (arith, l, count-so, number-so))
+    is-there l = member-found asked (module-names (spoken .modules)) (omega (arith, l, count-so x text tape spoken h heads, number-so))
 
     is-absent : h .count ≤ k → member asked (module-names (spoken .modules)) ≡ false
-    is-absent l = member-absent asked (module-names (spoken .modules)) (omega (arith, l, count-so, number-so))
-
--- the name of a module by its number
-module _ (t : Texts) (text tape : List ℕ) (spoken : Spoken (read-texts t) text tape) (h : Heads) (heads : HeadsOf tape (length tape) h) (k : ℕ)
-    (r : Held.Name) where
-  abbrev all : List Module
-  all = spoken .modules
-
-  names-so : module-called t k ≡ getD (module-names all) k []
-  unfolding module-called names-read
-  names-so = ap (λ (x : Reading). getD (names-read x) k []) (spoken .read-so)
-
-  pub name-absent : h .count ≤ k → r ≡ held [] → r ≡ held (module-called t k)
-  name-absent l e =
-      let few : length (module-names all) ≤ k = omega (arith, l, count-so (read-texts t) text tape spoken h heads) in
-      e ∙ ap held (sym (names-so ∙ List·getD-eq-default (module-names all) [] few))
-
-  pub name-there : (w : ℕ) → k < h .count → w ≡ word-at tape (getD (h .places) k 0) → r ≡ held (name-of text w) → r ≡ held (module-called t k)
-  unfolding declared
-  name-there w l e f =
-      let places = take (h .count) (h .places) in
-      let in-it : length places ≡ h .count = length-take-le (h .count) (h .places) (omega (arith, heads .few, heads .size)) in
-      let named-so : getD (module-names all) k [] ≡ name-at text tape (getD (h .places) k 0) =
-      ap (λ (ds : List Name). getD ds k []) (sym (declared-names text tape (length tape) all h (spells (read-texts t) text tape spoken h heads))
-      ∙ names-by-number text tape (h .places) 0 (h .count) (omega (arith, heads .few, heads .size)))
-      ∙ mapped (name-at text tape) places k (omega (arith, l, in-it))
-      ∙ ap (name-at text tape) (getD-take (h .count) (h .places) k 0 l) in
-      f ∙ ap held (ap (name-of text) e ∙ sym (names-so ∙ named-so))
-    where
-      mapped : (g : ℕ → Name) (xs : List ℕ) (i : ℕ) → i < length xs → getD (map g xs) i [] ≡ g (getD xs i 0)
-      mapped g [] i l = absurd (omega arith)
-      mapped g (x ∷ xs) zero l = refl
-      mapped g (x ∷ xs) (suc i) l = mapped g xs i (omega arith)
+    is-absent l = member-absent asked (module-names (spoken .modules)) (omega (arith, l, count-so x text tape spoken h heads, number-so))
 
 module _
     (old : Texts) (text tape : List ℕ) (spoken : Spoken (read-texts old) text tape) (h : Heads) (heads : HeadsOf tape (length tape) h)

@@ -22,7 +22,7 @@ use Rattle.module_set.specs.ModuleSet.{nothing, added}
 use Rattle.modules.specs.ReachedLaws.{chosen, or-false, drop-some, name-by-number, names-number}
 use Rattle.modules.specs.Meant.{Earlier, one-earlier}
 use Rattle.ask_objections.specs.Spelled.{PlacedIn}
-use Rattle.ask.specs.Walk.{members, with-all, pairs-at, changed-pairs}
+use Rattle.ask_walk.specs.Walk.{members, with-all, pairs-at, changed-pairs}
 use Rattle.ask.specs.Decided.{listed}
 
 -- ---- modules by number

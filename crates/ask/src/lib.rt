@@ -1,26 +1,25 @@
 // Whether a stored visible part of a module may be kept: from the old specification and the new one, each of two texts. Both are read into the lent
-// working memory, each onto a tape of its own, and the modules that the asked one reaches are compared in pairs.
-pub mod walk;
-
+// working memory, each onto a tape of its own, and the modules that the asked one reaches are compared in pairs (`ask_walk`). A module's name by its
+// number (`ask_names`) is handed on.
 use answer::Name;
 use answer::blank;
 use answer::name_in;
 use answer::short_or_blank;
 use ask_decision::reasons;
+pub use ask_names::module_name;
 use ask_objections::Objection;
 use ask_objections::Why;
+use ask_walk::against;
+use ask_walk::changed_set;
 use form_layout::tape_end;
 use meaning::numbers;
 use memory::memory_size;
 use modules::Heads;
 use modules::find_asked;
 use modules::find_heads;
-use modules::name_of_module;
 use modules::reached;
 use read_both::Both;
 use read_both::read_both;
-use walk::against;
-use walk::changed_set;
 ghost use mathlib.Core.Path.{_≡_};
 ghost use mathlib.Core.List.{[]};
 ghost use Prim.Native.Nat.{_≤_};
@@ -29,17 +28,16 @@ ghost use Rattle.meaning.specs.Numbers.{memory-size};
 ghost use Rattle.meaning.specs.Texts.{two-texts, read-texts};
 ghost use Rattle.meaning.specs.Reached.{short-or-blank};
 ghost use Rattle.text_names.specs.Joint.{joint};
-ghost use Rattle.answer.specs.Answers.{held};
 ghost use Rattle.ask_decision.specs.Decide as Meaning;
-ghost use Rattle.ask_decision.specs.Decide.{why, ask-again, unless-against, deciding, module-called};
+ghost use Rattle.ask_decision.specs.Decide.{why, ask-again, unless-against, deciding};
 ghost use Rattle.module_set.specs.ModuleSet.{holds};
 ghost use Rattle.form_layout.specs.Layout.{tape-end};
 ghost use Rattle.form.specs.Memory.{part};
 ghost use Rattle.modules.specs.Modules.{reached-set};
 ghost use Rattle.ask_objections.specs.Objections.{why-of};
-ghost use Rattle.ask.specs.Walk.{against-at, changed-at};
-ghost use Rattle.ask.specs.Decided.{nameless-struct, ask-struct, Tells, Decided, Named};
-ghost use Rattle.ask.specs.Steps.{Spoken};
+ghost use Rattle.ask_walk.specs.Walk.{against-at, changed-at};
+ghost use Rattle.ask_names.specs.Steps.{Spoken};
+ghost use Rattle.ask.specs.Decided.{nameless-struct, ask-struct, Tells, Decided};
 
 // What to do before the stored part of the asked module is shown. `answer` is 0: keep it once the modules of `set`, by their numbers in the new
 // specification, are answered 0; 1: ask the module itself, for the reason, with the module concerned and another name; 2: one of the two is not
@@ -312,47 +310,6 @@ pub fn decide(
         return nameless(numbers::LENT_SHORT, 0, false, false, 0, 0);
     }
     let r = decide_texts(asked, old_library, old_text, new_library, new_text, work);
-    memory::zero_all(work);
-    r
-}
-
-// ---- a module's name by its number
-
-// The name of module k of a tape; blank where there is none.
-fn name_read(library: &[u8], text: &[u8], tape: &[u32], k: u32) -> Name
-    requires { ⌜ Spoken (read-texts (two-texts (now library) (now text))) (joint (now library) (now text)) (now tape) ⌝ }
-    ensures { λ r. ⌜ r ≡ held (module-called (two-texts (now (library .entry)) (now (text .entry))) k) ⌝ }
-{
-    let h = find_heads(tape, tape.len() as u32);
-    let count = h.count;
-    if count <= k {
-        return blank();
-    }
-    name_in(library, text, name_of_module(tape, h, k))
-}
-
-// The name of module k where there is enough working memory; blank where the texts are not read.
-fn name_in_texts(library: &[u8], text: &[u8], work: &mut [u32], k: u32) -> Name
-    requires { ⌜ memory-size ≤ length (now work) ⌝ }
-    ensures { λ r. ⌜ r ≡ held (module-called (two-texts (now (library .entry)) (now (text .entry))) k) ⌝ }
-{
-    let end = tape_end() as usize;
-    match read_both(library, text, &mut work[0..end]) {
-        Both::Refused { .. } => blank(),
-        Both::Done(t) => name_read(library, text, &work[0..t], k),
-    }
-}
-
-// The name of the module with the number that a decision has; blank where there is none, or too little working memory is lent.
-pub fn module_name(library: &[u8], text: &[u8], work: &mut [u32], k: u32) -> Name
-    ensures { λ r. ⌜ Named r (now (work .exit)) (now (work .entry)) (two-texts (now (library .entry)) (now (text .entry))) k ⌝ }
-{
-    let size = memory_size();
-    if work.len() < size {
-        memory::zero_all(work);
-        return blank();
-    }
-    let r = name_in_texts(library, text, work, k);
     memory::zero_all(work);
     r
 }

@@ -1,35 +1,14 @@
 -- One law for each way through the code, in the code's terms.
 use mathlib.Core.Path.{_≡_, ap, _∙_}
-use mathlib.Core.List.{List, [], _∷_}
-use Prim.Native.Nat.{ℕ, _+_, _/_, _%_}
+use mathlib.Core.List.{List}
+use Prim.Native.Nat.{ℕ, _+_}
 use borrow.Author.Needs.{needs}
-use lib.ListN.{length, set}
+use lib.ListN.{length}
 use Rattle.meaning.specs.Texts.{Texts}
-use Rattle.values_c.specs.Values.{laid, bit-of}
 use Rattle.list_pen.specs.Pen.{Pen, pen, written}
 use Rattle.answer.specs.declared.Name.{Name}
-use Rattle.ask.specs.declared.Decision.{Decision}
-use Rattle.ask.specs.Decided.{Named}
-use Rattle.ask_c.specs.Handed.{decision-values, name-laid, names-laid, NameHanded}
-
--- ---- values
-
-pub decision-laid : (r : Decision) (xs xs₁ xs₂ xs₃ xs₄ xs₅ : List ℕ) (m n : ℕ)
-    → xs₁ ≡ laid 0 (r .reason ∷ r .set % 4294967296 ∷ r .set / 4294967296 ∷ []) xs → m ≡ bit-of (r .«in_new»)
-    → xs₂ ≡ laid 3 (r .number ∷ r .place ∷ m ∷ []) xs₁ → n ≡ bit-of (r .«in_library») → xs₃ ≡ set xs₂ 6 n
-    → xs₄ ≡ set xs₃ 7 (r .by .length) → xs₅ ≡ set xs₄ 8 (r .name .length) → xs₅ ≡ laid 0 (decision-values r) xs
-unfolding laid decision-values
-decision-laid r xs xs₁ xs₂ xs₃ xs₄ xs₅ m n e₁ b e₂ c e₃ e₄ e₅ = rw (e₅, e₄, e₃, c, e₂, b, e₁)
-
--- ---- names
-
-pub both-laid : (m n : Name) (xs xs₁ xs₂ : List ℕ) (a b : ℕ) → pen a xs₁ ≡ written (length xs + 1) (m .bytes) (pen 0 xs)
-    → pen b xs₂ ≡ written (length xs + 1) (n .bytes) (pen a xs₁) → xs₂ ≡ names-laid m n xs
-unfolding names-laid
-both-laid m n xs xs₁ xs₂ a b e₁ e₂ =
-    let limit = length xs + 1 in ap (λ (p : Pen). p .out) (e₂ ∙ ap (written limit (n .bytes)) e₁)
-
--- ---- a module's name
+use Rattle.ask_names.specs.Named.{Named}
+use Rattle.ask_c.specs.Handed.{name-laid, NameHanded}
 
 pub name-handed : (r : Name) (work₀ work names₀ names : List ℕ) (t : Texts) (k a : ℕ) → Named r work work₀ t k
     → pen a names ≡ written (length names₀ + 1) (r .bytes) (pen 0 names₀) → NameHanded (r .length) work names work₀ names₀ t k
@@ -40,4 +19,4 @@ name-handed r work₀ work names₀ names t k a e p = record {
   names-so = ap (λ (q : Pen). q .out) p ∙ ap (λ (n : Name). written (length names₀ + 1) (n .bytes) (pen 0 names₀) .out) (e .name-so);
 }
 
-pub ruleset cases = (both-laid, name-handed, needs)
+pub ruleset cases = (name-handed, needs)

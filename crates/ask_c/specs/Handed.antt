@@ -1,39 +1,22 @@
 -- What a caller in C is handed of a decision and of a module's name: values and names laid over what is lent for them. What has no room is left out.
 use mathlib.Core.Path.{_≡_, sym, ap, _∙_}
-use Prim.Native.Nat.{ℕ, _+_, _/_, _%_}
-use mathlib.Core.List.{List, [], _∷_}
+use Prim.Native.Nat.{ℕ, _+_}
+use mathlib.Core.List.{List}
 use lib.ListN.{length}
 use Rattle.meaning.specs.Answer.{memory-after}
 use Rattle.meaning.specs.Texts.{Texts}
-use Rattle.values_c.specs.Values.{laid, bit-of}
+use Rattle.values_c.specs.Values.{laid}
 use Rattle.list_pen.specs.Pen.{pen, written}
 use Rattle.answer.specs.declared.Name.{Name}
 use Rattle.ask_decision.specs.Decide.{Deciding}
+use Rattle.ask_names.specs.Named.{name-told}
 use Rattle.ask.specs.declared.Decision.{Decision}
-use Rattle.ask.specs.Decided.{Decided, decided-coincide, name-told}
-
--- the reason; the set, its low 32 digits before its high ones; the refusal's number and place, and 1 where it is in the new specification, 1 where it
--- is in the library; and the lengths of the two names
-unfoldable pub decision-values : Decision → List ℕ
-decision-values r =
-    r .reason
-    ∷ r .set % 4294967296
-    ∷ r .set / 4294967296
-    ∷ r .number
-    ∷ r .place
-    ∷ bit-of (r .«in_new»)
-    ∷ bit-of (r .«in_library»)
-    ∷ r .by .length
-    ∷ r .name .length
-    ∷ []
+use Rattle.ask.specs.Decided.{Decided, decided-coincide}
+use Rattle.ask_values.specs.Laid.{decision-values, names-laid}
 
 -- a name in 42 bytes
 unfoldable pub name-laid : Name → List ℕ → List ℕ
 name-laid n names = written (length names + 1) (n .bytes) (pen 0 names) .out
-
--- two names, one behind the other, each in 42 bytes
-unfoldable pub names-laid : Name → Name → List ℕ → List ℕ
-names-laid m n names = let limit = length names + 1 in written limit (n .bytes) (written limit (m .bytes) (pen 0 names)) .out
 
 -- the answer and the slices after a call, over the values and names that were lent
 pub record DecisionHanded (answer : ℕ) (memory values names lent-values lent-names : List ℕ) (d : Deciding) : Type 0 where

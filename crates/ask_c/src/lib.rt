@@ -1,53 +1,13 @@
 // Which modules to ask again, as C calls it, on slices of bytes and numbers only: each slice is a pointer and a length. Values and names are handed
 // over in lent slices; what has no room there is left out. The library has the functions of `asf_c` and `parts_c` too.
-use answer::Name;
-use ask::Decision;
 use ask::decide;
 use ask::module_name;
+use ask_values::put_decision;
+use ask_values::put_names;
 use list_pen::put_text;
-use values_c::bit;
-use values_c::put_three;
-use values_c::put_value;
-ghost use mathlib.Core.Path.{_≡_};
 ghost use Rattle.meaning.specs.Texts.{two-texts};
 ghost use Rattle.ask_decision.specs.Decide.{deciding};
-ghost use Rattle.values_c.specs.Values.{laid};
-ghost use Rattle.ask_c.specs.Handed.{decision-values, names-laid, name-laid, DecisionHanded, NameHanded};
-
-// The values of a decision.
-fn put_decision(values: &mut [usize], r: Decision)
-    ensures { λ _. ⌜ now (values .exit) ≡ laid 0 (decision-values r) (now (values .entry)) ⌝ }
-{
-    let set = r.set;
-    let reason = r.reason;
-    let number = r.number;
-    let by = r.by;
-    let name = r.name;
-    let in_new = r.in_new;
-    let in_library = r.in_library;
-    put_three(
-        values,
-        0,
-        reason as usize,
-        (set % 4294967296) as usize,
-        (set / 4294967296) as usize,
-    );
-    put_three(values, 3, number as usize, r.place, bit(in_new));
-    put_value(values, 6, bit(in_library));
-    put_value(values, 7, by.length);
-    put_value(values, 8, name.length);
-}
-
-// The names of a decision, each in 42 bytes.
-fn put_names(names: &mut [u8], by: Name, name: Name)
-    ensures { λ _. ⌜ now (names .exit) ≡ names-laid by name (now (names .entry)) ⌝ }
-{
-    let limit = names.len() + 1;
-    let first = by.bytes;
-    let second = name.bytes;
-    let a = put_text(names, 0, limit, &first);
-    put_text(names, a, limit, &second);
-}
+ghost use Rattle.ask_c.specs.Handed.{DecisionHanded, NameHanded};
 
 // Decides whether the stored visible part of the asked module is kept, from the old specification to the new one: 0, once the modules of a set are
 // answered 0; 1, the module itself is asked; 2, one of the two is not read; 19, too little working memory is lent.

@@ -12,7 +12,7 @@ use Rattle.meaning.specs.Trials.{all-opened}
 use Rattle.promises.specs.VisiblePart.{visible-part}
 use Rattle.promises.specs.Demand.{ReadAs, ShortOfRoom}
 use Rattle.promises.specs.Stored.{UpToDate}
-use Rattle.promises.specs.Instance.{modules-in, asked}
+use Rattle.promises_instances.specs.Instance.{modules-in, asked}
 use Rattle.ask_decision.specs.Same.{same-opened}
 use Rattle.ask_decision.specs.Reasons.{absent-before, absent-now, reached-otherwise, asked-changed, parameters-changed, exports-changed, imports-changed, named-otherwise}
 use Rattle.ask_decision.specs.Decide.{Decision, why, not-read, ask-again, keep-after, decide, module-called, decide-opened}

@@ -27,7 +27,7 @@ use Rattle.unite_items.specs.Absorb.{Absorbed, taken}
 use Rattle.unite_equations.specs.Found.{pointable, Noted, function-moved}
 use Rattle.unite.specs.Noting.{item-moved, node-moved, shape-moved, note-inside, note-item}
 use Rattle.clause_checks.specs.Notes.{mode-item, formal-row, moved-place, FormalsNoted}
-use Rattle.clause_mistakes.specs.Bound.{NotedAs, note-right}
+use Rattle.clause_fitting.specs.Bound.{NotedAs, note-right}
 use Rattle.form_rows.specs.RowLaws.{row-same}
 
 -- ---- a visible function is known at nodes by its name and its type

@@ -23,7 +23,7 @@ use Rattle.clause_translation.specs.Translation.{pairs-at, mode-formals}
 use Rattle.unite_equations.specs.Found.{Noted}
 use Rattle.unite.specs.United.{empty-in, with-items, hidden-onto, SlotsUnited, VisibleUnited, sorts, functions}
 use Rattle.clause_checks.specs.KeptParameters.{SlotsKept}
-use Rattle.clause_mistakes.specs.Fits.{mode-whole}
+use Rattle.clause_fitting.specs.Fits.{mode-whole}
 use Rattle.unite_checks.specs.Checked.{CheckRoom}
 use Rattle.clause.specs.Rooms.{as-is, Seen}
 

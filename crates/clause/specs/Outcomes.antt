@@ -29,8 +29,8 @@ use Rattle.form.specs.FormLaws.{kept-all}
 use Rattle.form.specs.Verdicts.{culprit-of, lone-of, told}
 use Rattle.clause_translation.specs.declared.Mode.{Mode}
 use Rattle.clause_translation.specs.Translation.{pairs-at, mode-formals}
-use Rattle.clause_mistakes.specs.Fits.{mode-whole}
-use Rattle.clause_mistakes.specs.Bound.{pairs-meant, unpaired-meant}
+use Rattle.clause_fitting.specs.Fits.{mode-whole}
+use Rattle.clause_fitting.specs.Bound.{pairs-meant, unpaired-meant}
 use Rattle.unite_checks.specs.Made.{makes-as, refused-makes, stops, goes-on}
 use Rattle.unite_checks.specs.Steps.{Bound}
 use Rattle.clause.specs.Rooms.{binding-mode, Binds, BindRoom, StepRoom}

@@ -21,7 +21,7 @@ use Rattle.clause_translation.specs.declared.Mode.{Mode}
 use Rattle.clause_translation.specs.Translation.{pairs-at}
 use Rattle.unite.specs.United.{hidden-onto, sorts, functions}
 use Rattle.unite.specs.Whole.{sorts-stay, functions-stay}
-use Rattle.clause_mistakes.specs.Bound.{sorts-meant, functions-meant}
+use Rattle.clause_fitting.specs.Bound.{sorts-meant, functions-meant}
 use Rattle.unite_checks.specs.Checked.{CheckRoom, CheckedForm}
 use Rattle.clause.specs.Rooms.{Binds, StepRoom, SeenRoom}
 use Rattle.clause.specs.Binding.{PairsRight, left-of, FrontBound, HiddenBound, bound-normal, BoundForm}

@@ -26,9 +26,10 @@ use Rattle.form.specs.declared.Verdict.the-variants.{Fine, Stop}
 use Rattle.form.specs.Forms.{items-at}
 use Rattle.form.specs.Verdicts.{told, lone-of}
 use Rattle.clause_translation.specs.Translation.{pairs-at}
+use Rattle.clause_names.specs.Named.{kind-named}
 use Rattle.clause_checks.specs.Pairs.{pair-count, given, pair-at, rightly}
 use Rattle.clause_checks.specs.PairWalks.{Walking, walk-start, walk-end, walk-here, walk-again}
-use Rattle.clause_checks.specs.Renamed.{kind-named, unfit}
+use Rattle.clause_checks.specs.Renamed.{unfit}
 use Rattle.form_walks.specs.Shapes.{by-kind}
 use Rattle.form_walks.specs.Rows.{none-below}
 use Rattle.clause_checks.specs.Searches.{named-any}

@@ -4,14 +4,13 @@ use super::pairs::new_word;
 use super::pairs::old_word;
 use super::pairs::pair_count;
 use super::searches::is_visible;
+use clause_names::may_name;
 use form::Culprit;
 use form::Verdict;
 use form_rows::Row;
 use form_rows::entries::same_word;
-use form_rows::kinds;
 use form_rows::rows::read_row;
 use meaning::numbers;
-use text_names::joint::is_infix;
 use text_names::joint::is_operator;
 ghost use mathlib.Core.Path.{_≡_};
 ghost use mathlib.Core.List.{[]};
@@ -29,23 +28,7 @@ ghost use Rattle.form.specs.Forms.{items-at};
 ghost use Rattle.form.specs.Verdicts.{told};
 ghost use Rattle.clause_translation.specs.Translation.{pairs-at};
 ghost use Rattle.clause_checks.specs.Pairs.{pair-at, rightly};
-ghost use Rattle.clause_checks.specs.Renamed.{kind-named, unfit};
-
-// May the name `new` stand for an item of the kind? An operator: for no sort, and for functions with as many arguments as it has.
-fn may_name(library: &[u8], text: &[u8], new: u32, kind: u32) -> bool
-    ensures { λ r. ⌜ r ≡ kind-named (name-of (joint (now (library .entry)) (now (text .entry))) new) kind ⌝ }
-{
-    if kind == kinds::VARIABLE {
-        return true;
-    }
-    if is_operator(library, text, new) {
-        if is_infix(library, text, new) {
-            return kind == kinds::INFIX;
-        }
-        return kind == kinds::PREFIX;
-    }
-    true
-}
+ghost use Rattle.clause_checks.specs.Renamed.{unfit};
 
 // Is the row called `old`, though `new` may not stand for it?
 fn is_unfit(library: &[u8], text: &[u8], tape: &[u32], old: u32, new: u32, row: Row) -> bool

@@ -1,9 +1,9 @@
 // Rows of a table sought by name, by name and kind, and by name and shape.
+use form_comparing::sorts::same_shape;
 use form_rows::Row;
 use form_rows::entries::same_word;
 use form_rows::kinds;
 use form_rows::rows::read_row;
-use form_rows::sorts::same_shape;
 ghost use mathlib.Core.Path.{_≡_};
 ghost use Prim.Native.Nat.{_≤_};
 ghost use lib.ListN.{length};

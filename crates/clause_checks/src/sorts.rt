@@ -1,5 +1,5 @@
 // Where rows of two tables are from.
-use form_rows::declarations::same_origin;
+use form_comparing::declarations::same_origin;
 use form_rows::rows::read_row;
 ghost use mathlib.Core.Path.{_≡_};
 ghost use Prim.Native.Nat.{_+_, _*_, _≤_};

@@ -1,3 +1,2 @@
-pub mod SortCases
 pub mod FormalCases
 pub mod BindingCases

@@ -1,4 +1,1 @@
-pub mod Unpaired
-pub mod Fits
-pub mod Formals
-pub mod Bound
+pub mod ItemsFit

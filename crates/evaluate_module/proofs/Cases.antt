@@ -27,24 +27,20 @@ use Rattle.form.specs.Memory.{part}
 use Rattle.form.specs.Verdicts.{culprit-of, told}
 use Rattle.form.specs.Forms.{Stands}
 use Rattle.form.specs.Blocks.{MadeThere}
-use Rattle.form_layout.specs.Layout.{joining-block, tape-end, kept-start}
+use Rattle.form_layout.specs.Layout.{joining-block, tape-end}
 use Rattle.modules.specs.declared.Heads.{Heads}
 use Rattle.modules.specs.Modules.{declared, named-in}
-use Rattle.own_declarations.specs.Scans.{walked}
-use Rattle.own_declarations.specs.Once.{once-at}
+use Rattle.own_repeats.specs.Scans.{walked}
+use Rattle.own_repeats.specs.Once.{once-at}
 use Rattle.unite.specs.United.{empty-in}
 use Rattle.unite.specs.Standing.{empty-stands}
 use Rattle.unite_checks.specs.Made.{makes-as, stops, goes-on}
 use Rattle.imports.specs.Spelling.{ImportsAt}
 use Rattle.imports.specs.Expressions.{ImportsRoom, ImportsMade, all-imported}
 use Rattle.own_completing.specs.declared.Totals.{Totals}
-use Rattle.own_completing.specs.Room.{StillRight}
-use Rattle.evaluate_storing.specs.Places.{StoreRoom}
-use Rattle.evaluate_storing.specs.Storing.{Stored}
-use Rattle.evaluate_module.specs.declared.states.State.{State}
+use Rattle.evaluate_states.specs.declared.State.{State}
 use Rattle.evaluate_module.specs.declared.evaluate.Stepped.{Stepped}
 use Rattle.evaluate_module.specs.declared.evaluate.Stepped.the-variants.{Refused as NotKept}
-use Rattle.evaluate_module.specs.States.{first-state, with-form, KeptRoom, KeptState}
 use Rattle.evaluate_module.specs.Steps.{first-checks, ImportedRoom, Imported}
 use Rattle.evaluate_module.specs.Completes.{CompletedRoom, completed-refused, complete-room, completed-all}
 use Rattle.evaluate_module.specs.Stepping.{Stepping}
@@ -122,27 +118,6 @@ all-made text t w w′ h from end i j b f r e q z g x = record {
 pub imports-of : (w : List ℕ) (t : ℕ) (h : Heads) (from end : ℕ) (totals : Totals) → CompletedRoom w t h from end totals → ImportedRoom w t h from end
 imports-of w t h from end totals c = c .imports
 
--- ---- what is kept
-
-pub summed : (totals : Totals) (f : Form) (items : ℕ) → items ≡ f .«visible_count» + f .«hidden_count»
-    → record { items = totals .items + items; equations = totals .equations + f .«equation_count»; nodes = totals .nodes + f .«node_count» } ≡ with-form totals f
-unfolding with-form
-summed totals f items e = rw e
-
-pub store-room : (size t k : ℕ) (f : Form) (s : State) → KeptRoom size t k f s → StoreRoom size t k f (s .cursor)
-store-room size t k f s c = c .store
-
-pub sums-right : (size t k : ℕ) (f : Form) (s : State) → KeptRoom size t k f s → StillRight (s .totals) (Done f)
-sums-right size t k f s c = c .right
-
-pub kept-more : (text : List ℕ) (t k : ℕ) (f : Form) (s : State) (c : ℕ) (sums : Totals) (w w′ : List ℕ) → sums ≡ with-form (s .totals) f
-    → Stored text t k f (s .cursor) c w w′ → KeptState text t k f s (record { cursor = c; totals = sums }) w w′
-kept-more text t k f s c sums w w′ e x = record { stored = x; totals = e }
-
-pub nothing-kept : (c : ℕ) → c ≡ kept-start → record { cursor = c; totals = record { items = 0; equations = 0; nodes = 0 } } ≡ first-state
-unfolding first-state
-nothing-kept c e = ap (λ (i : ℕ). record { cursor = i; totals = record { items = 0; equations = 0; nodes = 0 } }) e
-
 -- ---- the four steps
 
 module _ (text : List ℕ) (t : ℕ) (w : List ℕ) (h : Heads) (k from end : ℕ) (s : State) (v : Verdict) (begins : from ≡ getD (h .places) k 0)
@@ -169,4 +144,4 @@ module _ (text : List ℕ) (t : ℕ) (w : List ℕ) (h : Heads) (k from end : �
         (passed-first text (part w 0 t) t h ms (sofar .told) short k m ys d earlier f env (total-of env) (checks-there ∙ ap (told text) e));
   }
 
-pub ruleset cases = (nothing-kept, names-stop, names-fine, place-fits, imports-room, all-made, imports-of, completed-refused, complete-room, completed-all, summed, store-room, sums-right, kept-more, last-completed, last-refused, kept-room, last-kept, steps-stop, steps-on, needs)
+pub ruleset cases = (names-stop, names-fine, place-fits, imports-room, all-made, imports-of, completed-refused, complete-room, completed-all, last-completed, last-refused, kept-room, last-kept, steps-stop, steps-on, needs)

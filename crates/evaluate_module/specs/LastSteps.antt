@@ -16,13 +16,13 @@ use Rattle.invariants.specs.HiddenItems.{HiddenItem, HiddenSound}
 use Rattle.laws.specs.Outcomes.{Gives, gives-bound, gives-after, gives-then, gives-of}
 use Rattle.invariants.specs.HiddenEvaluated.{SoundEnvironment, imported-sound, joined-sound}
 use Rattle.form_order.specs.Sorting.{every-weaker}
-use Rattle.list_order.specs.Nodes.{Distinct}
-use Rattle.list_order.specs.Sound.{sound-distinct}
+use Rattle.list_keeping.specs.Nodes.{Distinct}
+use Rattle.list_keeping.specs.Sound.{sound-distinct}
 use Rattle.own_completing.specs.Room.{in-room}
 use Rattle.own_completing.specs.Completed.{all-of, equations-joined, joined-all, joined-own-ordered}
 use Rattle.evaluate_module.specs.Completes.{all-joined}
 use Rattle.evaluate_module.specs.FirstSteps.{last-steps}
-use Rattle.list_order.specs.Keeps.{sum-rearranged}
+use Rattle.list_keeping.specs.Keeps.{sum-rearranged}
 
 -- ---- the outcome
 

@@ -1,7 +1,6 @@
 pub mod Steps
 pub mod Places
 pub mod Completes
-pub mod States
 pub mod Sofar
 pub mod Stepping
 pub mod Heads

@@ -39,10 +39,10 @@ use Rattle.own_completing.specs.Room.{TotalsRight, StillRight, TotalsMeant, siz
 use Rattle.own_completing.specs.Completed.{KeptDone, MakesIn}
 use Rattle.evaluate_storing.specs.Places.{StoreRoom, form-space}
 use Rattle.evaluate_storing.specs.Storing.{stored-table, stored-env}
-use Rattle.evaluate_module.specs.declared.states.State.{State}
+use Rattle.evaluate_states.specs.declared.State.{State}
 use Rattle.evaluate_module.specs.declared.evaluate.Stepped.{Stepped}
 use Rattle.evaluate_module.specs.declared.evaluate.Stepped.the-variants.{Kept, Refused}
-use Rattle.evaluate_module.specs.States.{with-form, KeptRoom, KeptState}
+use Rattle.evaluate_states.specs.States.{with-form, KeptRoom, KeptState}
 use Rattle.evaluate_module.specs.Places.{ModuleAt}
 use Rattle.evaluate_module.specs.Completes.{CompletedRoom, CompletedAll, all-joined}
 use Rattle.evaluate_module.specs.Sofar.{Told, Ready, Sofar}

@@ -22,7 +22,7 @@ use Rattle.own_equations.specs.Seen.{SeenAmong}
 use Rattle.invariants.specs.HiddenEvaluated.{SoundEnvironment}
 use Rattle.form_keeping.specs.Environment.{EnvStands, TableBelow}
 use Rattle.evaluate_storing.specs.Places.{scratch-start, scratch-room}
-use Rattle.evaluate_module.specs.declared.states.State.{State}
+use Rattle.evaluate_states.specs.declared.State.{State}
 
 -- the t entries of the tape spell modules as reading leaves them
 pub record Told (text tape : List ℕ) (t : ℕ) (h : Heads) (ms : List Module) : Type 0 where

@@ -12,7 +12,7 @@ use Rattle.meaning.specs.Reached.{total-of, module-names}
 use Rattle.form.specs.Verdicts.{culprit-of}
 use Rattle.modules.specs.declared.Heads.{Heads}
 use Rattle.modules.specs.Meant.{Earlier}
-use Rattle.evaluate_module.specs.declared.states.State.{State}
+use Rattle.evaluate_states.specs.declared.State.{State}
 use Rattle.evaluate_module.specs.declared.evaluate.Stepped.{Stepped}
 use Rattle.evaluate_module.specs.declared.evaluate.Stepped.the-variants.{Kept, Refused}
 use Rattle.evaluate_module.specs.Sofar.{Ready, Sofar}

@@ -14,8 +14,8 @@ use Rattle.form.specs.Blocks.{Makes, MadeIn}
 use Rattle.form_layout.specs.Layout.{joining-block, second-block}
 use Rattle.modules.specs.declared.Heads.{Heads}
 use Rattle.modules.specs.Modules.{declared, named-in}
-use Rattle.own_declarations.specs.Scans.{walked}
-use Rattle.own_declarations.specs.Once.{once-at}
+use Rattle.own_repeats.specs.Scans.{walked}
+use Rattle.own_repeats.specs.Once.{once-at}
 use Rattle.imports.specs.Clausal.{Ground}
 use Rattle.imports.specs.Spelling.{ImportsAt}
 use Rattle.imports.specs.Expressions.{FewClauses}

@@ -1,8 +1,8 @@
 // The four steps for one module, after which its normal form is kept.
-use super::states::State;
-use super::states::kept;
 use super::steps::completed;
 use super::steps::first_checks;
+use evaluate_states::State;
+use evaluate_states::kept;
 use form::Culprit;
 use form::Made;
 use form::Verdict;

@@ -1,4 +1,3 @@
 // One module evaluated: the four steps, after which its normal form is kept.
 pub mod evaluate;
-pub mod states;
 pub mod steps;

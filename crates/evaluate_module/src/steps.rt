@@ -8,7 +8,7 @@ use modules::Heads;
 use modules::names_right;
 use own_completing::Totals;
 use own_completing::complete::complete;
-use own_declarations::once::declared_once;
+use own_repeats::once::declared_once;
 use tape::roles;
 use unite::empty_form;
 ghost use mathlib.Core.Path.{_≡_};

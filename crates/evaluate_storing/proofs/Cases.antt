@@ -8,8 +8,8 @@ use Rattle.form.specs.declared.Form.{Form}
 use Rattle.form.specs.Forms.{form-size}
 use Rattle.form_layout.specs.Layout.{table-start}
 use Rattle.form_keeping.specs.Keeping.{form-words}
-use Rattle.list_order.specs.Kept.{KeepRoom, order-place}
-use Rattle.list_order.specs.Keeps.{Keeps}
+use Rattle.list_keeping.specs.Kept.{KeepRoom, order-place}
+use Rattle.list_keeping.specs.Keeps.{Keeps}
 use Rattle.evaluate_storing.specs.Places.{place-form, scratch-start, space-small, keep-room}
 use Rattle.evaluate_storing.specs.Storing.{store-done}
 

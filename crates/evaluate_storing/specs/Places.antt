@@ -8,8 +8,8 @@ use Rattle.form.specs.declared.Form.{Form}
 use Rattle.form.specs.Blocks.{MadeThere}
 use Rattle.form.specs.Forms.{equation-size, slot-size}
 use Rattle.form_layout.specs.Layout.{block-at, joining-block, kept-start, table-start, Laid}
-use Rattle.list_order.specs.Nodes.{kept-form}
-use Rattle.list_order.specs.Kept.{KeepRoom, order-place}
+use Rattle.list_keeping.specs.Nodes.{kept-form}
+use Rattle.list_keeping.specs.Kept.{KeepRoom, order-place}
 use Rattle.form_keeping.specs.Environment.{Between, below-outside, made-between}
 use Rattle.form_keeping.specs.Growing.{table-end}
 

@@ -19,9 +19,9 @@ use Rattle.form.specs.FormLaws.{kept-sets, tape-same}
 use Rattle.form_frames.specs.Changes.{still-stands}
 use Rattle.form_layout.specs.Layout.{table-start}
 use Rattle.form_keeping.specs.Keeping.{form-words, form-back}
-use Rattle.list_order.specs.Kept.{order-place}
-use Rattle.list_order.specs.Nodes.{Distinct}
-use Rattle.list_order.specs.Keeps.{Keeps}
+use Rattle.list_keeping.specs.Kept.{order-place}
+use Rattle.list_keeping.specs.Nodes.{Distinct}
+use Rattle.list_keeping.specs.Keeps.{Keeps}
 use Rattle.form_keeping.specs.Environment.{Between, below-outside, kept-form, TableBelow, number-of, EnvStands}
 use Rattle.form_keeping.specs.Growing.{Grown, RowThere, table-end, table-more, env-more}
 use Rattle.evaluate_storing.specs.Places.{form-space, place-form, placed-form, placed-between, scratch-start, scratch-room, scratch-behind, StoreRoom, tape-below}

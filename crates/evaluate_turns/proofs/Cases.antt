@@ -12,8 +12,8 @@ use Rattle.module_set.specs.ModuleSet.{holds}
 use Rattle.modules.specs.declared.Heads.{Heads}
 use Rattle.modules.specs.Modules.{reached-set}
 use Rattle.form_keeping.specs.Keeping.{Cleared}
-use Rattle.evaluate_module.specs.declared.states.State.{State}
-use Rattle.evaluate_module.specs.States.{first-state}
+use Rattle.evaluate_states.specs.declared.State.{State}
+use Rattle.evaluate_states.specs.States.{first-state}
 use Rattle.evaluate_turns.specs.declared.Ended.{Ended}
 use Rattle.evaluate_turns.specs.declared.Ended.the-variants.{Normalised}
 use Rattle.evaluate_turns.specs.Asked.{Asked, asked-so}

@@ -27,11 +27,12 @@ use Rattle.form_keeping.specs.Keeping.{Cleared}
 use Rattle.form_keeping.specs.Starting.{table-none, env-none}
 use Rattle.imports.specs.Clausal.{number-within}
 use Rattle.evaluate_storing.specs.Places.{scratch-there}
-use Rattle.evaluate_module.specs.States.{first-state}
+use Rattle.evaluate_states.specs.States.{first-state}
 use Rattle.evaluate_module.specs.Sofar.{Told, Ready, Sofar}
 use Rattle.evaluate_turns.specs.declared.Ended.{Ended}
 use Rattle.evaluate_turns.specs.declared.Ended.the-variants.{Normalised}
-use Rattle.evaluate_turns.specs.Turns.{LastStands, EndsAs, Resumed, Turned, Given, AllTurned}
+use Rattle.form_keeping.specs.Environment.{LastStands}
+use Rattle.evaluate_turns.specs.Turns.{EndsAs, Resumed, Turned, Given, AllTurned}
 use Rattle.evaluate_turns.specs.Asked.{chosen-none, asked-none}
 use Rattle.evaluate_turns.specs.ByNumber.{places-ordered, places-within, places-few}
 

@@ -26,15 +26,15 @@ use Rattle.modules.specs.declared.Heads.{Heads}
 use Rattle.modules.specs.ModuleLaws.{heads-number}
 use Rattle.modules.specs.ReachedLaws.{names-number, name-by-number, drop-some, chosen}
 use Rattle.modules.specs.Meant.{Earlier, one-earlier}
-use Rattle.form_keeping.specs.Environment.{kept-form}
-use Rattle.evaluate_module.specs.declared.states.State.{State}
+use Rattle.form_keeping.specs.Environment.{kept-form, LastStands}
+use Rattle.evaluate_states.specs.declared.State.{State}
 use Rattle.evaluate_module.specs.declared.evaluate.Stepped.{Stepped}
 use Rattle.evaluate_module.specs.declared.evaluate.Stepped.the-variants.{Kept, Refused as StepRefused}
 use Rattle.evaluate_module.specs.Sofar.{Ready, Sofar}
 use Rattle.evaluate_module.specs.Stepping.{evaluated-as, StepMeant, Stepping}
 use Rattle.evaluate_turns.specs.declared.Ended.{Ended}
 use Rattle.evaluate_turns.specs.declared.Ended.the-variants.{Normalised, Refused}
-use Rattle.evaluate_turns.specs.Turns.{LastStands, EndsAs, Resumed, Turned, AskedTurned}
+use Rattle.evaluate_turns.specs.Turns.{EndsAs, Resumed, Turned, AskedTurned}
 use Rattle.evaluate_turns.specs.Asked.{Asked, before-asked, chosen-none}
 use Rattle.evaluate_turns.specs.ByNumber.{ModuleAt, module-at, drop-later, own-name, own-number}
 

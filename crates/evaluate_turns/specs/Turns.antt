@@ -5,7 +5,7 @@ use mathlib.Core.List.{List, []}
 use lib.ListN.{length, drop}
 use Rattle.meaning.specs.Lists.{before}
 use Rattle.meaning.specs.Names.{Name, same}
-use Rattle.meaning.specs.Numbers.{module-limit, memory-size}
+use Rattle.meaning.specs.Numbers.{memory-size}
 use Rattle.meaning.specs.Syntax.{Module}
 use Rattle.meaning.specs.Normal.{Normal, empty}
 use Rattle.meaning.specs.Checks as Meaning
@@ -15,26 +15,18 @@ use Rattle.meaning.specs.Reached.{in-turn, reached, module-names}
 use Rattle.text_names.specs.Word.{name-of}
 use Rattle.form.specs.declared.Culprit.{Culprit}
 use Rattle.form.specs.Memory.{part}
-use Rattle.form.specs.Forms.{Stands}
-use Rattle.form.specs.Blocks.{Fits}
 use Rattle.form.specs.Verdicts.{culprit-of}
 use Rattle.form_layout.specs.Layout.{tape-end}
 use Rattle.module_set.specs.ModuleSet.{holds}
 use Rattle.modules.specs.declared.Heads.{Heads}
 use Rattle.modules.specs.ReachedLaws.{chosen}
 use Rattle.modules.specs.Meant.{Earlier}
-use Rattle.form_keeping.specs.Environment.{kept-form}
-use Rattle.evaluate_module.specs.declared.states.State.{State}
+use Rattle.form_keeping.specs.Environment.{LastStands}
+use Rattle.evaluate_states.specs.declared.State.{State}
 use Rattle.evaluate_turns.specs.declared.Ended.{Ended}
 use Rattle.evaluate_turns.specs.declared.Ended.the-variants.{Normalised, Refused}
 use Rattle.evaluate_module.specs.Sofar.{Told, Sofar, Prepared}
 use Rattle.evaluate_turns.specs.Asked.{Asked}
-
--- the form kept for module number `last` stands for the normal form
-pub record LastStands (text : List ℕ) (t : ℕ) (w : List ℕ) (last : ℕ) (n : Normal) : Type 0 where
-  pub number : last ≤ module-limit
-  pub fits : Fits (kept-form w last)
-  pub stands : Stands text (part w 0 t) w (kept-form w last) n
 
 pub record ListedAs (text : List ℕ) (t : ℕ) (w : List ℕ) (count last : ℕ) (counted : ℕ) (n : Normal) : Type 0 where
   pub count-so : count ≡ counted

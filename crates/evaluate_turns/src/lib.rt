@@ -1,8 +1,8 @@
 // The modules that the asked one reaches, in text order, each once, up to the first refused.
 use evaluate_module::evaluate::Stepped;
 use evaluate_module::evaluate::evaluate;
-use evaluate_module::states::State;
-use evaluate_module::states::first_state;
+use evaluate_states::State;
+use evaluate_states::first_state;
 use form::Culprit;
 use form_keeping::clear_forms;
 use form_layout::kept_start;

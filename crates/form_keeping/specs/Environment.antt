@@ -6,6 +6,7 @@ use native.Mathlib.Omega.{arith}
 use Rattle.meaning.specs.Lists.{before}
 use Rattle.meaning.specs.Names.{Name, same}
 use Rattle.meaning.specs.Numbers.{module-limit}
+use Rattle.meaning.specs.Normal.{Normal}
 use Rattle.meaning.specs.Evaluate.{Evaluated, normal-of}
 use Rattle.form_rows.specs.Rows.{row-size}
 use Rattle.form.specs.declared.Form.{Form}
@@ -46,6 +47,12 @@ made-between size t b names rows hidden-rows sources f l n r h e m = omega arith
 -- where the normal form of module k is
 abbrev pub kept-form : List ℕ → ℕ → Form
 kept-form w k = form-at w (table-start + k * form-size)
+
+-- the form kept for module number `last` stands for the normal form
+pub record LastStands (text : List ℕ) (t : ℕ) (w : List ℕ) (last : ℕ) (n : Normal) : Type 0 where
+  pub number : last ≤ module-limit
+  pub fits : Fits (kept-form w last)
+  pub stands : Stands text (part w 0 t) w (kept-form w last) n
 
 -- each kept form fits, and ends below the cursor
 pub record TableBelow (w : List ℕ) (cursor : ℕ) : Type 0 where

@@ -2,4 +2,3 @@ pub mod Auto
 pub mod Scans
 pub mod Told
 pub mod Moves
-pub mod Alike

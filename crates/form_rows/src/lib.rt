@@ -1,10 +1,8 @@
 // Items, origins and sorts as words of the working memory: rows moved in and out as structs by value, and the tests on them.
-pub mod declarations;
 pub mod entries;
 pub mod kinds;
 pub mod rows;
 pub mod sections;
-pub mod sorts;
 
 // Where an item is declared, and where it stands. A parameter carries its name's word.
 pub enum Section {

@@ -17,7 +17,9 @@ use Rattle.form.specs.declared.Form.{Form}
 use Rattle.form.specs.Forms.{items-at, equation-row-at, EquationsStand, Stands, equation-size}
 use Rattle.list_pen.specs.Pen.{rows-text}
 use Rattle.list_terms.specs.Meant.{Told, equation-meant}
-use Rattle.list.specs.Lines.{line-of, equation-row, visible-text, hidden-text, listing-text}
+use Rattle.list_lines.specs.Lines.{line-of}
+use Rattle.list_parts.specs.Lines.{equation-row, visible-text, hidden-text}
+use Rattle.list.specs.Lines.{listing-text}
 use Rattle.list.specs.Parts.{lines-append, line-before, line-alone, visible-meant, hidden-items-meant}
 use Rattle.list.specs.Pointed.{Unlike, hidden-unlike, nodes-told}
 

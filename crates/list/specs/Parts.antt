@@ -11,13 +11,14 @@ use Rattle.meaning.specs.Names.{bytes, Name}
 use Rattle.meaning.specs.Origins.{Section, export-section, hidden-section, parameter-section, same-section, Shape, sort-shape, function-shape, variable-shape, Item, in-parameter}
 use Rattle.meaning.specs.Normal.{slot-names, formals}
 use Rattle.meaning.specs.Written.{numbered, shape-text}
-use Rattle.meaning.specs.Listing.{Line, line, line-text, lines-text, origin-line, kind-key, item-line, exported-lines, formal-lines, is-exported, parameter-lines, visible-lines, hidden-item-lines}
+use Rattle.meaning.specs.Listing.{Line, line-text, lines-text, origin-line, kind-key, item-line, exported-lines, formal-lines, is-exported, parameter-lines, visible-lines, hidden-item-lines}
 use Rattle.text_names.specs.Word.{name-of}
 use Rattle.form_rows.specs.Rows.{item-of, row-at, row-size}
 use Rattle.form.specs.declared.Form.{Form}
 use Rattle.form.specs.Forms.{slot-at, slots-at, items-at, visible-at, slot-size}
 use Rattle.list_pen.specs.Pen.{rows-text}
-use Rattle.list.specs.Lines.{line-of, origin-line-of, key-by, rest-of, item-text, standing-row, standing-text, formals-text, parameter-row, hidden-row, visible-text}
+use Rattle.list_lines.specs.Lines.{line-of, origin-line-of, key-by, rest-of, item-text}
+use Rattle.list_parts.specs.Lines.{standing-row, standing-text, formals-text, parameter-row, hidden-row, visible-text}
 
 -- ---- lines one after the other
 

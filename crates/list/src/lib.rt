@@ -1,12 +1,9 @@
 // The listing of a normal form, written to lent output: all of it or nothing. The form is in order, and its tape stands in front of the
 // working memory.
-pub mod lines;
-pub mod parts;
-
 use form::Form;
-use lines::put_line;
-use parts::put_hidden;
-use parts::put_visible;
+use list_lines::put_line;
+use list_parts::put_hidden;
+use list_parts::put_visible;
 ghost use mathlib.Core.Path.{_≡_};
 ghost use Prim.Native.Nat.{_^_, _<_, _≤_};
 ghost use lib.ListN.{length};

@@ -25,7 +25,8 @@ use Rattle.form_order.specs.Ordered.{row-item}
 use Rattle.list_order.specs.declared.Table.{Table}
 use Rattle.list_order.specs.declared.Table.the-variants.{Visible, Sorts, Hidden, Equations}
 use Rattle.list_terms.specs.Terms.{equation-at}
-use Rattle.list_order.specs.Orders.{line-size, standing-word, kind-rank, by-name-then-type, by-kind-then-name, by-origin-then-type, row-place, by-position-then-line, Small, row-order}
+use Rattle.list_texts.specs.Parts.{line-size}
+use Rattle.list_order.specs.Orders.{standing-word, kind-rank, by-name-then-type, by-kind-then-name, by-origin-then-type, row-place, by-position-then-line, Small, row-order}
 use Rattle.text_names.proofs.Compared.{bytes-told}
 
 -- ---- by one thing, then by another

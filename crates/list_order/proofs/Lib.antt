@@ -1,5 +1,3 @@
-pub mod TextCases
 pub mod CompareCases
 pub mod SortCases
 pub mod CopyCases
-pub mod KeepCases

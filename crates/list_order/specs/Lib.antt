@@ -1,10 +1,5 @@
 pub mod Orders
-pub mod Sizes
 pub mod Tables
 pub mod Copying
 pub mod Arranged
-pub mod Kept
-pub mod Nodes
 pub mod Lines
-pub mod Keeps
-pub mod Sound

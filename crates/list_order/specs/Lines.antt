@@ -20,8 +20,8 @@ use Rattle.form.specs.declared.EquationRow.{EquationRow}
 use Rattle.form.specs.Forms.{Node, flat-term, flat-terms, flat-sides, flat-equation, node-row, node-shape, node-of, node-in, nodes-of, EquationStands}
 use Rattle.form.specs.FlatMoves.{equation-count}
 use Rattle.list_terms.specs.Meant.{head-of-node}
-use Rattle.list_order.specs.Orders.{line-size}
-use Rattle.list_order.specs.Sizes.{numbered-size}
+use Rattle.list_texts.specs.Parts.{line-size}
+use Rattle.list_texts.specs.Sizes.{numbered-size}
 
 every-split : {A : Type 0} (P : A → Type 0) (xs ys : List A) → Every P (xs ++ ys) → Every P xs × Every P ys
 every-split P [] ys h = (tt, h)

@@ -1,14 +1,14 @@
 // Which of two rows of a table comes first.
 use super::Table;
-use super::texts::compare_origins;
-use super::texts::line_not_after;
-use super::texts::type_not_after;
 use form::EquationRow;
 use form::equations::read_equation;
 use form_rows::Row;
 use form_rows::Section;
 use form_rows::kinds;
 use form_rows::rows::read_row;
+use list_texts::compare_origins;
+use list_texts::line_not_after;
+use list_texts::type_not_after;
 use text_names::joint::compare;
 ghost use mathlib.Core.Path.{_≡_};
 ghost use Prim.Native.Nat.{_+_, _*_, _^_, _<_};

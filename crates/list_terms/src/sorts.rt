@@ -1,5 +1,6 @@
 // Sorts and types, in which a hidden sort is written by its number. The hidden items in order are the rows of a table of the memory:
 // `count` of them from `base` on.
+use form_comparing::sorts::inputs_of;
 use form_rows::Origin;
 use form_rows::Row;
 use form_rows::Section;
@@ -10,7 +11,6 @@ use form_rows::entries::same_word;
 use form_rows::kinds;
 use form_rows::rows::read_row;
 use form_rows::sections::same_section;
-use form_rows::sorts::inputs_of;
 ghost use mathlib.Core.Path.{_≡_};
 ghost use mathlib.Core.Bool.{_&&_};
 ghost use mathlib.Core.List.{map};

@@ -14,11 +14,11 @@ use Rattle.tape.specs.Tape.{hidden-function, variable-role}
 use Rattle.form_rows.specs.Entries.{role-at, word-at, is-function-role, arity-at, sort-place}
 use Rattle.form.specs.declared.Verdict.the-variants.{Fine, Stop}
 use Rattle.form.specs.Verdicts.{lone-of, told}
-use Rattle.own_declarations.specs.Scans.{found, first-of}
+use Rattle.own_repeats.specs.Scans.{found, first-of}
+use Rattle.own_repeats.proofs.Cases.{on, done, found-none, found-here, found-on, walked-all, walked-on, walked-stop}
 use Rattle.own_declarations.specs.Sorts.{is-named, is-row, is-seen, is-inside}
 use Rattle.own_declarations.specs.Checked.{lacks, lacks-function, lacks-variable, lacks-sort, available-at, wrong-at, variable-at}
 use Rattle.own_declarations.specs.declared.Own.{Own}
-use Rattle.own_declarations.proofs.Cases.{on, done, found-none, found-here, found-on, walked-all, walked-on, walked-stop}
 
 module _ (text tape w : List ℕ) (own : Own) where
   module _ (hidden : Bool) (i x : ℕ) (b : Bool) (e : x ≡ word-at tape i) where

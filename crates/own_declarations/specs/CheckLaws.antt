@@ -20,7 +20,7 @@ use Rattle.meaning.specs.Evaluate.{seen-sorts}
 use Rattle.tape.specs.Roles.{All, all-map, all-type, all-imports, all-equations}
 use Rattle.tape.specs.Tape.{Entry, entry, flat-function, flat-signature, flat-parameter, flat-group, flat-module, parameter-function, export-function, hidden-function, variable-role, variable-sort}
 use Rattle.form_rows.specs.Entries.{name-at, names-from, is-function-role, sort-place}
-use Rattle.own_declarations.specs.Scans.{found, walked}
+use Rattle.own_repeats.specs.Scans.{found, walked}
 use Rattle.own_declarations.specs.Checked.{lacks, lacks-function, lacks-variable, lacks-sort, available-at}
 use Rattle.form_walks.specs.Lists.{any-append}
 use Rattle.own_declarations.specs.Spelled.{Spells, spells-front, spells-behind}

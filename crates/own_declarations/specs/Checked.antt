@@ -8,7 +8,7 @@ use Rattle.meaning.specs.Numbers.{bad-sort, bad-variable}
 use Rattle.meaning.specs.Checks.{lone, Check, fine, stop}
 use Rattle.tape.specs.Tape.{hidden-function, variable-role}
 use Rattle.form_rows.specs.Entries.{role-at, name-at, is-function-role, arity-at, sort-place}
-use Rattle.own_declarations.specs.Scans.{found, first-of}
+use Rattle.own_repeats.specs.Scans.{found, first-of}
 use Rattle.own_declarations.specs.Sorts.{is-named, is-row, is-seen, is-inside}
 use Rattle.own_declarations.specs.declared.Own.{Own}
 

@@ -23,7 +23,7 @@ use Rattle.form_rows.specs.Entries.{role-at, name-at, home-at}
 use Rattle.form_walks.specs.Flat.{names-with}
 use Rattle.form_rows.specs.Rows.{hidden-origin}
 use Rattle.form.specs.Forms.{items-at}
-use Rattle.own_declarations.specs.Scans.{first-of}
+use Rattle.own_repeats.specs.Scans.{first-of}
 use Rattle.own_declarations.specs.Sorts.{is-named, place-of, declares-seen, hidden-place, is-seen, is-inside, resolved-in}
 use Rattle.own_declarations.specs.RowNames.{sorts-found}
 use Rattle.own_declarations.specs.Spelled.{Spells, is-role, names-module, place-found, home-there}

@@ -15,7 +15,7 @@ use Rattle.form_rows.specs.Kinds.{kind-at}
 use Rattle.form_rows.specs.Rows.{row-size}
 use Rattle.form.specs.Memory.{Same}
 use Rattle.form.specs.FormLaws.{items-same}
-use Rattle.own_declarations.specs.Scans.{found}
+use Rattle.own_repeats.specs.Scans.{found}
 use Rattle.own_declarations.specs.Sorts.{is-row, is-seen, resolved-in}
 use Rattle.own_declarations.specs.Items.{resolved-at, resolved-from, own-shape, own-item, own-role, is-own, own-count}
 use Rattle.own_declarations.specs.DeclarationLaws.{Stands}

@@ -1,5 +1,3 @@
-pub mod Scans
-pub mod Once
 pub mod Sorts
 pub mod Checked
 pub mod Items

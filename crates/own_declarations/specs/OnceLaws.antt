@@ -18,8 +18,8 @@ use Rattle.meaning.specs.Evaluate.{same-function, once-in, once-in-parameters, 
 use Rattle.tape.specs.Roles.{All, all-map, all-type, all-signature, all-parameters, all-imports, all-groups, all-equations}
 use Rattle.tape.specs.Tape.{Entry, entry, flat-function, flat-signature, flat-parameter, flat-module, parameter-role, parameter-sort, parameter-function, variable-role}
 use Rattle.form_rows.specs.Entries.{role-at, name-at, is-function-role, is-parameter-role, last-with, declared-at}
-use Rattle.own_declarations.specs.Scans.{found, walked}
-use Rattle.own_declarations.specs.Once.{is-declaring, repeats, section-start, is-repeat, once-at}
+use Rattle.own_repeats.specs.Scans.{found, walked}
+use Rattle.own_repeats.specs.Once.{is-declaring, repeats, section-start, is-repeat, once-at}
 use Rattle.own_declarations.specs.Spelled.{Spells, spells-front, spells-behind, last-over}
 use Rattle.own_declarations.specs.Runs.{parameters-of, exports-of, imports-of, groups-of, equations-of, at-exports, at-imports, at-hidden, at-groups, at-equations, Parts, parts, quiet-run, walk-module, then-fine, check-walks, walked-append}
 use Rattle.own_declarations.specs.ItemLaws.{Few, FewEach, FewInputs, FunctionAt, function-at, function-long, type-entries}

@@ -15,7 +15,7 @@ use Rattle.meaning.specs.Own.{is-constant, constants}
 use Rattle.text_names.specs.Word.{name-of}
 use Rattle.form_rows.specs.Rows.{sort-of, type-of, shape-of, item-of, words-from, row-at, row-size}
 use Rattle.form.specs.Forms.{items-at}
-use Rattle.own_declarations.specs.Scans.{found}
+use Rattle.own_repeats.specs.Scans.{found}
 use Rattle.own_declarations.specs.Sorts.{is-row}
 
 module _ (text tape w : List ℕ) (b kind : ℕ) (n : Name) (q : Shape → Bool)

@@ -11,7 +11,7 @@ use Rattle.meaning.specs.Checks.{Check, fine, stop, _>>_}
 use Rattle.tape.specs.Roles.{All}
 use Rattle.tape.specs.Tape.{Entry, flat-signature, flat-parameter, flat-import, flat-group, flat-equation, flat-module, module-role, export-sort, export-function, hidden-sort, hidden-function}
 use Rattle.form_rows.specs.Entries.{role-at}
-use Rattle.own_declarations.specs.Scans.{walked}
+use Rattle.own_repeats.specs.Scans.{walked}
 use Rattle.own_declarations.specs.Spelled.{Spells, spells-front, spells-behind}
 
 -- ---- the parts of a module that stands from place a on

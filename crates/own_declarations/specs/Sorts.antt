@@ -12,7 +12,7 @@ use Rattle.text_names.specs.Word.{name-of}
 use Rattle.tape.specs.Tape.{parameter-sort, export-sort, hidden-sort}
 use Rattle.form_rows.specs.Entries.{role-at, name-at}
 use Rattle.form_rows.specs.Rows.{hidden-origin, row-size}
-use Rattle.own_declarations.specs.Scans.{found, first-of}
+use Rattle.own_repeats.specs.Scans.{found, first-of}
 use Rattle.own_declarations.specs.declared.Own.{Own}
 
 -- the tape lies in the memory, and places double as words

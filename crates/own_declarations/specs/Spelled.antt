@@ -16,7 +16,7 @@ use Rattle.tape.specs.Tape.{Entry, entry, flat-function, flat-signature, flat-p
 use Rattle.text_names.specs.Word.{name-of}
 use Rattle.form_rows.specs.Entries.{role-at, name-at, last-with, home-at}
 use Rattle.form_walks.specs.Flat.{names-with, names-append, names-none}
-use Rattle.own_declarations.specs.Scans.{found, first-of}
+use Rattle.own_repeats.specs.Scans.{found, first-of}
 use Rattle.own_declarations.specs.Sorts.{is-named, place-of}
 use Rattle.own_declarations.specs.declared.Own.{Own}
 

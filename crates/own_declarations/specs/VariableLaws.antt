@@ -20,7 +20,7 @@ use Rattle.tape.specs.Roles.{All, all-parameters, all-signature, all-imports, a
 use Rattle.tape.specs.Tape.{Entry, entry, flat-group, flat-module, export-sort, export-function, hidden-sort, hidden-function, variable-role, variable-sort}
 use Rattle.form_rows.specs.Entries.{role-at, name-at}
 use Rattle.form.specs.Forms.{items-at}
-use Rattle.own_declarations.specs.Scans.{found, walked}
+use Rattle.own_repeats.specs.Scans.{found, walked}
 use Rattle.own_declarations.specs.Sorts.{is-named}
 use Rattle.own_declarations.specs.Checked.{wrong-at, variable-at}
 use Rattle.own_declarations.specs.RowNames.{constants-found}

@@ -20,7 +20,7 @@ ghost use Rattle.text_names.specs.Word.{name-of};
 ghost use Rattle.text_names.specs.Joint.{joint};
 ghost use Rattle.form.specs.Memory.{part};
 ghost use Rattle.form.specs.Verdicts.{told};
-ghost use Rattle.own_declarations.specs.Scans.{found, walked};
+ghost use Rattle.own_repeats.specs.Scans.{found, walked};
 ghost use Rattle.own_declarations.specs.Sorts.{Ready};
 ghost use Rattle.own_declarations.specs.Checked.{lacks, lacks-function, lacks-variable, lacks-sort, available-at, wrong-at, variable-at};
 

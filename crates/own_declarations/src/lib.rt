@@ -1,7 +1,6 @@
 // What a module's own entries on the tape declare: its items as rows, and the checks of them. The module's entries stand from one place of
 // the tape up to another.
 pub mod checks;
-pub mod once;
 pub mod rows;
 pub mod sorts;
 

@@ -14,7 +14,7 @@ ghost use Rattle.text_names.specs.Joint.{joint};
 ghost use Rattle.form_rows.specs.Rows.{sort-of, row-size};
 ghost use Rattle.form_rows.specs.Entries.{name-at};
 ghost use Rattle.form.specs.Memory.{part};
-ghost use Rattle.own_declarations.specs.Scans.{found, first-of};
+ghost use Rattle.own_repeats.specs.Scans.{found, first-of};
 ghost use Rattle.own_declarations.specs.Sorts.{is-named, is-row, declares-at, declares-seen, hidden-place, is-seen, is-inside, resolved-in, Ready};
 
 // Has the entry at i the role and the name w?

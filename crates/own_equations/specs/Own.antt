@@ -23,7 +23,7 @@ use Rattle.form.specs.declared.Made.{Made}
 use Rattle.form.specs.Memory.{part}
 use Rattle.own_declarations.specs.Spelled.{Spells}
 use Rattle.own_typing.specs.Equations.{equations-from}
-use Rattle.own_typing.specs.Meant.{visibly}
+use Rattle.own_terms.specs.Meant.{visibly}
 use Rattle.own_typing.specs.Typed.{known-in, module-in, own-made, Seen, Unseen, OwnLaid, OwnTyped, own-typed}
 use Rattle.own_equations.specs.Placed.{in-front, module-split, equations-spelled, equations-begin, typer-spelled, equations-size}
 

@@ -12,11 +12,11 @@ use Rattle.tape.specs.Tape.{Entry, entry, module-role, export-sort, export-func
 use Rattle.form_rows.specs.Entries.{next-with}
 use Rattle.form.specs.Forms.{equation-size}
 use Rattle.own_declarations.specs.Spelled.{Spells, spells-front, spells-behind, entries-spelled}
-use Rattle.own_typing.specs.declared.Known.{Known}
-use Rattle.own_typing.specs.Typing.{tape-in}
-use Rattle.own_typing.specs.Meant.{begins}
+use Rattle.own_finding.specs.declared.Known.{Known}
+use Rattle.own_terms.specs.Typing.{tape-in}
+use Rattle.own_terms.specs.Meant.{begins}
 use Rattle.form_walks.specs.Lists.{each-append}
-use Rattle.own_typing.specs.Meant as typer
+use Rattle.own_terms.specs.Meant as typer
 
 -- a module's entries in front of its equations
 unfoldable pub in-front : Module → List Entry

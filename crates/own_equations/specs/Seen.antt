@@ -18,7 +18,7 @@ use Rattle.laws.specs.Outcomes.{Gives}
 use Rattle.laws.specs.OwnItems.{section-made, visible-every}
 use Rattle.laws.specs.Walk.{AnyName, any-imports, EnvironmentOf, imported-gives, Evaluates, module-gives}
 use Rattle.laws.specs.Piecewise.{AllVisible, visible-evaluates}
-use Rattle.own_typing.specs.Meant.{visibly}
+use Rattle.own_terms.specs.Meant.{visibly}
 use Rattle.own_typing.specs.Typed.{Seen}
 
 abbrev pub AllSeen : Normal → Type 0

@@ -16,7 +16,7 @@ use Rattle.form.specs.declared.Verdict.the-variants.{Fine, Stop}
 use Rattle.form.specs.Memory.{part}
 use Rattle.form.specs.Verdicts.{told}
 use Rattle.unite_checks.specs.Consistent.{Checked, checked-own}
-use Rattle.own_declarations.specs.Scans.{walked}
+use Rattle.own_repeats.specs.Scans.{walked}
 use Rattle.own_declarations.specs.Checked.{available-at, variable-at}
 use Rattle.own_declarations.specs.declared.Own.{Own}
 use Rattle.own_items.specs.declared.OwnRows.{OwnRows}

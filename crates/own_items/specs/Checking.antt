@@ -11,7 +11,7 @@ use Rattle.form.specs.declared.Verdict.{Verdict}
 use Rattle.form.specs.Memory.{part, Kept}
 use Rattle.form.specs.Verdicts.{told}
 use Rattle.unite_checks.specs.Consistent.{Laid}
-use Rattle.own_declarations.specs.Scans.{walked}
+use Rattle.own_repeats.specs.Scans.{walked}
 use Rattle.own_declarations.specs.Checked.{available-at, variable-at}
 use Rattle.own_declarations.specs.ItemLaws.{FewInputs}
 use Rattle.own_declarations.specs.declared.Own.{Own}

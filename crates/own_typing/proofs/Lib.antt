@@ -1,4 +1,1 @@
-pub mod Seeks
-pub mod Cases
-pub mod Deep
 pub mod Passes

@@ -13,14 +13,14 @@ use Rattle.meaning.specs.Origins.{same-sort}
 use Rattle.form_rows.specs.Entries.{role-at, word-at}
 use Rattle.form_rows.specs.Rows.{sort-of}
 use Rattle.form.specs.declared.EquationRow.{EquationRow}
-use Rattle.own_typing.specs.declared.Known.{Known}
+use Rattle.own_finding.specs.declared.Known.{Known}
 use Rattle.own_typing.specs.declared.Module.{Module}
 use Rattle.own_typing.specs.declared.Equated.the-variants.{All, Stop}
-use Rattle.own_typing.specs.declared.Answer.{Answer}
-use Rattle.own_typing.specs.declared.Answer.the-variants.{Sorted, Ill}
+use Rattle.own_terms.specs.declared.Answer.{Answer}
+use Rattle.own_terms.specs.declared.Answer.the-variants.{Sorted, Ill}
 use Rattle.own_typing.specs.declared.Passed.{Passed}
 use Rattle.own_typing.specs.declared.Passed.the-variants.{Counted, Wrong}
-use Rattle.own_typing.specs.Typing.{Out, out, tape-in, term-at}
+use Rattle.own_terms.specs.Typing.{Out, out, tape-in, term-at}
 use Rattle.own_typing.specs.Equations.{Pass, passed, right-checked, right-at, left-checked, sides-at, begins-at, after-sides, sides-from, after-conclusion, equation-at, span, row-of, stored, after-equation, turn-at, told, after-turn, equations-from}
 use Rattle.form.specs.Forms.{equation-words, equation-size}
 

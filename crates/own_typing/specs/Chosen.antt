@@ -22,13 +22,13 @@ use Rattle.form_rows.specs.Entries.{role-at}
 use Rattle.form.specs.Memory.{Kept}
 use Rattle.form.specs.FormLaws.{kept-sets}
 use Rattle.form.specs.Forms.{flat-sides}
-use Rattle.own_typing.specs.declared.Known.{Known}
-use Rattle.own_typing.specs.declared.Answer.{Answer}
-use Rattle.own_typing.specs.declared.Answer.the-variants.{Ill}
+use Rattle.own_finding.specs.declared.Known.{Known}
+use Rattle.own_terms.specs.declared.Answer.{Answer}
+use Rattle.own_terms.specs.declared.Answer.the-variants.{Ill}
 use Rattle.own_typing.specs.declared.Passed.the-variants.{Counted, Wrong}
-use Rattle.own_typing.specs.Typing.{Out, tape-in, items-in}
+use Rattle.own_terms.specs.Typing.{Out, tape-in, items-in}
 use Rattle.own_typing.specs.Equations.{Pass, passed, sides-at, begins-at, after-sides, sides-from}
-use Rattle.own_typing.specs.Meant.{Spells, spells-front, spells-back, Layout, node-here, Pointed, tape-stays, sets-kept, begins}
+use Rattle.own_terms.specs.Meant.{Spells, spells-front, spells-back, Layout, node-here, Pointed, tape-stays, sets-kept, begins}
 use Rattle.own_typing.specs.Sides.{WellSides, AgreeSides, sides-typed}
 
 -- two sides, and the role of the entry behind them

@@ -20,11 +20,11 @@ use Rattle.tape.specs.Tape.{Entry, entry, tag-role, condition-role, conclusion-
 use Rattle.form.specs.Memory.{Kept}
 use Rattle.form.specs.Forms.{flat-sides, flat-equation}
 use Rattle.form_walks.specs.Lists.{each-append}
-use Rattle.own_typing.specs.declared.Known.{Known}
+use Rattle.own_finding.specs.declared.Known.{Known}
 use Rattle.own_typing.specs.declared.Passed.the-variants.{Counted, Wrong}
-use Rattle.own_typing.specs.Typing.{tape-in, items-in}
+use Rattle.own_terms.specs.Typing.{tape-in, items-in}
 use Rattle.own_typing.specs.Equations.{Pass, begins-at, sides-from, after-conclusion, equation-at}
-use Rattle.own_typing.specs.Meant.{Spells, Layout, node-here, Pointed}
+use Rattle.own_terms.specs.Meant.{Spells, Layout, node-here, Pointed}
 use Rattle.own_typing.specs.Sides.{spells-size}
 use Rattle.own_typing.specs.Chosen.{Mark, flat-mark, mark-size, joined-chosen, Stand, stand-stays, stand-append, chosen, Chosen, AgreeChosen, pass-typed}
 use Rattle.tape.specs.Tape as on-tape

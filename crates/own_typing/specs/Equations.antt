@@ -1,26 +1,26 @@
 -- Typing of equations in memory, as the code goes. The sides of an equation are gone through twice: first the conclusion's nodes are kept,
 -- then the conditions'.
 use Prim.Native.Nat.{ℕ, zero, suc, _+_, _-_, _*_}
-use mathlib.Core.Bool.{Bool, true, false}
+use mathlib.Core.Bool.{Bool, false}
 use mathlib.Core.List.{List}
 use lib.Dec.{eqb, ltb}
 use lib.Seq.{sets}
 use Rattle.meaning.specs.Lists.{pick}
 use Rattle.meaning.specs.Origins.{same-sort}
-use Rattle.tape.specs.Tape.{alone-role, head-role, prefix-role, infix-role, condition-role, conclusion-role}
+use Rattle.tape.specs.Tape.{condition-role, conclusion-role}
 use Rattle.form_rows.specs.Entries.{role-at, word-at}
 use Rattle.form_rows.specs.Rows.{sort-of}
-use Rattle.own_typing.specs.declared.Known.{Known}
+use Rattle.own_finding.specs.declared.Known.{Known}
 use Rattle.form.specs.declared.EquationRow.{EquationRow}
 use Rattle.form.specs.Forms.{equation-words, equation-size}
 use Rattle.own_typing.specs.declared.Module.{Module}
 use Rattle.own_typing.specs.declared.Equated.{Equated}
 use Rattle.own_typing.specs.declared.Equated.the-variants.{All, Stop}
-use Rattle.own_typing.specs.declared.Answer.{Answer}
-use Rattle.own_typing.specs.declared.Answer.the-variants.{Sorted, Ill}
+use Rattle.own_terms.specs.declared.Answer.{Answer}
+use Rattle.own_terms.specs.declared.Answer.the-variants.{Sorted, Ill}
 use Rattle.own_typing.specs.declared.Passed.{Passed}
 use Rattle.own_typing.specs.declared.Passed.the-variants.{Counted, Wrong}
-use Rattle.own_typing.specs.Typing.{Out, out, tape-in, term-at}
+use Rattle.own_terms.specs.Typing.{Out, out, tape-in, is-opening, term-at}
 
 -- ---- two sides of one sort; what follows is the entry that says what they are
 
@@ -48,10 +48,6 @@ pub record Pass : Type 0 where
 
 abbrev pub passed : Passed → List ℕ → Pass
 passed r w = record { answer = r; memory = w }
-
--- an entry of the role begins a term
-unfoldable pub is-opening : ℕ → Bool
-is-opening role = pick (eqb role alone-role) true (pick (eqb role head-role) true (pick (eqb role prefix-role) true (eqb role infix-role)))
 
 -- a term begins at i, before the end
 unfoldable pub begins-at : List ℕ → ℕ → ℕ → Bool

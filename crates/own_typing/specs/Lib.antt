@@ -1,8 +1,4 @@
-pub mod Known
-pub mod Typing
 pub mod Equations
-pub mod Meant
-pub mod Terms
 pub mod Sides
 pub mod Chosen
 pub mod Equated

@@ -21,12 +21,12 @@ use Rattle.tape.specs.Tape as on-tape
 use Rattle.form_rows.specs.Entries.{word-at, name-at}
 use Rattle.form.specs.Memory.{Kept}
 use Rattle.form.specs.Forms.{equation-size}
-use Rattle.own_typing.specs.declared.Known.{Known}
+use Rattle.own_finding.specs.declared.Known.{Known}
 use Rattle.own_typing.specs.declared.Module.{Module}
 use Rattle.own_typing.specs.declared.Equated.the-variants.{All, Stop}
-use Rattle.own_typing.specs.Typing.{tape-in, items-in}
-use Rattle.own_typing.specs.Equations.{Pass, is-opening, begins-at, turn-at, Told, told, after-turn, equations-from}
-use Rattle.own_typing.specs.Meant.{Spells, spells-front, spells-back, Layout, Pointed, tape-stays}
+use Rattle.own_terms.specs.Typing.{tape-in, items-in, is-opening}
+use Rattle.own_typing.specs.Equations.{Pass, begins-at, turn-at, Told, told, after-turn, equations-from}
+use Rattle.own_terms.specs.Meant.{Spells, spells-front, spells-back, Layout, Pointed, tape-stays}
 use Rattle.own_typing.specs.Chosen.{stand-stays}
 use Rattle.own_typing.specs.Equated.{equation-entries}
 use Rattle.own_typing.specs.Rows.{RowStands, AgreeTurn, turn-typed}

@@ -23,13 +23,13 @@ use Rattle.form.specs.Memory.{Kept}
 use Rattle.form.specs.FormLaws.{kept-sets}
 use Rattle.form.specs.Forms.{flat-equation, equation-words, equation-size}
 use Rattle.form.specs.FlatMoves.{equation-count}
-use Rattle.own_typing.specs.declared.Known.{Known}
+use Rattle.own_finding.specs.declared.Known.{Known}
 use Rattle.own_typing.specs.declared.Module.{Module}
 use Rattle.own_typing.specs.declared.Passed.{Passed}
 use Rattle.own_typing.specs.declared.Passed.the-variants.{Counted, Wrong}
-use Rattle.own_typing.specs.Typing.{tape-in, items-in}
+use Rattle.own_terms.specs.Typing.{tape-in, items-in}
 use Rattle.own_typing.specs.Equations.{Pass, begins-at, equation-at, span, row-of, stored, after-equation, turn-at}
-use Rattle.own_typing.specs.Meant.{Spells, Layout, node-here, Pointed, tape-stays, sets-kept}
+use Rattle.own_terms.specs.Meant.{Spells, Layout, node-here, Pointed, tape-stays, sets-kept}
 use Rattle.own_typing.specs.Chosen.{Stand, stand-stays, stand-sets}
 use Rattle.own_typing.specs.Equated.{WellEquation, AgreeEquation, equation-entries, equation-typed}
 use Rattle.tape.specs.Tape as on-tape

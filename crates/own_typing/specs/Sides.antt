@@ -18,13 +18,13 @@ use Rattle.tape.specs.Tape.{Entry}
 use Rattle.tape.specs.Tape as on-tape
 use Rattle.form.specs.Memory.{Kept}
 use Rattle.form.specs.Forms.{flat-term, flat-sides}
-use Rattle.own_typing.specs.declared.Known.{Known}
-use Rattle.own_typing.specs.declared.Answer.{Answer}
-use Rattle.own_typing.specs.declared.Answer.the-variants.{Sorted, Ill}
-use Rattle.own_typing.specs.Typing.{Out, out, items-in, term-at}
+use Rattle.own_finding.specs.declared.Known.{Known}
+use Rattle.own_terms.specs.declared.Answer.{Answer}
+use Rattle.own_terms.specs.declared.Answer.the-variants.{Sorted, Ill}
+use Rattle.own_terms.specs.Typing.{Out, out, items-in, term-at}
 use Rattle.own_typing.specs.Equations.{right-checked, right-at, left-checked, sides-at}
-use Rattle.own_typing.specs.Meant.{sets-append, Spells, spells-front, spells-back, Layout, node-here, Pointed, tape-stays, sets-kept}
-use Rattle.own_typing.specs.Terms.{Agrees, term-typed}
+use Rattle.own_terms.specs.Meant.{sets-append, Spells, spells-front, spells-back, Layout, node-here, Pointed, tape-stays, sets-kept}
+use Rattle.own_terms.specs.Terms.{Agrees, term-typed}
 
 module _ (text : List ℕ) (k : Known) (w₀ : List ℕ) where
   -- the sides of `size` entries from i on are s: the words are their nodes, written from q on

@@ -29,13 +29,13 @@ use Rattle.form.specs.FormLaws.{Apart, kept-all, kept-same, slots-same, items-s
 use Rattle.form.specs.Forms.{items-at, node-row, node-of, node-in, nodes-of, flat-equation, equation-row-at, EquationStands, EquationsStand, node-item, VisiblePoint, HiddenPoint, Pointing, visible-at, equation-size, slot-size}
 use Rattle.form.specs.Verdicts.{lone-of}
 use Rattle.form.specs.Blocks.{Makes}
-use Rattle.own_typing.specs.declared.Known.{Known}
+use Rattle.own_finding.specs.declared.Known.{Known}
 use Rattle.own_typing.specs.declared.Module.{Module}
 use Rattle.own_typing.specs.declared.Equated.{Equated}
 use Rattle.own_typing.specs.declared.Equated.the-variants.{All, Stop}
-use Rattle.own_typing.specs.Typing.{items-in}
+use Rattle.own_terms.specs.Typing.{items-in}
 use Rattle.own_typing.specs.Equations.{span, Told, equations-from}
-use Rattle.own_typing.specs.Meant.{Spells, Layout, visibly, known-row, known-item, node-here, Pointed, tape-stays, row-stays}
+use Rattle.own_terms.specs.Meant.{Spells, Layout, visibly, known-row, known-item, node-here, Pointed, tape-stays, row-stays}
 use Rattle.own_typing.specs.Chosen.{Stand}
 use Rattle.own_typing.specs.Rows.{RowStands, span-is}
 use Rattle.own_typing.specs.Listed.{RowsStand, AgreeAll, equations-typed}

@@ -1,21 +1,21 @@
 // The typer of equations: two sides have one sort; the conclusion's nodes are written, and then the conditions'.
-use super::Answer;
 use super::Equated;
-use super::Known;
 use super::Module;
 use super::Passed;
-use super::terms::type_term;
 use form::EquationRow;
 use form::equations::write_equation;
+use form_comparing::sorts::same_sort;
 use form_rows::entries::name_at;
 use form_rows::entries::role_at;
-use form_rows::sorts::same_sort;
+use own_finding::Known;
+use own_terms::Answer;
+use own_terms::terms::type_term;
 use tape::roles;
 ghost use mathlib.Core.Path.{_≡_};
 ghost use Prim.Native.Nat.{_+_, _^_, _≤_, _<_};
 ghost use lib.ListN.{length};
 ghost use Rattle.text_names.specs.Joint.{joint};
-ghost use Rattle.own_typing.specs.Typing.{out};
+ghost use Rattle.own_terms.specs.Typing.{out};
 ghost use Rattle.own_typing.specs.Equations.{right-at, sides-at, passed, begins-at, sides-from, equation-at, span, row-of, stored, turn-at, told, equations-from};
 
 // The right side, at i; the left one has the sort s.

@@ -19,9 +19,6 @@ pub mod Alone
 -- from less, and for the desk
 pub mod Reaches
 pub mod Stored
--- two texts that meet the premises, and two for each premise that fail by it alone
-pub mod Instance
-pub mod Premises
 -- one listing for each accepted normal form
 pub mod ListingLaws
 pub mod SameListing

@@ -4,4 +4,3 @@ pub mod AnyOrder
 -- one module, and the whole of a call
 pub mod Order
 pub mod ImportOrder
-pub mod OrderInstance

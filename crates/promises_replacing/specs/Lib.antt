@@ -10,6 +10,5 @@ pub mod OwnAlike
 pub mod ModulesAlike
 -- the names of a normal form
 pub mod NamesFrom
--- the proof, and texts that meet the premises
+-- the proof
 pub mod Replaced
-pub mod ReplacedInstance

@@ -1,15 +1,12 @@
 // The grammar: a text is read token by token, and what it says is written to the tape; or it is refused, with a number and a place.
 use meaning::numbers;
-use modules::read_modules;
-use read_entries::Place;
-use read_entries::Reading;
+use read_modules::read_modules;
+use read_steps::Place;
+use read_steps::Reading;
 ghost use mathlib.Core.Path.{_≡_};
 ghost use lib.ListN.{length, replicate};
-ghost use Rattle.read_entries.specs.Model.{out, wiped, read};
-ghost use Rattle.read.specs.Known.{named-so};
-
-mod known;
-mod modules;
+ghost use Rattle.read_steps.specs.Model.{out, wiped, read};
+ghost use Rattle.read_known.specs.Known.{named-so};
 
 // The whole tape, set to zero.
 fn clear(tape: &mut [u32])

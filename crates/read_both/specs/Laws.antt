@@ -24,14 +24,14 @@ use Rattle.text_names.specs.Word.{name-of}
 use Rattle.text_names.specs.Joint.{joint}
 use Rattle.tape.specs.Tape.{Entry, entries, spelled, flat-module, flat-modules}
 use Rattle.form_rows.specs.Entries.{word-at}
-use Rattle.read_entries.specs.declared.Place.{Place}
-use Rattle.read_entries.specs.declared.Reading as Entries
-use Rattle.read_entries.specs.declared.Reading.the-variants.{Done, Refused}
-use Rattle.read_entries.specs.Model.{Out, out}
-use Rattle.read_entries.specs.Model
+use Rattle.read_steps.specs.declared.Place.{Place}
+use Rattle.read_steps.specs.declared.Reading as Entries
+use Rattle.read_steps.specs.declared.Reading.the-variants.{Done, Refused}
+use Rattle.read_steps.specs.Model.{Out, out}
+use Rattle.read_steps.specs.Model
 use Rattle.read_meaning.specs.Matches.{state}
 use Rattle.read_meaning.specs.Meant.{Says, Meant, done-meant, refused-meant}
-use Rattle.read.specs.Known.{named-so}
+use Rattle.read_known.specs.Known.{named-so}
 use Rattle.modules.specs.declared.Heads.{Heads}
 use Rattle.modules.specs.Modules.{HeadsOf, declared}
 use Rattle.modules.specs.ModuleLaws.{Spells, heads-number, declared-names, names-by-number}

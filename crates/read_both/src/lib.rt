@@ -2,7 +2,7 @@
 use modules::Heads;
 use modules::find_heads;
 use modules::name_of_module;
-use read_entries::Reading;
+use read_steps::Reading;
 ghost use mathlib.Core.Path.{_≡_};
 ghost use Prim.Native.Nat.{_≤_};
 ghost use lib.ListN.{length};

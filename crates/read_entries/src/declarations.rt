@@ -1,23 +1,23 @@
 // Names in a list, signatures and parameters.
-use super::Reading;
 use super::functions::read_function;
-use super::roles;
-use super::steps::begins_function;
-use super::steps::expect;
-use super::steps::next_is;
-use super::steps::next_word;
-use super::steps::read_name;
-use super::steps::refuse;
-use super::steps::step;
-use super::steps::this_name;
-use super::steps::unexpected;
 use meaning::numbers;
+use read_steps::Reading;
+use read_steps::roles;
+use read_steps::steps::begins_function;
+use read_steps::steps::expect;
+use read_steps::steps::next_is;
+use read_steps::steps::next_word;
+use read_steps::steps::read_name;
+use read_steps::steps::refuse;
+use read_steps::steps::step;
+use read_steps::steps::this_name;
+use read_steps::steps::unexpected;
 ghost use mathlib.Core.Path.{_≡_};
 ghost use Rattle.meaning.specs.Numbers.{text-size};
 ghost use Rattle.meaning.specs.Names.{byte};
 ghost use Rattle.meaning.specs.Tokens.{exports-key, functions-key, parameters-key, sorts-key};
 ghost use Rattle.meaning.specs.Grammar.{begins-function};
-ghost use Rattle.read_entries.specs.Model.{out, onward, many, optional, names, function, some-of, signature, enclosed, parameter, parameters, exports};
+ghost use Rattle.read_steps.specs.Model.{out, onward, many, optional, names, function, some-of, signature, enclosed, parameter, parameters, exports};
 
 // Names with a mark between them, `limit` at most.
 pub fn read_names(

@@ -1,15 +1,15 @@
 // The names of functions, plain or of operators with their underlines, and what a function takes and gives.
-use super::Reading;
 use super::declarations::read_names;
-use super::forms;
-use super::roles;
-use super::steps::expect;
-use super::steps::next_is;
-use super::steps::read_name;
-use super::steps::read_operator;
 use meaning::numbers;
+use read_steps::Reading;
+use read_steps::forms;
+use read_steps::roles;
+use read_steps::steps::expect;
+use read_steps::steps::next_is;
+use read_steps::steps::read_name;
+use read_steps::steps::read_operator;
 ghost use mathlib.Core.Path.{_≡_};
-ghost use Rattle.read_entries.specs.Model.{out, onward, input-type, prefix-operator, infix-operator, one-input, two-inputs, function-by, function, function-name};
+ghost use Rattle.read_steps.specs.Model.{out, onward, input-type, prefix-operator, infix-operator, one-input, two-inputs, function-by, function, function-name};
 
 // The inputs of a function: none where the arrow is next.
 fn read_inputs(text: &[u8], tape: &mut [u32], at: Reading) -> Reading

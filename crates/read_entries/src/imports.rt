@@ -1,22 +1,22 @@
 // Import expressions: renamings and bindings with their pairs.
-use super::Reading;
 use super::functions::read_function_name;
-use super::roles;
-use super::steps::begins_function;
-use super::steps::expect;
-use super::steps::mark;
-use super::steps::next_is;
-use super::steps::read_name;
-use super::steps::refuse;
-use super::steps::step;
-use super::steps::unexpected;
 use meaning::numbers;
+use read_steps::Reading;
+use read_steps::roles;
+use read_steps::steps::begins_function;
+use read_steps::steps::expect;
+use read_steps::steps::mark;
+use read_steps::steps::next_is;
+use read_steps::steps::read_name;
+use read_steps::steps::refuse;
+use read_steps::steps::step;
+use read_steps::steps::unexpected;
 ghost use mathlib.Core.Path.{_≡_};
 ghost use Rattle.meaning.specs.Names.{byte};
 ghost use Rattle.meaning.specs.Numbers.{binding-limit, pair-limit};
 ghost use Rattle.meaning.specs.Tokens.{imports-key};
 ghost use Rattle.meaning.specs.Grammar.{begins-function, is-name};
-ghost use Rattle.read_entries.specs.Model.{out, onward, separated, many, some-of, optional, pair, pairs, renamed, bound, perhaps-renamed, modifier, modified, import-expression, imports};
+ghost use Rattle.read_steps.specs.Model.{out, onward, separated, many, some-of, optional, pair, pairs, renamed, bound, perhaps-renamed, modifier, modified, import-expression, imports};
 
 fn read_pair(text: &[u8], tape: &mut [u32], at: Reading) -> Reading
     ensures { λ r. ⌜ out r (now (tape .exit)) ≡ onward at (now (tape .entry)) (pair (now (text .entry))) ⌝ }

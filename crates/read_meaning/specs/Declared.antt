@@ -13,7 +13,7 @@ use Rattle.meaning.specs.Syntax.{Module}
 use Rattle.text_names.specs.Word.{name-of}
 use Rattle.tape.specs.Tape.{Entry, entries, spelled, module-role, flat-module}
 use Rattle.tape.specs.Roles.{All, behind-name, all-behind}
-use Rattle.read_entries.specs.Model.{declares, taken}
+use Rattle.read_steps.specs.Model.{declares, taken}
 
 -- is this the entry of a module of that name?
 unfoldable pub is-module : Name → Entry → Bool

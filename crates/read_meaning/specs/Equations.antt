@@ -13,10 +13,10 @@ use Rattle.meaning.specs.Tokens.{implies, when-key}
 use Rattle.meaning.specs.Syntax.{Sides, Equation}
 use Rattle.meaning.specs.Grammar.{State, after, _>>=_, return, is, begins-term, Parser}
 use Rattle.meaning.specs.Grammar
-use Rattle.read_entries.specs.declared.Place.{Place}
+use Rattle.read_steps.specs.declared.Place.{Place}
 use Rattle.tape.specs.Tape.{Entry, entry, tag-role, condition-role, conclusion-role, flat-term, flat-sides, flat-equation}
-use Rattle.read_entries.specs.Model.{Writer, _>>_}
-use Rattle.read_entries.specs.Model
+use Rattle.read_steps.specs.Model.{Writer, _>>_}
+use Rattle.read_steps.specs.Model
 use Rattle.read_meaning.specs.Matches.{Ready, state, Meaning, Matches, Reads, means, next-ready, and-then}
 use Rattle.read_meaning.specs.Lines.{weaker, hold, recast, counting, stay-at, choice, by-next, after-after, after-pick, last, line, pass}
 use Rattle.read_meaning.specs.Steps.{step-meant, expected, expect-meant, expect-more, mark-at, mark-meant, name-meant}

@@ -7,9 +7,9 @@ use lib.ListN.{length, getD, set, take, drop, take-append-drop, length-set, leng
 use lib.Seq.{take-suc-set, drop-set-lt, drop-cons, drop-drop, take-take, take-add, take-at, drop-at}
 use Rattle.types.specs.declared.Token.{Token}
 use Rattle.meaning.specs.OrderLaws.{Every}
-use Rattle.read_entries.specs.declared.Place.{Place}
+use Rattle.read_steps.specs.declared.Place.{Place}
 use Rattle.tape.specs.Tape.{Entry, entries, spelled}
-use Rattle.read_entries.specs.Model.{place, pushed}
+use Rattle.read_steps.specs.Model.{place, pushed}
 use Rattle.read_meaning.specs.Matches.{Lies, Inside, Stands, Ready, Step, next-ready}
 use Rattle.read_meaning.specs.Steps.{ends-within, forward}
 

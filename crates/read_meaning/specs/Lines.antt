@@ -7,12 +7,12 @@ use native.Mathlib.Omega.{arith}
 use Rattle.meaning.specs.Lists.{pick}
 use Rattle.meaning.specs.Grammar.{State, Result, done, refused, Parser, after, _>>=_, return}
 use Rattle.meaning.specs.Grammar
-use Rattle.read_entries.specs.declared.Place.{Place}
-use Rattle.read_entries.specs.declared.Reading.{Reading}
-use Rattle.read_entries.specs.declared.Reading.the-variants.{Done, Refused}
+use Rattle.read_steps.specs.declared.Place.{Place}
+use Rattle.read_steps.specs.declared.Reading.{Reading}
+use Rattle.read_steps.specs.declared.Reading.the-variants.{Done, Refused}
 use Rattle.tape.specs.Tape.{Entry, entries}
-use Rattle.read_entries.specs.Model.{Out, Writer, onward, _>>_, place}
-use Rattle.read_entries.specs.Model
+use Rattle.read_steps.specs.Model.{Out, Writer, onward, _>>_, place}
+use Rattle.read_steps.specs.Model
 use Rattle.read_meaning.specs.Matches.{Ready, state, Meaning, Matches, both-done, both-refused, Reads, means, next-ready, and-then}
 
 -- by a test's two answers

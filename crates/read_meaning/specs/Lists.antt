@@ -10,8 +10,8 @@ use Rattle.meaning.specs.Numbers.{over-size}
 use Rattle.meaning.specs.Grammar.{State, Parser, _>>=_, is, is-name}
 use Rattle.meaning.specs.Grammar
 use Rattle.tape.specs.Tape.{Entry, entry}
-use Rattle.read_entries.specs.Model.{Writer, _>>_}
-use Rattle.read_entries.specs.Model
+use Rattle.read_steps.specs.Model.{Writer, _>>_}
+use Rattle.read_steps.specs.Model
 use Rattle.read_meaning.specs.Matches.{state, Meaning, Reads, means, next-ready, and-then}
 use Rattle.read_meaning.specs.Lines.{so, by-next, either, refuse-meant, unexpected-meant, stay-at, stay-meant, handed, last, line, pass}
 use Rattle.read_meaning.specs.Steps.{step-meant, name-meant}

@@ -11,10 +11,10 @@ use Rattle.meaning.specs.Numbers.{text-size, name-size}
 use Rattle.meaning.specs.Tokens.{token-at}
 use Rattle.meaning.specs.OrderLaws.{Every}
 use Rattle.meaning.specs.Grammar.{State, Result, done, refused, Parser, after}
-use Rattle.read_entries.specs.declared.Place.{Place}
-use Rattle.read_entries.specs.declared.Reading.the-variants.{Done, Refused}
+use Rattle.read_steps.specs.declared.Place.{Place}
+use Rattle.read_steps.specs.declared.Reading.the-variants.{Done, Refused}
 use Rattle.tape.specs.Tape.{Entry, entries}
-use Rattle.read_entries.specs.Model.{Out, out, Writer, onward}
+use Rattle.read_steps.specs.Model.{Out, out, Writer, onward}
 
 -- a token of the text
 pub record Stands (text : List ℕ) (t : Token) : Type 0 where

@@ -14,11 +14,11 @@ use Rattle.meaning.specs.Tokens.{token-at}
 use Rattle.meaning.specs.Syntax.{Module}
 use Rattle.meaning.specs.Grammar.{Result, done, refused}
 use Rattle.meaning.specs.Grammar
-use Rattle.read_entries.specs.declared.Place.{Place}
-use Rattle.read_entries.specs.declared.Reading.the-variants.{Done, Refused}
+use Rattle.read_steps.specs.declared.Place.{Place}
+use Rattle.read_steps.specs.declared.Reading.the-variants.{Done, Refused}
 use Rattle.tape.specs.Tape.{entries, flat-modules}
-use Rattle.read_entries.specs.Model.{Out, out, place, wiped}
-use Rattle.read_entries.specs.Model
+use Rattle.read_steps.specs.Model.{Out, out, place, wiped}
+use Rattle.read_steps.specs.Model
 use Rattle.read_meaning.specs.Matches.{Inside, Ready, Step, state, Matches, both-done, both-refused, means, next-ready}
 use Rattle.read_meaning.specs.Lines.{whether}
 use Rattle.read_meaning.specs.Steps.{forward, ends-within}

@@ -10,10 +10,10 @@ use Rattle.meaning.specs.Numbers.{over-size, module-twice}
 use Rattle.meaning.specs.Grammar.{Parser, _>>=_, return, is}
 use Rattle.meaning.specs.Grammar
 use Rattle.text_names.specs.Word.{plain-form, in-form}
-use Rattle.read_entries.specs.declared.Place.{Place}
+use Rattle.read_steps.specs.declared.Place.{Place}
 use Rattle.tape.specs.Tape.{Entry, entry, entries, module-role, hidden-sort, hidden-function, flat-signature, flat-module, flat-modules}
-use Rattle.read_entries.specs.Model.{Writer, _>>_, word}
-use Rattle.read_entries.specs.Model
+use Rattle.read_steps.specs.Model.{Writer, _>>_, word}
+use Rattle.read_steps.specs.Model
 use Rattle.read_meaning.specs.Matches.{Ready, Step, state, Meaning, Matches, both-refused, Reads, means, next-ready, and-then}
 use Rattle.read_meaning.specs.Lines.{weaker, choice, by-next, either, grouped, refuse-meant, unexpected-meant, stay-at, handed, closing, line, pass}
 use Rattle.read_meaning.specs.Steps.{Named, Called, called-by, expect-meant, name-at, this-name-meant}

@@ -13,8 +13,8 @@ use Rattle.meaning.specs.Grammar
 use Rattle.tape.specs.Tape.{Entry, entry, parameter-role, parameter-sort, parameter-function, export-sort, export-function, input-role, output-role, import-role, renamed-role, bound-role, old-role, new-role, actual-role, variable-role, variable-sort}
 use Rattle.tape.specs.Tape.{flat-function, flat-signature, flat-parameter, flat-pair, flat-clause, flat-import, flat-group}
 use Rattle.text_names.specs.Word.{prefix-form, infix-form, in-form}
-use Rattle.read_entries.specs.Model.{Writer, _>>_}
-use Rattle.read_entries.specs.Model
+use Rattle.read_steps.specs.Model.{Writer, _>>_}
+use Rattle.read_steps.specs.Model
 use Rattle.read_meaning.specs.Matches.{Reads, means}
 use Rattle.read_meaning.specs.Lines.{either, grouped, stay-meant, last, closing, line, pass}
 use Rattle.read_meaning.specs.Steps.{expect-meant, expect-more, mark-first, name-meant, operator-meant, with-name, this-name-meant}

@@ -20,10 +20,10 @@ use Rattle.meaning.specs.Grammar
 use Rattle.text_names.specs.Word.{plain-form, in-form, token-of, name-of, name-slice, plain-name, no-name}
 use Rattle.text_names.proofs.Compared.{same-lengths}
 use Rattle.text_tokens.proofs.Bounds.{token-after, token-forward, token-within, token-filled}
-use Rattle.read_entries.specs.declared.Place.{Place}
+use Rattle.read_steps.specs.declared.Place.{Place}
 use Rattle.tape.specs.Tape.{Entry, entry, entries, spelled}
-use Rattle.read_entries.specs.Model.{Writer, onward, _>>_, word, word-in, place}
-use Rattle.read_entries.specs.Model
+use Rattle.read_steps.specs.Model.{Writer, onward, _>>_, word, word-in, place}
+use Rattle.read_steps.specs.Model
 use Rattle.meaning.specs.OrderLaws.{Every}
 use Rattle.read_meaning.specs.Matches.{Lies, Inside, Stands, Ready, Step, state, Meaning, Matches, both-done, both-refused, Reads, means, next-ready, and-then}
 use Rattle.read_meaning.specs.Lines.{whether, weaker, choice, by-next, either, unexpected-meant, refuse-meant, line}

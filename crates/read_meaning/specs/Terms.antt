@@ -18,11 +18,11 @@ use Rattle.meaning.specs.Grammar.{State, Parser, after, _>>=_, return, is, is-n
 use Rattle.meaning.specs.Grammar
 use Rattle.text_names.specs.Word.{prefix-form, infix-form, in-form}
 use Rattle.text_tokens.proofs.Spelled.{ident-plain}
-use Rattle.read_entries.specs.declared.Place.{Place}
+use Rattle.read_steps.specs.declared.Place.{Place}
 use Rattle.tape.specs.Tape.{Entry, entry, spelled, alone-role, head-role, close-role, prefix-role, infix-role, role-with, flat-node, how-many, flat-term, flat-terms}
 use Rattle.tape.specs.Tape
-use Rattle.read_entries.specs.Model.{Writer, _>>_, onward, word-in, place}
-use Rattle.read_entries.specs.Model
+use Rattle.read_steps.specs.Model.{Writer, _>>_, onward, word-in, place}
+use Rattle.read_steps.specs.Model
 use Rattle.read_meaning.specs.Matches.{Ready, Step, state, Matches, both-done, both-refused, Reads, means, next-ready, and-then, and-thus}
 use Rattle.read_meaning.specs.Lines.{whether, weaker, so, spend, recast, counting, choice, by-next, either, ends, regroup, refuse-meant, unexpected-meant, stay-at, handed, last, closing, line, knowing, pass, after-after, after-pick}
 use Rattle.read_meaning.specs.Steps.{Named, ends-within, after-it, follows, filled, word-slice, word-lies, spelled-name, expect-meant, expect-more, mark-meant, name-at, operator-meant}

@@ -6,7 +6,7 @@ use Rattle.meaning.specs.Lists.{pick}
 use Rattle.meaning.specs.Names.{byte}
 use Rattle.meaning.specs.Numbers.{argument-limit}
 use Rattle.meaning.specs.Grammar.{begins-term}
-use Rattle.read_entries.specs.Model.{Writer, _>>_, mark, separated, prefixed, joins, operands, in-brackets, primary, term}
+use Rattle.read_steps.specs.Model.{Writer, _>>_, mark, separated, prefixed, joins, operands, in-brackets, primary, term}
 use Rattle.tape.specs.Tape.{close-role}
 
 -- the operator that is next, as an infix or as a prefix one

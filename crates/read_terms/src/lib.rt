@@ -1,4 +1,2 @@
-// Terms and equations, written to the tape.
-pub mod equations;
-mod kept;
+// Terms, written to the tape.
 pub mod term;

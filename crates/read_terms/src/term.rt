@@ -1,98 +1,37 @@
 // Terms: primaries and the operators that join them. A primary is a name, a name with one to eight arguments, or a term in brackets. Terms and
 // argument lists call each other, with the depth falling.
-use super::kept::begins;
-use super::kept::entries_of;
-use super::kept::follows;
-use super::kept::keep;
-use super::kept::kept;
-use super::kept::not_here;
-use super::kept::over;
-use super::kept::pass;
-use super::kept::words;
 use meaning::numbers;
-use read_entries::Place;
-use read_entries::Reading;
-use read_entries::forms;
-use read_entries::roles;
-use read_entries::steps::mark;
-use read_entries::steps::next_in;
-use read_entries::steps::next_is;
-use read_entries::steps::next_short;
-use read_entries::steps::read_name;
-use read_entries::steps::read_operator;
-use read_entries::steps::refuse;
-use read_entries::steps::step;
-use read_entries::steps::unexpected;
-use types::Token;
+use read_kept::kept::begins;
+use read_kept::kept::entries_of;
+use read_kept::kept::follows;
+use read_kept::kept::keep;
+use read_kept::kept::kept;
+use read_kept::kept::not_here;
+use read_kept::kept::over;
+use read_kept::kept::pass;
+use read_kept::kept::words;
+use read_kept::nodes::close;
+use read_kept::nodes::counted;
+use read_kept::nodes::pass_name;
+use read_steps::Place;
+use read_steps::Reading;
+use read_steps::forms;
+use read_steps::roles;
+use read_steps::steps::next_in;
+use read_steps::steps::next_is;
+use read_steps::steps::next_short;
+use read_steps::steps::read_operator;
+use read_steps::steps::refuse;
+use read_steps::steps::step;
+use read_steps::steps::unexpected;
 ghost use mathlib.Core.Path.{_≡_};
 ghost use Rattle.meaning.specs.Names.{byte};
 ghost use Rattle.meaning.specs.Grammar.{begins-term};
 ghost use Prim.Native.Nat.{_-_, _≤_};
 ghost use lib.ListN.{length};
-ghost use Rattle.read_entries.specs.Model.{out, onward, stay, mark, pushed, inserted, node-role, counted, term-name, prefixed, joins, separated, term, primary};
-ghost use Rattle.read_entries.specs.Steps.{still, next-role};
-ghost use Rattle.tape.specs.Tape.{close-role};
-ghost use Rattle.read_terms.specs.Kept.{kept};
+ghost use Rattle.read_steps.specs.Model.{out, onward, pushed, inserted, prefixed, joins, separated, term, primary};
+ghost use Rattle.read_kept.specs.Kept.{kept};
 ghost use Rattle.read_terms.specs.Parts.{operator-in, operands-from, applied};
-
-// What a name in a term is, by the token after it.
-fn node_role(text: &[u8], t: Token) -> u8
-    ensures { λ r. ⌜ r ≡ node-role (now (text .entry)) t ⌝ }
-{
-    let end = t.end;
-    let after = text_tokens::next_token(text, end);
-    let kind = after.kind;
-    if kind == b'(' {
-        return roles::HEAD;
-    }
-    roles::ALONE
-}
-
-// One node of the equation more, if it may have one.
-fn counted(at: Reading) -> Reading
-    ensures { λ r. ⌜ r ≡ still (counted stay) at ⌝ }
-{
-    match at {
-        Reading::Refused { number, place } => Reading::Refused { number, place },
-        Reading::Done(p) => {
-            let nodes = p.nodes;
-            if numbers::NODE_LIMIT <= nodes {
-                return refuse(at, numbers::OVER_SIZE);
-            }
-            let token = p.token;
-            let entries = p.entries;
-            Reading::Done(Place {
-                token,
-                nodes: nodes + 1,
-                entries,
-            })
-        }
-    }
-}
-
-// What the name that is next is.
-fn next_role(text: &[u8], at: Reading) -> u8
-    ensures { λ r. ⌜ r ≡ next-role (now (text .entry)) at ⌝ }
-{
-    match at {
-        Reading::Refused { number, place } => roles::ALONE,
-        Reading::Done(p) => {
-            let token = p.token;
-            node_role(text, token)
-        }
-    }
-}
-
-// A name in a term.
-fn term_name(text: &[u8], tape: &mut [u32], at: Reading) -> Reading
-    ensures { λ r. ⌜ out r (now (tape .exit)) ≡ onward at (now (tape .entry)) (term-name (now (text .entry))) ⌝ }
-{
-    if next_is(at, text_tokens::IDENT) {
-        let role = next_role(text, at);
-        return read_name(text, tape, counted(at), role);
-    }
-    unexpected(at)
-}
 
 // The entry of a prefix operator, if one is next.
 fn read_prefix(text: &[u8], tape: &mut [u32], at: Reading) -> Reading
@@ -156,24 +95,6 @@ fn join(text: &[u8], tape: &mut [u32], at: Reading, start: usize) -> Reading
         return refuse(a, numbers::OVER_SIZE);
     }
     unexpected(at)
-}
-
-// A name in a term, from the words on.
-fn pass_name(text: &&[u8], tape: &mut [u32], state: &mut [usize; 6])
-    ensures { λ r. ⌜ out (kept (now (state .exit))) (now (tape .exit)) ≡ onward (kept (now (state .entry))) (now (tape .entry)) (term-name (now (now (text .entry)))) ⌝ }
-{
-    let at = kept(state);
-    let next = term_name(*text, tape, at);
-    keep(state, next);
-}
-
-// The end of arguments.
-fn close(tape: &mut [u32], state: &mut [usize; 6])
-    ensures { λ r. ⌜ out (kept (now (state .exit))) (now (tape .exit)) ≡ onward (kept (now (state .entry))) (now (tape .entry)) (mark close-role) ⌝ }
-{
-    let at = kept(state);
-    let next = mark(tape, at, roles::CLOSE);
-    keep(state, next);
 }
 
 // The operator that is next, as an infix one that joins the entries from `start` on, or as a prefix one, if it is there. One function for both, so

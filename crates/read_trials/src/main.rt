@@ -2,7 +2,7 @@
 // A text stands behind a line with its name and its size.
 use libc::STDIN_FILENO;
 use libc::STDOUT_FILENO;
-use read_entries::Reading;
+use read_steps::Reading;
 ghost use Prim.Native.Nat.{_≤_};
 ghost use lib.ListN.{length};
 

@@ -1,6 +1,6 @@
 -- What begins with a symbol or a dot: the arrow, an operator, or none; the last of the tests by which a token starts.
 use Prim.Native.Nat.{ℕ, _+_}
-use mathlib.Core.Bool.{Bool, not, _&&_}
+use mathlib.Core.Bool.{not, _&&_}
 use mathlib.Core.List.{List}
 use lib.Dec.{eqb}
 use lib.ListN.{getD}
@@ -8,10 +8,7 @@ use Rattle.types.specs.declared.Token.{Token}
 use Rattle.meaning.specs.Lists.{pick}
 use Rattle.meaning.specs.Names.{byte}
 use Rattle.meaning.specs.Tokens.{is-symbol, comment-sign, token, arrow, no-token, symbols-at, dotted-at}
-
--- a hyphen at i, before b
-unfoldable pub hyphen-before : List ℕ → ℕ → ℕ → Bool
-hyphen-before text i b = eqb (getD text i 0) (byte "-") && eqb (getD text (i + 1) 0) b
+use Rattle.text_marks.specs.Hyphens.{hyphen-before}
 
 unfoldable pub sign-at : List ℕ → ℕ → Token
 sign-at text i =

@@ -1,4 +1,3 @@
-pub mod PairCases
 pub mod SearchCases
 pub mod VerdictCases
 pub mod Checks

@@ -24,11 +24,12 @@ use Rattle.form.specs.Forms.{slot-at, slots-at, items-at, slot-size}
 use Rattle.form_order.specs.Order.{name-in, InOrder}
 use Rattle.form_order.specs.Sorting.{ordered-names}
 use Rattle.form_order.specs.Ordered.{row-item, row-called, ordered-items, row-slot, slot-called, ordered-slots}
-use Rattle.unite_checks.specs.declared.Test.{Test}
-use Rattle.unite_checks.specs.declared.Test.the-variants.{Sorts, Functions, Overloading}
+use Rattle.unite_pairs.specs.declared.Test.{Test}
+use Rattle.unite_pairs.specs.declared.Test.the-variants.{Sorts, Functions, Overloading}
 use Rattle.unite_checks.specs.declared.Found.the-variants.{At, Nothing}
-use Rattle.unite_checks.specs.Clashes.{named, wrong, clash-name, repeated-name, but-name, first-rival, wrong-parts}
-use Rattle.unite_checks.proofs.PairCases.{sorts-first}
+use Rattle.unite_pairs.specs.Pairs.{but-name}
+use Rattle.unite_pairs.proofs.Cases.{sorts-first}
+use Rattle.unite_checks.specs.Clashes.{named, wrong, clash-name, repeated-name, first-rival, wrong-parts}
 
 -- ---- what the order table points at from place i on
 

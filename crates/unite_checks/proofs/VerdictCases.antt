@@ -21,7 +21,7 @@ use Rattle.form.specs.Verdicts.{lone-of, told}
 use Rattle.form_order.specs.Order.{PutInOrder, NamesApart}
 use Rattle.unite_checks.specs.declared.Found.{Found}
 use Rattle.unite_checks.specs.declared.Found.the-variants.{At, Nothing}
-use Rattle.unite_checks.specs.declared.Test.the-variants.{Sorts, Functions, Overloading}
+use Rattle.unite_pairs.specs.declared.Test.the-variants.{Sorts, Functions, Overloading}
 use Rattle.unite_checks.specs.Clashes.{named, clash-name, repeated-name}
 use Rattle.unite_checks.specs.Consistent.{nobody, within, overloading-check, functions-check, items-check, names-check, checks-consistent, RowsLaid, Laid, ItemsChecked, Checked}
 

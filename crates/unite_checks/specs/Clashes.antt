@@ -1,19 +1,19 @@
 -- What two items of one name are tested for, and what a search finds.
 use mathlib.Core.Path.{_≡_, refl}
-use mathlib.Core.Bool.{Bool, true, false, not, _&&_, _||_}
+use mathlib.Core.Bool.{Bool, true, false, _&&_}
 use mathlib.Core.Option.{Option, none, some}
 use mathlib.Core.List.{List}
-use Prim.Native.Nat.{ℕ, _+_, _-_}
+use Prim.Native.Nat.{ℕ, _+_}
 use lib.Dec.{eqb}
-use Rattle.meaning.specs.Lists.{pick, agree}
+use Rattle.meaning.specs.Lists.{pick}
 use Rattle.meaning.specs.Names.{Name, same}
-use Rattle.meaning.specs.Origins.{same-sort, same-shape, is-sort, is-function, Item}
+use Rattle.meaning.specs.Origins.{same-shape, is-sort, is-function, Item}
 use Rattle.meaning.specs.Normal.{Slot}
-use Rattle.meaning.specs.Checks.{least-at-odds, other-origin, sorts-clash, functions-clash, other-output, both-in-one, overloaded}
+use Rattle.meaning.specs.Checks.{least-at-odds, other-origin, sorts-clash, functions-clash, overloaded}
 use Rattle.text_names.specs.Word.{name-of}
-use Rattle.form_rows.specs.Rows.{type-of}
-use Rattle.unite_checks.specs.declared.Test.{Test}
-use Rattle.unite_checks.specs.declared.Test.the-variants.{Sorts, Functions, Overloading}
+use Rattle.unite_pairs.specs.declared.Test.{Test}
+use Rattle.unite_pairs.specs.declared.Test.the-variants.{Sorts, Functions, Overloading}
+use Rattle.unite_pairs.specs.Pairs.{two-sorts, two-functions, two-overloaded, but-name}
 use Rattle.unite_checks.specs.declared.Found.{Found}
 use Rattle.unite_checks.specs.declared.Found.the-variants.{At, Nothing}
 
@@ -34,33 +34,11 @@ clash-name t items = least-at-odds (λ (i : Item). i .name) (wrong t) items
 unfoldable pub repeated-name : List Slot → Option Name
 repeated-name slots = least-at-odds (λ (p : Slot). p .name) (λ p q. same (p .name) (q .name)) slots
 
--- the same, but for the names
-unfoldable pub two-sorts : Item → Item → Bool
-two-sorts a b = is-sort (a .shape) && is-sort (b .shape) && other-origin a b
-
-unfoldable pub two-functions : Item → Item → Bool
-two-functions a b = is-function (a .shape) && same-shape (a .shape) (b .shape) && other-origin a b
-
-unfoldable pub two-overloaded : Item → Item → Bool
-two-overloaded a b = other-output (a .shape) (b .shape) || both-in-one a b
-
-unfoldable pub but-name : Test → Item → Item → Bool
-but-name Sorts a b = two-sorts a b
-but-name Functions a b = two-functions a b
-but-name Overloading a b = two-overloaded a b
-
 -- where the search for what is at odds with the i-th of n rows, of that kind, begins: only a sort is at odds with sorts
 unfoldable pub first-rival : Test → ℕ → ℕ → ℕ → ℕ
 first-rival Sorts kind i n = pick (eqb kind 0) (i + 1) n
 first-rival Functions kind i n = i + 1
 first-rival Overloading kind i n = i + 1
-
--- equal inputs and different outputs
-unfoldable pub overloaded-types : List ℕ → List ℕ → ℕ → List ℕ → ℕ → List ℕ → Bool
-overloaded-types text tape k a l b =
-    let t = type-of text tape (k - 2) a in
-    let u = type-of text tape (l - 2) b in
-    agree same-sort (t .inputs) (u .inputs) && not (same-sort (t .output) (u .output))
 
 -- a test is one on the names, and then one on the rest
 name-first : (p q n o : Bool) → (p && q && n && o) ≡ (n && (p && q && o))

@@ -17,7 +17,7 @@ use Rattle.form.specs.Memory.{part, Kept}
 use Rattle.form.specs.Forms.{slots-at, items-at, slot-size}
 use Rattle.form.specs.FormLaws.{Apart, items-split}
 use Rattle.form.specs.Verdicts.{told}
-use Rattle.unite_checks.specs.declared.Test.the-variants.{Sorts, Functions, Overloading}
+use Rattle.unite_pairs.specs.declared.Test.the-variants.{Sorts, Functions, Overloading}
 use Rattle.unite_checks.specs.Clashes.{wrong, clash-name, repeated-name}
 
 -- ---- room

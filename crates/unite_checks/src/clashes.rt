@@ -1,8 +1,5 @@
 // The least name at which two are at odds, sought pair by pair in an order table.
 use super::Found;
-use super::Test;
-use super::pairs::at_odds;
-use super::pairs::same_called;
 use form::SLOT_SIZE;
 use form_order::name_in;
 use form_order::number_in;
@@ -10,6 +7,9 @@ use form_rows::Row;
 use form_rows::entries::same_word;
 use form_rows::kinds;
 use form_rows::rows::read_row;
+use unite_pairs::Test;
+use unite_pairs::at_odds;
+use unite_pairs::same_called;
 ghost use mathlib.Core.Path.{_≡_};
 ghost use Prim.Native.Nat.{_+_, _*_, _<_};
 ghost use lib.ListN.{getD};

@@ -1,6 +1,5 @@
 // Parameters of one name, clashes and overloading, in this order: what is checked of the visible items and M's own hidden ones.
 use super::Found;
-use super::Test;
 use super::clashes::find_clash;
 use super::clashes::find_repeated;
 use form::Culprit;
@@ -9,6 +8,7 @@ use form::Verdict;
 use form_order::order_names;
 use form_rows::ROW_SIZE;
 use meaning::numbers;
+use unite_pairs::Test;
 ghost use mathlib.Core.Path.{_≡_};
 ghost use Prim.Native.Nat.{_+_, _≤_};
 ghost use lib.ListN.{length};

@@ -2,15 +2,7 @@
 pub mod checked;
 pub mod clashes;
 pub mod consistency;
-pub mod pairs;
 pub mod room;
-
-// What two items of one name are tested for.
-pub enum Test {
-    Sorts,
-    Functions,
-    Overloading,
-}
 
 // The word of a culprit's name, or none.
 pub enum Found {

@@ -1,8 +1,10 @@
 // Nodes: which are the same, and how one is put under other rows.
+use form_comparing::declarations::same_origin;
+use form_comparing::sorts::same_shape;
+use form_comparing::sorts::same_sort;
 use form_rows::Origin;
 use form_rows::Row;
 use form_rows::Section;
-use form_rows::declarations::same_origin;
 use form_rows::entries::home_at;
 use form_rows::entries::kind_at;
 use form_rows::entries::put_word;
@@ -12,8 +14,6 @@ use form_rows::entries::word_at;
 use form_rows::kinds;
 use form_rows::rows::read_row;
 use form_rows::sections::same_section;
-use form_rows::sorts::same_shape;
-use form_rows::sorts::same_sort;
 ghost use mathlib.Core.Path.{_≡_};
 ghost use Prim.Native.Nat.{_+_, _/_, _%_, _≤_};
 ghost use lib.ListN.{length, set, getD};

@@ -1,3 +1,3 @@
-pub mod Finds
+pub mod Places
 pub mod Steps
 pub mod Loops

@@ -10,7 +10,7 @@ use form_rows::entries::same_word;
 use form_rows::entries::word_at;
 use form_rows::kinds;
 use form_rows::rows::read_row;
-use unite_items::find_item;
+use unite_finding::find_item;
 ghost use mathlib.Core.Path.{_≡_};
 ghost use Prim.Native.Nat.{_-_, _^_, _≤_};
 ghost use lib.ListN.{length, take};

@@ -1,6 +1,6 @@
 -- `unite_items::place_item` meets its contract.
 -- Assumes nothing.
-use Rattle.unite_items.proofs.Finds.{places}
+use Rattle.unite_items.proofs.Places.{places}
 use borrow.Author.Needs.{needs}
 use Rattle.unite_items.proofs.place_item.Statement.{statement}
 use Rattle.unite_items.proofs.place_item.Tie as tie

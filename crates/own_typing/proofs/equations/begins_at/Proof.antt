@@ -1,6 +1,7 @@
 -- `own_typing::equations::begins_at` meets its contract.
 -- Assumes nothing.
-use Rattle.own_typing.specs.Equations.{is-opening, begins-at}
+use Rattle.own_terms.specs.Typing.{is-opening}
+use Rattle.own_typing.specs.Equations.{begins-at}
 use Rattle.laws_choices.specs.Choices.{choices}
 use borrow.Author.Needs.{needs}
 use Rattle.own_typing.proofs.equations.begins_at.Statement.{statement}

@@ -1,8 +1,8 @@
 -- `read_entries::declarations::read_enclosed` meets its contract.
 -- Assumes nothing.
-use Rattle.read_entries.specs.Model.{enclosed}
+use Rattle.read_steps.specs.Model.{enclosed}
 use borrow.Author.Needs.{needs}
-use Rattle.read_entries.proofs.Rules.{rules}
+use Rattle.read_steps.proofs.Rules.{rules}
 use Rattle.read_entries.proofs.declarations.read_enclosed.Statement.{statement}
 use Rattle.read_entries.proofs.declarations.read_enclosed.Tie as tie
 

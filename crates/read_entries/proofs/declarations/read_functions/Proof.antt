@@ -1,10 +1,10 @@
 -- `read_entries::declarations::read_functions` meets its contract. The loop keeps what is to be read: what was at first comes to what is now.
 -- Assumes nothing.
-use Rattle.read_entries.specs.Model.{many, function}
+use Rattle.read_steps.specs.Model.{many, function}
 use Rattle.meaning.specs.Numbers.{text-size}
 use Rattle.meaning.specs.Grammar.{begins-function}
 use borrow.Author.Needs.{needs}
-use Rattle.read_entries.proofs.Lists.{Comes, loops, sized}
+use Rattle.read_steps.proofs.Lists.{Comes, loops, sized}
 use Rattle.read_entries.proofs.declarations.read_functions.Statement.{statement}
 use Rattle.read_entries.proofs.declarations.read_functions.Tie as tie
 

@@ -1,8 +1,8 @@
 -- `read_entries::declarations::read_names` meets its contract. The loop keeps what is to be read: what was at first comes to what is now.
 -- Assumes nothing.
-use Rattle.read_entries.specs.Model.{names}
+use Rattle.read_steps.specs.Model.{names}
 use borrow.Author.Needs.{needs}
-use Rattle.read_entries.proofs.Lists.{Comes, loops, sized}
+use Rattle.read_steps.proofs.Lists.{Comes, loops, sized}
 use Rattle.read_entries.proofs.declarations.read_names.Statement.{statement}
 use Rattle.read_entries.proofs.declarations.read_names.Tie as tie
 

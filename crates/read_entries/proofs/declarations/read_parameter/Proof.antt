@@ -1,8 +1,8 @@
 -- `read_entries::declarations::read_parameter` meets its contract.
 -- Assumes nothing.
-use Rattle.read_entries.specs.Model.{parameter}
+use Rattle.read_steps.specs.Model.{parameter}
 use borrow.Author.Needs.{needs}
-use Rattle.read_entries.proofs.Rules.{rules}
+use Rattle.read_steps.proofs.Rules.{rules}
 use Rattle.read_entries.proofs.declarations.read_parameter.Statement.{statement}
 use Rattle.read_entries.proofs.declarations.read_parameter.Tie as tie
 

@@ -1,11 +1,11 @@
 -- `read_entries::declarations::read_parameters` meets its contract. The loop keeps what is to be read: what was at first comes to what is now.
 -- Assumes nothing.
-use Rattle.read_entries.specs.Model.{separated, parameter, parameters}
+use Rattle.read_steps.specs.Model.{separated, parameter, parameters}
 use Rattle.meaning.specs.Numbers.{text-size}
 use Rattle.meaning.specs.Names.{byte}
 use Rattle.meaning.specs.Grammar.{is-name}
 use borrow.Author.Needs.{needs}
-use Rattle.read_entries.proofs.Lists.{Comes, loops, sized}
+use Rattle.read_steps.proofs.Lists.{Comes, loops, sized}
 use Rattle.read_entries.proofs.declarations.read_parameters.Statement.{statement}
 use Rattle.read_entries.proofs.declarations.read_parameters.Tie as tie
 

@@ -1,8 +1,8 @@
 -- `read_entries::declarations::read_signature` meets its contract.
 -- Assumes nothing.
-use Rattle.read_entries.specs.Model.{signature}
+use Rattle.read_steps.specs.Model.{signature}
 use borrow.Author.Needs.{needs}
-use Rattle.read_entries.proofs.Rules.{rules}
+use Rattle.read_steps.proofs.Rules.{rules}
 use Rattle.read_entries.proofs.declarations.read_signature.Statement.{statement}
 use Rattle.read_entries.proofs.declarations.read_signature.Tie as tie
 

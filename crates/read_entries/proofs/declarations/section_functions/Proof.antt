@@ -1,8 +1,8 @@
 -- `read_entries::declarations::section_functions` meets its contract.
 -- Assumes nothing.
-use Rattle.read_entries.specs.Model.{optional, some-of}
+use Rattle.read_steps.specs.Model.{optional, some-of}
 use borrow.Author.Needs.{needs}
-use Rattle.read_entries.proofs.Rules.{rules}
+use Rattle.read_steps.proofs.Rules.{rules}
 use Rattle.read_entries.proofs.declarations.section_functions.Statement.{statement}
 use Rattle.read_entries.proofs.declarations.section_functions.Tie as tie
 

@@ -1,9 +1,9 @@
 -- `read_entries::declarations::section_sorts` meets its contract.
 -- Assumes nothing.
-use Rattle.read_entries.specs.Model.{optional}
+use Rattle.read_steps.specs.Model.{optional}
 use Rattle.meaning.specs.Numbers.{text-size}
 use borrow.Author.Needs.{needs}
-use Rattle.read_entries.proofs.Rules.{rules}
+use Rattle.read_steps.proofs.Rules.{rules}
 use Rattle.read_entries.proofs.declarations.section_sorts.Statement.{statement}
 use Rattle.read_entries.proofs.declarations.section_sorts.Tie as tie
 

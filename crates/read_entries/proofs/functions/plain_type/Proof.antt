@@ -1,8 +1,8 @@
 -- `read_entries::functions::plain_type` meets its contract.
 -- Assumes nothing.
-use Rattle.read_entries.specs.Model.{function-by}
+use Rattle.read_steps.specs.Model.{function-by}
 use borrow.Author.Needs.{needs}
-use Rattle.read_entries.proofs.Rules.{rules}
+use Rattle.read_steps.proofs.Rules.{rules}
 use Rattle.read_entries.proofs.functions.plain_type.Statement.{statement}
 use Rattle.read_entries.proofs.functions.plain_type.Tie as tie
 

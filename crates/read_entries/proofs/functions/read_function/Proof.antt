@@ -1,8 +1,8 @@
 -- `read_entries::functions::read_function` meets its contract.
 -- Assumes nothing.
-use Rattle.read_entries.specs.Model.{function}
+use Rattle.read_steps.specs.Model.{function}
 use borrow.Author.Needs.{needs}
-use Rattle.read_entries.proofs.Rules.{rules}
+use Rattle.read_steps.proofs.Rules.{rules}
 use Rattle.read_entries.proofs.functions.read_function.Statement.{statement}
 use Rattle.read_entries.proofs.functions.read_function.Tie as tie
 

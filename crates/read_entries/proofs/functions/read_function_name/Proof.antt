@@ -1,8 +1,8 @@
 -- `read_entries::functions::read_function_name` meets its contract.
 -- Assumes nothing.
-use Rattle.read_entries.specs.Model.{function-name}
+use Rattle.read_steps.specs.Model.{function-name}
 use borrow.Author.Needs.{needs}
-use Rattle.read_entries.proofs.Rules.{rules}
+use Rattle.read_steps.proofs.Rules.{rules}
 use Rattle.read_entries.proofs.functions.read_function_name.Statement.{statement}
 use Rattle.read_entries.proofs.functions.read_function_name.Tie as tie
 

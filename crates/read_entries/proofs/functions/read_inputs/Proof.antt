@@ -1,8 +1,8 @@
 -- `read_entries::functions::read_inputs` meets its contract.
 -- Assumes nothing.
-use Rattle.read_entries.specs.Model.{input-type}
+use Rattle.read_steps.specs.Model.{input-type}
 use borrow.Author.Needs.{needs}
-use Rattle.read_entries.proofs.Rules.{rules}
+use Rattle.read_steps.proofs.Rules.{rules}
 use Rattle.read_entries.proofs.functions.read_inputs.Statement.{statement}
 use Rattle.read_entries.proofs.functions.read_inputs.Tie as tie
 

@@ -1,8 +1,8 @@
 -- `read_entries::functions::two_inputs` meets its contract.
 -- Assumes nothing.
-use Rattle.read_entries.specs.Model.{two-inputs}
+use Rattle.read_steps.specs.Model.{two-inputs}
 use borrow.Author.Needs.{needs}
-use Rattle.read_entries.proofs.Rules.{rules}
+use Rattle.read_steps.proofs.Rules.{rules}
 use Rattle.read_entries.proofs.functions.two_inputs.Statement.{statement}
 use Rattle.read_entries.proofs.functions.two_inputs.Tie as tie
 

@@ -1,11 +1,11 @@
 -- `read_entries::imports::pair_list` meets its contract. The loop keeps what is to be read: what was at first comes to what is now.
 -- Assumes nothing.
-use Rattle.read_entries.specs.Model.{separated, pair}
+use Rattle.read_steps.specs.Model.{separated, pair}
 use Rattle.meaning.specs.Numbers.{pair-limit}
 use Rattle.meaning.specs.Names.{byte}
 use Rattle.meaning.specs.Grammar.{begins-function}
 use borrow.Author.Needs.{needs}
-use Rattle.read_entries.proofs.Lists.{Comes, loops, sized}
+use Rattle.read_steps.proofs.Lists.{Comes, loops, sized}
 use Rattle.read_entries.proofs.imports.pair_list.Statement.{statement}
 use Rattle.read_entries.proofs.imports.pair_list.Tie as tie
 

@@ -1,8 +1,8 @@
 -- `read_entries::imports::perhaps_renamed` meets its contract.
 -- Assumes nothing.
-use Rattle.read_entries.specs.Model.{perhaps-renamed}
+use Rattle.read_steps.specs.Model.{perhaps-renamed}
 use borrow.Author.Needs.{needs}
-use Rattle.read_entries.proofs.Rules.{rules}
+use Rattle.read_steps.proofs.Rules.{rules}
 use Rattle.read_entries.proofs.imports.perhaps_renamed.Statement.{statement}
 use Rattle.read_entries.proofs.imports.perhaps_renamed.Tie as tie
 

@@ -1,8 +1,8 @@
 -- `read_entries::imports::read_bound` meets its contract.
 -- Assumes nothing.
-use Rattle.read_entries.specs.Model.{bound}
+use Rattle.read_steps.specs.Model.{bound}
 use borrow.Author.Needs.{needs}
-use Rattle.read_entries.proofs.Rules.{rules}
+use Rattle.read_steps.proofs.Rules.{rules}
 use Rattle.read_entries.proofs.imports.read_bound.Statement.{statement}
 use Rattle.read_entries.proofs.imports.read_bound.Tie as tie
 

@@ -1,8 +1,8 @@
 -- `read_entries::imports::read_clauses` meets its contract.
 -- Assumes nothing.
-use Rattle.read_entries.specs.Model.{optional, modified}
+use Rattle.read_steps.specs.Model.{optional, modified}
 use borrow.Author.Needs.{needs}
-use Rattle.read_entries.proofs.Rules.{rules}
+use Rattle.read_steps.proofs.Rules.{rules}
 use Rattle.read_entries.proofs.imports.read_clauses.Statement.{statement}
 use Rattle.read_entries.proofs.imports.read_clauses.Tie as tie
 

@@ -1,8 +1,8 @@
 -- `read_entries::imports::read_import` meets its contract.
 -- Assumes nothing.
-use Rattle.read_entries.specs.Model.{import-expression}
+use Rattle.read_steps.specs.Model.{import-expression}
 use borrow.Author.Needs.{needs}
-use Rattle.read_entries.proofs.Rules.{rules}
+use Rattle.read_steps.proofs.Rules.{rules}
 use Rattle.read_entries.proofs.imports.read_import.Statement.{statement}
 use Rattle.read_entries.proofs.imports.read_import.Tie as tie
 

@@ -1,10 +1,10 @@
 -- `read_entries::imports::read_imports` meets its contract. The loop keeps what is to be read: what was at first comes to what is now.
 -- Assumes nothing.
-use Rattle.read_entries.specs.Model.{separated, import-expression, imports}
+use Rattle.read_steps.specs.Model.{separated, import-expression, imports}
 use Rattle.meaning.specs.Names.{byte}
 use Rattle.meaning.specs.Grammar.{is-name}
 use borrow.Author.Needs.{needs}
-use Rattle.read_entries.proofs.Lists.{Comes, loops, sized}
+use Rattle.read_steps.proofs.Lists.{Comes, loops, sized}
 use Rattle.read_entries.proofs.imports.read_imports.Statement.{statement}
 use Rattle.read_entries.proofs.imports.read_imports.Tie as tie
 

@@ -1,8 +1,8 @@
 -- `read_entries::imports::read_modifier` meets its contract.
 -- Assumes nothing.
-use Rattle.read_entries.specs.Model.{modifier}
+use Rattle.read_steps.specs.Model.{modifier}
 use borrow.Author.Needs.{needs}
-use Rattle.read_entries.proofs.Rules.{rules}
+use Rattle.read_steps.proofs.Rules.{rules}
 use Rattle.read_entries.proofs.imports.read_modifier.Statement.{statement}
 use Rattle.read_entries.proofs.imports.read_modifier.Tie as tie
 

@@ -1,8 +1,8 @@
 -- `read_entries::imports::read_pair` meets its contract.
 -- Assumes nothing.
-use Rattle.read_entries.specs.Model.{pair}
+use Rattle.read_steps.specs.Model.{pair}
 use borrow.Author.Needs.{needs}
-use Rattle.read_entries.proofs.Rules.{rules}
+use Rattle.read_steps.proofs.Rules.{rules}
 use Rattle.read_entries.proofs.imports.read_pair.Statement.{statement}
 use Rattle.read_entries.proofs.imports.read_pair.Tie as tie
 

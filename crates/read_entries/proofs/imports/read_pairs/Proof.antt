@@ -1,8 +1,8 @@
 -- `read_entries::imports::read_pairs` meets its contract.
 -- Assumes nothing.
-use Rattle.read_entries.specs.Model.{pairs}
+use Rattle.read_steps.specs.Model.{pairs}
 use borrow.Author.Needs.{needs}
-use Rattle.read_entries.proofs.Rules.{rules}
+use Rattle.read_steps.proofs.Rules.{rules}
 use Rattle.read_entries.proofs.imports.read_pairs.Statement.{statement}
 use Rattle.read_entries.proofs.imports.read_pairs.Tie as tie
 

@@ -1,8 +1,8 @@
 -- `read_entries::imports::read_renamed` meets its contract.
 -- Assumes nothing.
-use Rattle.read_entries.specs.Model.{renamed}
+use Rattle.read_steps.specs.Model.{renamed}
 use borrow.Author.Needs.{needs}
-use Rattle.read_entries.proofs.Rules.{rules}
+use Rattle.read_steps.proofs.Rules.{rules}
 use Rattle.read_entries.proofs.imports.read_renamed.Statement.{statement}
 use Rattle.read_entries.proofs.imports.read_renamed.Tie as tie
 

@@ -1,8 +1,8 @@
 -- `read_entries::imports::some_bindings` meets its contract.
 -- Assumes nothing.
-use Rattle.read_entries.specs.Model.{some-of}
+use Rattle.read_steps.specs.Model.{some-of}
 use borrow.Author.Needs.{needs}
-use Rattle.read_entries.proofs.Rules.{rules}
+use Rattle.read_steps.proofs.Rules.{rules}
 use Rattle.read_entries.proofs.imports.some_bindings.Statement.{statement}
 use Rattle.read_entries.proofs.imports.some_bindings.Tie as tie
 

@@ -3,15 +3,15 @@
 -- a term below its arguments, those below their brackets, and what stands one bracket deeper below a primary. Each loop keeps what is to be read: what
 -- was at first comes to what is now.
 -- Assumes nothing.
-use Rattle.read_entries.specs.Model.{_>>_, separated, many, operand, operands, primary, term}
+use Rattle.read_steps.specs.Model.{_>>_, separated, many, operand, operands, primary, term}
 use Rattle.meaning.specs.Names.{byte}
 use Rattle.meaning.specs.Grammar.{begins-term}
 use Rattle.meaning.specs.Tokens.{operator}
-use Rattle.read_terms.specs.Kept.{kept}
+use Rattle.read_kept.specs.Kept.{kept}
 use Rattle.read_terms.specs.Parts.{operands-from}
 use lib.Dec.{eqb}
 use denote.Ref.{now}
-use Rattle.read_entries.proofs.Lists.{Comes, begins-loop, sized, separated-ends, separated-full, separated-bad}
+use Rattle.read_steps.proofs.Lists.{Comes, begins-loop, sized, separated-ends, separated-full, separated-bad}
 use borrow.Author.Needs.{needs}
 use Rattle.read_terms.proofs.Cases.{arguments-again, term-read, operands-again, operands-over, operands-end, primary-flat, primary-inner, primary-alone, primary-applied, applied-read}
 use Prim.Native.Nat.{ℕ, _+_, _*_, _<_}
@@ -32,14 +32,14 @@ use Rattle.read_terms.proofs.term.+read_applied+read_arguments+read_dee
 use Rattle.read_terms.proofs.term.read_primary.Reads as read-primary
 use Rattle.read_terms.proofs.term.read_primary.Kinds as read-primary-kinds
 use Rattle.read_terms.proofs.term.+read_applied+read_arguments+read_deep+read_operands+read_primary.Lts-read_primary as read-primary-lts
-use Rattle.read_terms.proofs.kept.begins.Reads as begins-reads
-use Rattle.read_terms.proofs.kept.entries_of.Reads as entries-of-reads
-use Rattle.read_terms.proofs.kept.follows.Reads as follows-reads
-use Rattle.read_terms.proofs.kept.not_here.Reads as not-here-reads
-use Rattle.read_terms.proofs.kept.over.Reads as over-reads
-use Rattle.read_terms.proofs.kept.pass.Reads as pass-reads
-use Rattle.read_terms.proofs.term.close.Reads as close-reads
-use Rattle.read_terms.proofs.term.pass_name.Reads as pass-name-reads
+use Rattle.read_kept.proofs.kept.begins.Reads as begins-reads
+use Rattle.read_kept.proofs.kept.entries_of.Reads as entries-of-reads
+use Rattle.read_kept.proofs.kept.follows.Reads as follows-reads
+use Rattle.read_kept.proofs.kept.not_here.Reads as not-here-reads
+use Rattle.read_kept.proofs.kept.over.Reads as over-reads
+use Rattle.read_kept.proofs.kept.pass.Reads as pass-reads
+use Rattle.read_kept.proofs.nodes.close.Reads as close-reads
+use Rattle.read_kept.proofs.nodes.pass_name.Reads as pass-name-reads
 use Rattle.read_terms.proofs.term.pass_operator.Reads as pass-operator-reads
 use Rattle.read_terms.proofs.term.read_flat.Reads as read-flat-reads
 use Rattle.read_terms.proofs.term.+read_applied+read_arguments+read_deep+read_operands+read_primary.{statement}

@@ -1,7 +1,7 @@
 -- `read_terms::term::join` meets its contract.
 -- Assumes nothing.
-use Rattle.read_entries.specs.Model.{bare-operator, term-operator, joins}
-use Rattle.read_terms.proofs.Cases.{nodes}
+use Rattle.read_steps.specs.Model.{bare-operator, term-operator, joins}
+use Rattle.read_kept.proofs.Cases.{nodes}
 use borrow.Author.Needs.{needs}
 use Rattle.read_terms.proofs.term.join.Statement.{statement}
 use Rattle.read_terms.proofs.term.join.Tie as tie

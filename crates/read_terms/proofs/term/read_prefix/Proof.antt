@@ -1,7 +1,7 @@
 -- `read_terms::term::read_prefix` meets its contract.
 -- Assumes nothing.
-use Rattle.read_entries.specs.Model.{prefixed, term-operator}
-use Rattle.read_terms.proofs.Cases.{nodes}
+use Rattle.read_steps.specs.Model.{prefixed, term-operator}
+use Rattle.read_kept.proofs.Cases.{nodes}
 use borrow.Author.Needs.{needs}
 use Rattle.read_terms.proofs.term.read_prefix.Statement.{statement}
 use Rattle.read_terms.proofs.term.read_prefix.Tie as tie

@@ -1,6 +1,6 @@
 -- `read_terms::term::read_term` meets its contract.
 -- Assumes nothing.
-use Rattle.read_terms.proofs.Cases.{kept-onward}
+use Rattle.read_kept.proofs.Cases.{kept-onward}
 use borrow.Author.Needs.{needs}
 use Rattle.read_terms.proofs.term.read_term.Statement.{statement}
 use Rattle.read_terms.proofs.term.read_term.Tie as tie

@@ -1,0 +1,4 @@
+pub mod Steps
+pub mod Named
+pub mod Lying
+pub mod Meant

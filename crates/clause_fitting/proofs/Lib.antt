@@ -1,0 +1,3 @@
+pub mod SortCases
+pub mod FormalCases
+pub mod ItemCases

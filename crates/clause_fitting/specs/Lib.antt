@@ -1,0 +1,4 @@
+pub mod Unpaired
+pub mod Fits
+pub mod Formals
+pub mod Bound

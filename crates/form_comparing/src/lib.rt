@@ -1,0 +1,3 @@
+// Declarations, origins, sorts, types and items compared: what makes two items one.
+pub mod declarations;
+pub mod sorts;

@@ -1,0 +1,4 @@
+pub mod Kept
+pub mod Nodes
+pub mod Keeps
+pub mod Sound

@@ -1,0 +1,22 @@
+-- `own_terms::terms::type_item` meets its contract.
+-- Assumes nothing.
+use Rattle.own_terms.proofs.Deep.{deeper}
+use Rattle.own_terms.proofs.terms.type_item.Statement.{statement}
+use Rattle.own_terms.proofs.terms.type_item.Tie as tie
+
+pub type-item-spec : {M : Type 1} → statement M
+type-item-spec =
+    tie.close
+    (tie.spec
+    (λ c κs. search deeper)  -- known-of-requires
+    (λ c κs. search deeper)  -- type-alone-requires
+    (λ c κs. search deeper)  -- tell-requires
+    (λ c. search deeper)  -- same-length
+    (λ c. search deeper)  -- returns
+    (λ c. search deeper)  -- element-copy-out-type-applied
+    (λ c. search deeper)  -- element-copy-out-type-applied-2
+    (λ c κs. search deeper)  -- type-applied-requires
+    (λ c κs. search deeper)  -- tell-requires-2
+    (λ c. search deeper)  -- same-length-2
+    (λ c. search deeper)  -- returns-2
+    )

@@ -1,0 +1,1 @@
+// Texts that meet the premises of the promises, computed: this crate has no code.

@@ -1,0 +1,2 @@
+// Variables and equations, written to the tape.
+pub mod equations;

@@ -1,0 +1,33 @@
+-- `text_marks::symbols_end` meets its contract.
+-- Assumes nothing.
+use mathlib.Core.Path.{_≡_}
+use Prim.Native.Nat.{_-_}
+use lib.ListN.{length}
+use Rattle.meaning.specs.Tokens.{run-end, at-symbol}
+use Rattle.text_names.proofs.Auto.{on, done, told}
+use Rattle.text_names.proofs.Runs.{run-on, run-stop, run-ends, front}
+use borrow.Author.Needs.{needs}
+use Rattle.text_marks.proofs.symbols_end.Statement.{statement}
+use Rattle.text_marks.proofs.symbols_end.Tie as tie
+
+abbrev Inv-loop : tie.InvT-loop
+Inv-loop text at i₀ i = run-end at-symbol text at ≡ run-end at-symbol text i
+
+abbrev μ-loop : tie.MeasureT-loop
+μ-loop text at i₀ i = length text - i
+
+pub symbols-end-spec : {M : Type 1} → statement M
+symbols-end-spec =
+    tie.close
+    (tie.spec
+    Inv-loop
+    μ-loop
+    (λ c. search needs)  -- loop-holds
+    (λ c. search needs)  -- shared-slice-read-is-symbol
+    (λ c κs. search needs)  -- is-symbol-requires
+    (λ c. search needs)  -- add-i
+    (λ c. search needs)  -- loop-less
+    (λ c. search (on, run-on at-symbol, front, told, needs))  -- loop-again
+    (λ c. search (done, run-stop at-symbol, front, told, needs))  -- returns
+    (λ c. search (done, run-ends at-symbol, needs))  -- returns-2
+    )
