@@ -10,7 +10,7 @@ use Rattle.meaning.specs.Lists.{pick, before}
 use Rattle.meaning.specs.Names.{Name, same, member}
 use Rattle.meaning.specs.Numbers.{memory-size, asked-absent}
 use Rattle.meaning.specs.Syntax.{Module}
-use Rattle.meaning.specs.Distinct.{read-fresh}
+use Rattle.laws.specs.Distinct.{read-fresh}
 use Rattle.meaning.specs.Texts.{Reading, two-texts, refused-in, read-texts}
 use Rattle.meaning.specs.Normal.{Normal, empty}
 use Rattle.meaning.specs.Checks.{lone}

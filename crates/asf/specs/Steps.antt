@@ -8,7 +8,7 @@ use Rattle.meaning.specs.Names.{same}
 use Rattle.meaning.specs.Numbers.{memory-size, module-limit}
 use Rattle.meaning.specs.Syntax.{Module}
 use Rattle.meaning.specs.OrderLaws.{Every}
-use Rattle.meaning.specs.Distinct.{Fresh}
+use Rattle.laws.specs.Distinct.{Fresh}
 use Rattle.meaning.specs.Texts.{Reading, all-read}
 use Rattle.invariants.specs.Limits.{Limited}
 use Rattle.meaning.specs.Reached.{module-names}

@@ -1,4 +1,4 @@
--- The decision as the code has it, and the meaning's (asking_again/specs/Decide.antt).
+-- The decision as the code has it, and the meaning's (ask_decision/specs/Decide.antt).
 use mathlib.Core.Path.{_≡_, refl, sym, ap, _∙_}
 use Prim.Native.Nat.{ℕ, _^_, _<_}
 use mathlib.Core.Bool.{Bool, true, false}

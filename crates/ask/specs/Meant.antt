@@ -1,4 +1,4 @@
--- From one step of a decision to the next: what is told of two tapes is the decision of the meaning (asking_again/specs/Decide.antt).
+-- From one step of a decision to the next: what is told of two tapes is the decision of the meaning (ask_decision/specs/Decide.antt).
 use mathlib.Core.Path.{_≡_, refl, sym, ap, subst, _∙_}
 use Prim.Native.Nat.{ℕ, _<_, _≤_}
 use native.Mathlib.Omega.{arith}
@@ -10,7 +10,7 @@ use Rattle.meaning.specs.Lists.{pick, before, or-else}
 use Rattle.meaning.specs.Names.{Name, same, member}
 use Rattle.meaning.specs.OrderLaws.{Every}
 use Rattle.meaning.specs.Syntax.{Module}
-use Rattle.meaning.specs.Distinct.{Fresh}
+use Rattle.laws.specs.Distinct.{Fresh}
 use Rattle.meaning.specs.Texts.{Texts, Reading, read-texts}
 use Rattle.meaning.specs.Reached.{Placed, reached, module-names, short-or-blank}
 use Rattle.ask_decision.specs.Reasons.{absent-before, absent-now}

@@ -14,7 +14,7 @@ use Rattle.meaning.specs.Texts.{Texts}
 use Rattle.meaning.specs.Reached.{Ended, normalised, refused-at, normalise, Placed, reached, module-names}
 use Rattle.meaning.specs.Listing.{line, lines-text, visible-lines, shown}
 use Rattle.meaning.specs.Answer.{Answer, refusal, of-ended, answer}
-use Rattle.meaning.specs.Distinct.{Fresh, read-fresh}
+use Rattle.laws.specs.Distinct.{Fresh, read-fresh}
 use Rattle.promises.specs.Lines.{listing-shown}
 use Rattle.promises.specs.Tied.{ended-tied}
 use Rattle.promises.specs.Demand.{ReadAs, ShortOfRoom, IsNormalised, InTurn, Counterparts, Agreeing, Enough}

@@ -11,7 +11,7 @@ use Rattle.meaning.specs.Syntax.{Module}
 use Rattle.meaning.specs.Normal.{Visible}
 use Rattle.meaning.specs.Texts.{Texts, all-read}
 use Rattle.meaning.specs.Reached.{Placed, reached, module-names}
-use Rattle.meaning.specs.Distinct.{read-fresh}
+use Rattle.laws.specs.Distinct.{read-fresh}
 use Rattle.meaning.specs.Answer.{listing, answer}
 use Rattle.meaning.specs.OrderLaws.{Every}
 use Rattle.laws.specs.EveryLaws.{every-so, every-any}

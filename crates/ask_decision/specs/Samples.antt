@@ -8,7 +8,7 @@ use Rattle.meaning.specs.Names.{bytes, Name}
 use Rattle.meaning.specs.Numbers.{memory-size, program-output, accepted, no-token-there, not-allowed, clashing}
 use Rattle.meaning.specs.Texts.{Texts, two-texts, read-texts}
 use Rattle.meaning.specs.Answer.{listing, answer}
-use Rattle.meaning.specs.Trials.{all-opened}
+use Rattle.meaning.specs.Opened.{all-opened}
 use Rattle.promises.specs.VisiblePart.{visible-part}
 use Rattle.promises.specs.Demand.{ReadAs, ShortOfRoom}
 use Rattle.promises.specs.Stored.{UpToDate}

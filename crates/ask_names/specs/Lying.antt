@@ -7,7 +7,7 @@ use mathlib.Core.List.{List, [], _++_, map}
 use lib.ListN.{length, take, drop, length-append, length-drop}
 use lib.Seq.{length-take-le, take-take, take-append-le}
 use Rattle.meaning.specs.Numbers.{memory-size}
-use Rattle.meaning.specs.Distinct.{read-fresh}
+use Rattle.laws.specs.Distinct.{read-fresh}
 use Rattle.meaning.specs.Texts.{two-texts, refused-in, read-texts}
 use Rattle.text_names.specs.Joint.{joint}
 use Rattle.tape.specs.Tape.{spelled, entries}

@@ -1,4 +1,4 @@
--- A tape that says what was read, with its heads: the name that stands at a module's head is its name in the meaning (asking_again/specs/Decide.antt).
+-- A tape that says what was read, with its heads: the name that stands at a module's head is its name in the meaning (ask_decision/specs/Decide.antt).
 use mathlib.Core.Path.{_≡_, refl, sym, ap, _∙_}
 use Prim.Native.Nat.{ℕ, zero, suc, _<_, _≤_}
 use native.Mathlib.Omega.{arith}

@@ -1,4 +1,4 @@
--- A module's name by its number, as the code has it, and the meaning's (asking_again/specs/Decide.antt).
+-- A module's name by its number, as the code has it, and the meaning's (ask_decision/specs/Decide.antt).
 use mathlib.Core.Path.{_≡_}
 use Prim.Native.Nat.{ℕ}
 use mathlib.Core.List.{List, []}

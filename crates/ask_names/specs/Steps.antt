@@ -5,7 +5,7 @@ use mathlib.Core.List.{List, []}
 use lib.ListN.{length}
 use Rattle.meaning.specs.Numbers.{module-limit}
 use Rattle.meaning.specs.Syntax.{Module}
-use Rattle.meaning.specs.Distinct.{Fresh}
+use Rattle.laws.specs.Distinct.{Fresh}
 use Rattle.meaning.specs.Texts.{Reading, all-read}
 use Rattle.tape.specs.Tape.{entries, flat-modules}
 

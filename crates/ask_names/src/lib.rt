@@ -4,7 +4,7 @@ use answer::blank;
 use answer::name_in;
 use form_layout::tape_end;
 use memory::memory_size;
-use modules::find_heads;
+use module_heads::find_heads;
 use modules::name_of_module;
 use read_both::Both;
 use read_both::read_both;

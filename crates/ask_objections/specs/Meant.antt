@@ -1,4 +1,4 @@
--- What is told of two tapes is what the decision says of the modules that they spell (asking_again/specs/Decide.antt).
+-- What is told of two tapes is what the decision says of the modules that they spell (ask_decision/specs/Decide.antt).
 use mathlib.Core.Path.{_≡_, refl, ap, _∙_}
 use Prim.Native.Nat.{ℕ}
 use mathlib.Core.Bool.{Bool, true, false, not, _&&_}

@@ -1,4 +1,4 @@
--- What speaks against keeping, in terms of two tapes (asking_again/specs/Decide.antt): of module k on the old tape and module k′ on the new one.
+-- What speaks against keeping, in terms of two tapes (ask_decision/specs/Decide.antt): of module k on the old tape and module k′ on the new one.
 -- All of it is total, whatever the tapes and their heads say.
 use Prim.Native.Nat.{ℕ, zero, suc, _+_, _-_}
 use mathlib.Core.Bool.{Bool, true}

@@ -1,4 +1,4 @@
--- Two sets of modules by their numbers, walked upwards in pairs, in terms of two tapes (asking_again/specs/Decide.antt). All of it is total,
+-- Two sets of modules by their numbers, walked upwards in pairs, in terms of two tapes (ask_decision/specs/Decide.antt). All of it is total,
 -- whatever the tapes and their heads say.
 use Prim.Native.Nat.{ℕ, zero, suc, _-_}
 use mathlib.Core.Bool.{Bool}

@@ -21,10 +21,11 @@ use Rattle.form.specs.Forms.{items-at, node-shape, node-of}
 use Rattle.form.specs.FormLaws.{items-same}
 use Rattle.form.specs.FlatMoves.{move-node}
 use Rattle.clause_translation.specs.declared.Mode.{Mode}
-use Rattle.clause_translation.specs.Translation.{pairs-at, sort-name, function-name, moved, moved-in}
+use Rattle.clause_pairs.specs.Pairs.{pairs-at}
+use Rattle.clause_translation.specs.Translation.{sort-name, function-name, moved, moved-in}
 use Rattle.clause_translation.specs.MovedLaws.{moved-apart}
 use Rattle.unite_items.specs.Absorb.{Absorbed, taken}
-use Rattle.unite_equations.specs.Found.{pointable, Noted, function-moved}
+use Rattle.unite_nodes.specs.Found.{pointable, Noted, function-moved}
 use Rattle.unite.specs.Noting.{item-moved, node-moved, shape-moved, note-inside, note-item}
 use Rattle.clause_checks.specs.Notes.{mode-item, formal-row, moved-place, FormalsNoted}
 use Rattle.clause_fitting.specs.Bound.{NotedAs, note-right}

@@ -19,8 +19,9 @@ use Rattle.form.specs.Memory.{part, Kept}
 use Rattle.form.specs.Forms.{visible-at, Stands}
 use Rattle.form.specs.Blocks.{Makes, MadeIn}
 use Rattle.clause_translation.specs.declared.Mode.{Mode}
-use Rattle.clause_translation.specs.Translation.{pairs-at, mode-formals}
-use Rattle.unite_equations.specs.Found.{Noted}
+use Rattle.clause_pairs.specs.Pairs.{pairs-at}
+use Rattle.clause_translation.specs.Translation.{mode-formals}
+use Rattle.unite_nodes.specs.Found.{Noted}
 use Rattle.unite.specs.United.{empty-in, with-items, hidden-onto, SlotsUnited, VisibleUnited, sorts, functions}
 use Rattle.clause_checks.specs.KeptParameters.{SlotsKept}
 use Rattle.clause_fitting.specs.Fits.{mode-whole}

@@ -19,9 +19,9 @@ use Rattle.form.specs.FormLaws.{Apart, kept-same, kept-two-same}
 use Rattle.form.specs.FullLists.{length-union}
 use Rattle.form_frames.specs.Changes.{onward, around, apart-in, outside-in, tape-kept, still-stands}
 use Rattle.clause_translation.specs.declared.Mode.{Mode}
-use Rattle.unite_equations.specs.Joined.{with-counts}
-use Rattle.unite_equations.specs.Found.{Noted}
-use Rattle.unite_equations.specs.Pointed.{noted-stays}
+use Rattle.unite_nodes.specs.Joined.{with-counts}
+use Rattle.unite_nodes.specs.Found.{Noted}
+use Rattle.unite_nodes.specs.Pointed.{noted-stays}
 use Rattle.unite.specs.Rooms.{HiddenRoom}
 use Rattle.unite.specs.United.{empty-in, with-items, hidden-onto, moved-onto, sorts, functions, HiddenUnited}
 use Rattle.unite.specs.InBlock.{hidden-room-in}

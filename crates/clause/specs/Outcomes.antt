@@ -28,7 +28,8 @@ use Rattle.form.specs.Forms.{slots-at, items-at, visible-at, Stands}
 use Rattle.form.specs.FormLaws.{kept-all}
 use Rattle.form.specs.Verdicts.{culprit-of, lone-of, told}
 use Rattle.clause_translation.specs.declared.Mode.{Mode}
-use Rattle.clause_translation.specs.Translation.{pairs-at, mode-formals}
+use Rattle.clause_pairs.specs.Pairs.{pairs-at}
+use Rattle.clause_translation.specs.Translation.{mode-formals}
 use Rattle.clause_fitting.specs.Fits.{mode-whole}
 use Rattle.clause_fitting.specs.Bound.{pairs-meant, unpaired-meant}
 use Rattle.unite_checks.specs.Made.{makes-as, refused-makes, stops, goes-on}

@@ -8,7 +8,7 @@ use Rattle.form.specs.declared.Block.{Block}
 use Rattle.form.specs.FormLaws.{Apart}
 use Rattle.form.specs.Blocks.{BlockLaid, Fits}
 use Rattle.clause_translation.specs.declared.Mode.{Mode}
-use Rattle.unite_equations.specs.Joined.{with-counts}
+use Rattle.unite_nodes.specs.Joined.{with-counts}
 use Rattle.unite.specs.Rooms.{Inside}
 use Rattle.unite.specs.United.{empty-in, with-items}
 use Rattle.unite_checks.specs.Steps.{BlockRoom}

@@ -23,7 +23,7 @@ use Rattle.form.specs.Blocks.{MadeThere}
 use Rattle.form.specs.Verdicts.{culprit-of, told}
 use Rattle.form_frames.specs.Changes.{onward}
 use Rattle.clause_translation.specs.declared.Mode.{Mode}
-use Rattle.clause_translation.specs.Translation.{pairs-at}
+use Rattle.clause_pairs.specs.Pairs.{pairs-at}
 use Rattle.unite.specs.Rooms.{UniteRoom}
 use Rattle.unite.specs.United.{empty-in, moved-onto, sorts, functions, United}
 use Rattle.unite.specs.Standing.{empty-stands}

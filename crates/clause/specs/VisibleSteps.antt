@@ -18,12 +18,13 @@ use Rattle.form.specs.Forms.{items-at, visible-at, Stands, slot-size}
 use Rattle.form.specs.FormLaws.{Apart, kept-same, kept-two-same}
 use Rattle.form_frames.specs.Changes.{onward, wider, around, apart-in, tape-kept, still-stands}
 use Rattle.clause_translation.specs.declared.Mode.{Mode}
-use Rattle.clause_translation.specs.Translation.{pairs-at, sort-name, function-name, moved, moved-in}
+use Rattle.clause_pairs.specs.Pairs.{pairs-at}
+use Rattle.clause_translation.specs.Translation.{sort-name, function-name, moved, moved-in}
 use Rattle.clause_translation.specs.MovedLaws.{map-kept, moved-same, sort-name-same, function-name-same}
 use Rattle.unite_items.specs.Absorb.{Absorbed, taken}
 use Rattle.unite_items.specs.Turns.{Room}
-use Rattle.unite_equations.specs.Found.{Noted}
-use Rattle.unite_equations.specs.Pointed.{noted-stays}
+use Rattle.unite_nodes.specs.Found.{Noted}
+use Rattle.unite_nodes.specs.Pointed.{noted-stays}
 use Rattle.unite.specs.Rooms.{SlotsRoom}
 use Rattle.unite.specs.United.{empty-in, with-items, other-slots, SlotsUnited, VisibleUnited, sorts, functions}
 use Rattle.unite.specs.InBlock.{inside-as, outside-notes, outside-slots, outside-rows}

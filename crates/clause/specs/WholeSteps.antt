@@ -18,7 +18,7 @@ use Rattle.form.specs.Forms.{items-at, visible-at, Stands}
 use Rattle.form.specs.FormLaws.{Apart}
 use Rattle.form_frames.specs.Changes.{onward, still-stands}
 use Rattle.clause_translation.specs.declared.Mode.{Mode}
-use Rattle.clause_translation.specs.Translation.{pairs-at}
+use Rattle.clause_pairs.specs.Pairs.{pairs-at}
 use Rattle.unite.specs.United.{hidden-onto, sorts, functions}
 use Rattle.unite.specs.Whole.{sorts-stay, functions-stay}
 use Rattle.clause_fitting.specs.Bound.{sorts-meant, functions-meant}

@@ -14,7 +14,7 @@ use Rattle.meaning.specs.Clauses.{paired}
 use Rattle.text_names.specs.Word.{name-of}
 use Rattle.tape.specs.Tape.{old-role}
 use Rattle.form_rows.specs.Entries.{role-at, word-at}
-use Rattle.clause_translation.specs.Translation.{pairs-at}
+use Rattle.clause_pairs.specs.Pairs.{pairs-at}
 use Rattle.clause_checks.specs.declared.Found.the-variants.{At, Nothing}
 use Rattle.clause_checks.specs.Pairs.{found, pair-count, given, pair-at, rightly}
 use Rattle.clause_checks.specs.PairWalks.{from-start, one-more, counted-next, Walking, walk-start, walk-end, walk-here, walk-again}

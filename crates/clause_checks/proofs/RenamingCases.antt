@@ -25,7 +25,7 @@ use Rattle.form_rows.specs.Rows.{sort-of, type-of, shape-of, item-of}
 use Rattle.form.specs.declared.Verdict.the-variants.{Fine, Stop}
 use Rattle.form.specs.Forms.{items-at}
 use Rattle.form.specs.Verdicts.{told, lone-of}
-use Rattle.clause_translation.specs.Translation.{pairs-at}
+use Rattle.clause_pairs.specs.Pairs.{pairs-at}
 use Rattle.clause_names.specs.Named.{kind-named}
 use Rattle.clause_checks.specs.Pairs.{pair-count, given, pair-at, rightly}
 use Rattle.clause_checks.specs.PairWalks.{Walking, walk-start, walk-end, walk-here, walk-again}

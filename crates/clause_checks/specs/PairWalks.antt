@@ -10,7 +10,7 @@ use Rattle.meaning.specs.Lists.{pick}
 use Rattle.meaning.specs.Syntax.{Pair}
 use Rattle.tape.specs.Tape.{old-role}
 use Rattle.form_rows.specs.Entries.{role-at}
-use Rattle.clause_translation.specs.Translation.{pairs-from, pairs-at}
+use Rattle.clause_pairs.specs.Pairs.{pairs-from, pairs-at}
 use Rattle.clause_checks.specs.Pairs.{pair-count, pair-at}
 
 -- ---- how many there are

@@ -11,7 +11,7 @@ ghost use Rattle.meaning.specs.Clauses.{paired};
 ghost use Rattle.text_names.specs.Word.{name-of};
 ghost use Rattle.text_names.specs.Joint.{joint};
 ghost use Rattle.form_rows.specs.Entries.{word-at};
-ghost use Rattle.clause_translation.specs.Translation.{pairs-at};
+ghost use Rattle.clause_pairs.specs.Pairs.{pairs-at};
 ghost use Rattle.clause_checks.specs.Pairs.{found, given, pair-count};
 
 // Where pair k stands.

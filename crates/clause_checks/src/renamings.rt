@@ -26,7 +26,7 @@ ghost use Rattle.form_rows.specs.Rows.{item-of};
 ghost use Rattle.form.specs.Memory.{part};
 ghost use Rattle.form.specs.Forms.{items-at};
 ghost use Rattle.form.specs.Verdicts.{told};
-ghost use Rattle.clause_translation.specs.Translation.{pairs-at};
+ghost use Rattle.clause_pairs.specs.Pairs.{pairs-at};
 ghost use Rattle.clause_checks.specs.Pairs.{pair-at, rightly};
 ghost use Rattle.clause_checks.specs.Renamed.{unfit};
 

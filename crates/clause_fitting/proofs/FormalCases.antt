@@ -15,7 +15,8 @@ use Rattle.form_rows.specs.declared.Row.{Row}
 use Rattle.form_rows.specs.Rows.{section-of, item-of, row-at, row-size}
 use Rattle.form.specs.Forms.{items-at}
 use Rattle.clause_translation.specs.declared.Mode.{Mode}
-use Rattle.clause_translation.specs.Translation.{pairs-at, formals-at, mode-formals}
+use Rattle.clause_pairs.specs.Pairs.{pairs-at}
+use Rattle.clause_translation.specs.Translation.{formals-at, mode-formals}
 use Rattle.clause_checks.specs.declared.Found.{Found}
 use Rattle.clause_checks.specs.declared.Found.the-variants.{At, Nothing}
 use Rattle.clause_checks.specs.Pairs.{found}

@@ -16,7 +16,8 @@ use Rattle.form_rows.specs.Rows.{origin-of as row-origin, sort-of, type-of, row
 use Rattle.form.specs.declared.Form.{Form}
 use Rattle.form.specs.Forms.{items-at, visible-at}
 use Rattle.clause_translation.specs.declared.Mode.{Mode}
-use Rattle.clause_translation.specs.Translation.{pairs-at, mode-formals}
+use Rattle.clause_pairs.specs.Pairs.{pairs-at}
+use Rattle.clause_translation.specs.Translation.{mode-formals}
 use Rattle.clause_checks.specs.declared.Found.{Found}
 use Rattle.clause_checks.specs.declared.Found.the-variants.{At, Nothing}
 use Rattle.clause_checks.specs.Pairs.{found}

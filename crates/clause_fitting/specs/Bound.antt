@@ -22,7 +22,8 @@ use Rattle.form.specs.declared.Form.{Form}
 use Rattle.form.specs.Forms.{items-at}
 use Rattle.form.specs.FormLaws.{length-items, item-at}
 use Rattle.clause_translation.specs.declared.Mode.{Mode}
-use Rattle.clause_translation.specs.Translation.{pairs-at, formals-at, mode-formals, sort-name, function-name, moved}
+use Rattle.clause_pairs.specs.Pairs.{pairs-at}
+use Rattle.clause_translation.specs.Translation.{formals-at, mode-formals, sort-name, function-name, moved}
 use Rattle.clause_translation.specs.MovedLaws.{sort-name-bound, function-name-bound}
 use Rattle.clause_checks.specs.Joined.{both-true, every-kept, first-passes, joined-there}
 use Rattle.clause_checks.specs.Searches.{like}

@@ -17,7 +17,8 @@ use Rattle.text_names.specs.Word.{name-of}
 use Rattle.form.specs.declared.Form.{Form}
 use Rattle.form.specs.Forms.{items-at, visible-at}
 use Rattle.clause_translation.specs.declared.Mode.{Mode}
-use Rattle.clause_translation.specs.Translation.{pairs-at, mode-formals, sort-name, function-name}
+use Rattle.clause_pairs.specs.Pairs.{pairs-at}
+use Rattle.clause_translation.specs.Translation.{mode-formals, sort-name, function-name}
 use Rattle.clause_checks.specs.Searches.{function-called, like}
 use Rattle.clause_checks.specs.SortOrigins.{origin-among}
 use Rattle.clause_fitting.specs.Unpaired.{formal-called}

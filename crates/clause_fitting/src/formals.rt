@@ -18,7 +18,8 @@ ghost use Rattle.text_names.specs.Joint.{joint};
 ghost use Rattle.form_rows.specs.Rows.{item-of, row-at, row-size};
 ghost use Rattle.form.specs.Memory.{part};
 ghost use Rattle.form.specs.Forms.{items-at};
-ghost use Rattle.clause_translation.specs.Translation.{pairs-at, mode-formals};
+ghost use Rattle.clause_pairs.specs.Pairs.{pairs-at};
+ghost use Rattle.clause_translation.specs.Translation.{mode-formals};
 ghost use Rattle.clause_checks.specs.Pairs.{found};
 ghost use Rattle.clause_fitting.specs.Unpaired.{formal-called, is-unpaired, unpaired-from};
 

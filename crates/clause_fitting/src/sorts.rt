@@ -18,7 +18,7 @@ ghost use Rattle.text_names.specs.Joint.{joint};
 ghost use Rattle.form_rows.specs.Rows.{sort-of, type-of};
 ghost use Rattle.form.specs.Memory.{part};
 ghost use Rattle.form.specs.Forms.{items-at};
-ghost use Rattle.clause_translation.specs.Translation.{pairs-at};
+ghost use Rattle.clause_pairs.specs.Pairs.{pairs-at};
 ghost use Rattle.clause_checks.specs.Walks.{inputs-pass};
 ghost use Rattle.clause_fitting.specs.Fits.{one-origin, sort-fits, sorts-fit};
 

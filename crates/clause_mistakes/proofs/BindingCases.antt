@@ -24,7 +24,8 @@ use Rattle.form.specs.declared.Verdict.the-variants.{Fine, Stop}
 use Rattle.form.specs.Forms.{items-at, visible-at}
 use Rattle.form.specs.Verdicts.{culprit-of, told}
 use Rattle.clause_translation.specs.declared.Mode.{Mode}
-use Rattle.clause_translation.specs.Translation.{pairs-at, formals-at, mode-formals}
+use Rattle.clause_pairs.specs.Pairs.{pairs-at}
+use Rattle.clause_translation.specs.Translation.{formals-at, mode-formals}
 use Rattle.clause_checks.specs.Pairs.{pair-count, given, pair-at}
 use Rattle.clause_checks.specs.PairWalks.{Walking, walk-start, walk-end, walk-here, walk-again}
 use Rattle.form_walks.specs.Lists.{any-keep}

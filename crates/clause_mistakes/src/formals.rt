@@ -14,7 +14,8 @@ ghost use Rattle.meaning.specs.Clauses.{unpaired};
 ghost use Rattle.text_names.specs.Joint.{joint};
 ghost use Rattle.form.specs.Memory.{part};
 ghost use Rattle.form.specs.Verdicts.{told};
-ghost use Rattle.clause_translation.specs.Translation.{pairs-at, mode-formals};
+ghost use Rattle.clause_pairs.specs.Pairs.{pairs-at};
+ghost use Rattle.clause_translation.specs.Translation.{mode-formals};
 
 // 27: the least formal name without a pair.
 pub fn unpaired(library: &[u8], text: &[u8], work: &[u32], t: usize, m: Mode) -> Verdict

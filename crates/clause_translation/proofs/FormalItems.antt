@@ -11,8 +11,8 @@ use Rattle.meaning.specs.Origins.{same-section, Shape, same-shape, is-sort, Ite
 use Rattle.meaning.specs.Normal.{sorts-among, is-called}
 use Rattle.meaning.specs.Clauses.{is-formal-sort}
 use Rattle.text_names.specs.Word.{name-of}
-use Rattle.form_rows.specs.declared.Section.{Section}
-use Rattle.form_rows.specs.declared.Section.the-variants.{Export, Hidden, Parameter}
+use Rattle.form_sections.specs.declared.Section.{Section}
+use Rattle.form_sections.specs.declared.Section.the-variants.{Export, Hidden, Parameter}
 use Rattle.form_rows.specs.declared.Row.{Row}
 use Rattle.form_rows.specs.Rows.{section-of, shape-of, item-of, row-at, row-size}
 use Rattle.form.specs.Forms.{items-at}

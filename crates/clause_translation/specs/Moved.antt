@@ -12,10 +12,10 @@ use Rattle.meaning.specs.Normal.{is-called, move-type}
 use Rattle.meaning.specs.Clauses.{renaming}
 use Rattle.text_names.specs.Word.{name-of}
 use Rattle.form_rows.specs.declared.Row.{Row}
-use Rattle.form_rows.specs.Entries.{word-at}
 use Rattle.form_rows.specs.Rows.{item-of, type-of}
+use Rattle.clause_pairs.specs.Pairs.{pairs-at}
 use Rattle.clause_translation.specs.declared.Mode.{Mode}
-use Rattle.clause_translation.specs.Translation.{pairs-at, mode-formals, sort-name, function-name, moved-in}
+use Rattle.clause_translation.specs.Translation.{mode-formals, sort-name, function-name, moved-in}
 
 -- ---- formal items
 
@@ -32,16 +32,6 @@ unfoldable pub is-formal-function : List Item → Name → Shape → Bool
 is-formal-function formal f s = any (λ (i : Item). is-called f i && same-shape s (i .shape)) formal
 
 -- ---- new names
-
--- r is the name's word at place i of the tape. The word of a sort is twice its name's, and fits
-pub record SmallWord (tape : List ℕ) (i r : ℕ) : Type 0 where
-  pub word : r ≡ word-at tape i
-  pub small : r < 2 ^ 31
-
--- r is what the pairs make of the name's word w
-pub record Renamed (text tape : List ℕ) (pairs w r : ℕ) : Type 0 where
-  pub name : name-of text r ≡ renaming (pairs-at text tape pairs) (name-of text w)
-  pub small : w < 2 ^ 31 → r < 2 ^ 31
 
 module _ (text tape w : List ℕ) (m : Mode) where
   -- what becomes of a name by its shape, as of a function's by its type

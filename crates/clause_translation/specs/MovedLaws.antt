@@ -12,8 +12,9 @@ use Rattle.meaning.specs.Normal.{move-sort, move-type, move-shape, move-name, m
 use Rattle.meaning.specs.Clauses.{renaming, is-formal-sort, new-sort, new-function}
 use Rattle.text_names.specs.Word.{name-of}
 use Rattle.form.specs.Forms.{items-at}
+use Rattle.clause_pairs.specs.Pairs.{pairs-at}
 use Rattle.clause_translation.specs.declared.Mode.{Mode}
-use Rattle.clause_translation.specs.Translation.{pairs-at, formals-at, mode-formals, sort-name, function-name, moved, moved-hidden, moved-in}
+use Rattle.clause_translation.specs.Translation.{formals-at, mode-formals, sort-name, function-name, moved, moved-hidden, moved-in}
 
 -- ---- new names that are the old ones
 

@@ -2,11 +2,11 @@
 use super::Mode;
 use form_comparing::sorts::same_shape;
 use form_rows::Row;
-use form_rows::Section;
 use form_rows::entries::same_word;
 use form_rows::kinds;
 use form_rows::rows::read_row;
 use form_rows::sections::same_section;
+use form_sections::Section;
 ghost use mathlib.Core.Path.{_≡_};
 ghost use Prim.Native.Nat.{_≤_};
 ghost use lib.ListN.{length};

@@ -1,7 +1,6 @@
 // Rows of items under new names: what a renaming, a binding or a mere import makes of a row.
 pub mod formals;
 pub mod modes;
-pub mod pairs;
 pub mod rows;
 
 // How a row is translated, by one of the `modes`: pairs stand on the tape from `pairs` on, and the items to be bound, of the parameter, in a table

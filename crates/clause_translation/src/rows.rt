@@ -3,7 +3,7 @@ use super::Mode;
 use super::formals::is_formal_function;
 use super::formals::is_formal_sort;
 use super::modes;
-use super::pairs::renaming_word;
+use clause_pairs::renaming_word;
 use form_rows::Row;
 use form_rows::kinds;
 ghost use mathlib.Core.Path.{_≡_};

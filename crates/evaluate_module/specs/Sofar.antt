@@ -5,7 +5,7 @@ use lib.ListN.{length, getD}
 use Rattle.meaning.specs.Numbers.{module-limit, parameter-room}
 use Rattle.meaning.specs.OrderLaws.{Every}
 use Rattle.meaning.specs.Syntax.{Module}
-use Rattle.meaning.specs.Distinct.{Fresh}
+use Rattle.laws.specs.Distinct.{Fresh}
 use Rattle.meaning.specs.Evaluate.{Evaluated}
 use Rattle.meaning.specs.Reached.{total-of}
 use Rattle.invariants.specs.Limits.{Limited}

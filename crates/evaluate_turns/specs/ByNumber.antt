@@ -10,7 +10,7 @@ use Rattle.meaning.specs.Names.{Name, same}
 use Rattle.meaning.specs.OrderLaws.{Every, every-middle}
 use Rattle.meaning.specs.Syntax.{Module}
 use Rattle.meaning.specs.Reached.{module-names}
-use Rattle.meaning.specs.Distinct.{Fresh}
+use Rattle.laws.specs.Distinct.{Fresh}
 use Rattle.tape.specs.Tape.{flat-module, flat-modules, spelled, entries}
 use Rattle.form_rows.specs.Entries.{name-at}
 use Rattle.modules.specs.declared.Heads.{Heads}

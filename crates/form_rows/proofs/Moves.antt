@@ -9,10 +9,11 @@ use lib.ListN.{length, getD, set, drop, length-set, drop-of-length-le}
 use lib.Seq.{sets, sets-eq, drop-cons}
 use mir.Syntax.{w64}
 use mir.Val.{Fits}
-use Rattle.form_rows.specs.Rows.{word-section, section-word, words-from, row-at, row-words, row-size}
+use Rattle.form_sections.specs.declared.Section.{Section}
+use Rattle.form_sections.specs.Sections.{section-word, word-section}
+use Rattle.form_rows.specs.Rows.{words-from, row-at, row-words, row-size}
 use Rattle.form_rows.specs.RowLaws.{length-words}
 use Rattle.form_rows.specs.Kinds.{read-origin, origin-words}
-use Rattle.form_rows.specs.declared.Section.{Section}
 use Rattle.form_rows.specs.declared.Origin.{Origin}
 use Rattle.form_rows.specs.declared.Row.{Row}
 

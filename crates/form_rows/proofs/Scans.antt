@@ -15,11 +15,11 @@ use Rattle.meaning.specs.Names.{same}
 use Rattle.meaning.specs.OrderLaws.{same-self}
 use Rattle.text_names.specs.Word.{name-of}
 use Rattle.tape.specs.Tape.{module-role, parameter-role, input-role, variable-role, variable-sort}
+use Rattle.form_sections.specs.declared.Section.{Section}
+use Rattle.form_sections.specs.declared.Section.the-variants.{Export, Hidden, Parameter}
 use Rattle.form_rows.specs.Entries.{role-at, word-at, name-at, last-with, next-with, inputs-from, is-function-role, is-parameter-role, is-export-role, arity-at, sort-place, home-at, section-at, origin-at}
 use Rattle.form_rows.specs.RowLaws.{inputs-short}
 use Rattle.form_rows.specs.Kinds.{kind-at}
-use Rattle.form_rows.specs.declared.Section.{Section}
-use Rattle.form_rows.specs.declared.Section.the-variants.{Export, Hidden, Parameter}
 use Rattle.form_rows.specs.declared.Origin.{Origin}
 
 pub past-end : (t : List ℕ) (i : ℕ) → length t ≤ i → 0 ≡ getD t i 0

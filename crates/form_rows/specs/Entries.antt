@@ -11,8 +11,8 @@ use Rattle.meaning.specs.Numbers.{argument-limit}
 use Rattle.meaning.specs.Origins.{Declared, declared-sort, declared-function, declared-variable}
 use Rattle.text_names.specs.Word.{name-of}
 use Rattle.tape.specs.Tape.{module-role, parameter-role, parameter-sort, parameter-function, export-sort, export-function, hidden-function, input-role, variable-role, variable-sort}
-use Rattle.form_rows.specs.declared.Section.{Section}
-use Rattle.form_rows.specs.declared.Section.the-variants.{Export, Hidden, Parameter}
+use Rattle.form_sections.specs.declared.Section.{Section}
+use Rattle.form_sections.specs.declared.Section.the-variants.{Export, Hidden, Parameter}
 use Rattle.form_rows.specs.declared.Origin.{Origin}
 
 abbrev pub role-at : List ℕ → ℕ → ℕ

@@ -7,8 +7,9 @@ use lib.ListN.{getD}
 use Rattle.meaning.specs.Lists.{pick}
 use Rattle.meaning.specs.Origins.{Declared, declared-sort, declared-function, declared-variable, same-section, same-shape, same-origin}
 use Rattle.tape.specs.Tape.{variable-role}
+use Rattle.form_sections.specs.Sections.{section-word, word-section}
 use Rattle.form_rows.specs.Entries.{role-at, name-at, names-from, is-function-role, arity-at, sort-place}
-use Rattle.form_rows.specs.Rows.{section-of, shape-of, origin-of, word-section, section-word}
+use Rattle.form_rows.specs.Rows.{section-of, shape-of, origin-of}
 use Rattle.form_rows.specs.declared.Origin.{Origin}
 use Rattle.form_rows.specs.declared.Row.{Row}
 

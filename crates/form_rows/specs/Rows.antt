@@ -2,14 +2,15 @@
 -- something, so nothing has to be known of the memory.
 use Prim.Native.Nat.{ℕ, zero, suc, _+_, _-_, _/_, _%_}
 use mathlib.Core.List.{List, [], _∷_, map}
-use lib.Dec.{eqb, ltb}
+use lib.Dec.{eqb}
 use lib.ListN.{getD, take}
 use Rattle.meaning.specs.Lists.{pick}
 use Rattle.meaning.specs.Origins as meant
 use Rattle.meaning.specs.Origins.{Sort, visible-sort, FunctionType, Shape, sort-shape, function-shape, variable-shape, Item}
 use Rattle.text_names.specs.Word.{name-of}
-use Rattle.form_rows.specs.declared.Section.{Section}
-use Rattle.form_rows.specs.declared.Section.the-variants.{Export, Hidden, Parameter}
+use Rattle.form_sections.specs.declared.Section.{Section}
+use Rattle.form_sections.specs.declared.Section.the-variants.{Export, Hidden, Parameter}
+use Rattle.form_sections.specs.Sections.{section-word, word-section}
 use Rattle.form_rows.specs.declared.Origin.{Origin}
 use Rattle.form_rows.specs.declared.Row.{Row}
 use Rattle.form_rows.specs.Entries.{name-at, declared-at, home-at}
@@ -27,15 +28,6 @@ origin-of text tape o = record {
   section = section-of text (o .section);
   declared = declared-at text tape (o .place);
 }
-
--- a section as one word: 0, 1, and a parameter's name from 2 up
-unfoldable pub section-word : Section → ℕ
-section-word Export = 0
-section-word Hidden = 1
-section-word (Parameter p) = pick (ltb p 4294967294) (p + 2) 1
-
-unfoldable pub word-section : ℕ → Section
-word-section w = pick (eqb w 0) Export (pick (eqb w 1) Hidden (Parameter (w - 2)))
 
 -- ---- sorts: a visible one is twice its name's word; a hidden one is twice the place of its declaration, and one more
 

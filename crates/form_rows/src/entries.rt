@@ -1,7 +1,7 @@
 // Words of a memory, and what the tape says at a place: roles, names, and where a declaration is from.
 use super::Origin;
-use super::Section;
 use super::kinds;
+use form_sections::Section;
 use meaning::numbers;
 use tape::roles;
 use text_names::joint::same_name;

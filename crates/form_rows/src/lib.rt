@@ -1,15 +1,10 @@
 // Items, origins and sorts as words of the working memory: rows moved in and out as structs by value, and the tests on them.
+use form_sections::Section;
+
 pub mod entries;
 pub mod kinds;
 pub mod rows;
 pub mod sections;
-
-// Where an item is declared, and where it stands. A parameter carries its name's word.
-pub enum Section {
-    Export,
-    Hidden,
-    Parameter(u32),
-}
 
 // The home module's name, the section, and the place on the tape of the declaration.
 pub struct Origin {

@@ -1,34 +1,10 @@
-// Sections: as words, and which are one.
-use super::Section;
+// Which sections are one.
 use super::entries::same_word;
+use form_sections::Section;
 ghost use mathlib.Core.Path.{_≡_};
 ghost use Rattle.meaning.specs.Origins.{same-section};
 ghost use Rattle.text_names.specs.Joint.{joint};
-ghost use Rattle.form_rows.specs.Rows.{section-of, section-word, word-section};
-
-// A section as one word.
-pub fn section_word(s: Section) -> u32
-    ensures { λ r. ⌜ r ≡ section-word s ⌝ }
-{
-    match s {
-        Section::Export => 0,
-        Section::Hidden => 1,
-        Section::Parameter(p) => { if p < 4294967294 { p + 2 } else { 1 } }
-    }
-}
-
-// The section that a word stands for.
-pub fn word_section(w: u32) -> Section
-    ensures { λ r. ⌜ r ≡ word-section w ⌝ }
-{
-    if w == 0 {
-        return Section::Export;
-    }
-    if w == 1 {
-        return Section::Hidden;
-    }
-    Section::Parameter(w - 2)
-}
+ghost use Rattle.form_rows.specs.Rows.{section-of};
 
 // Are a and b one section? Of two parameters the names decide.
 pub fn same_section(library: &[u8], text: &[u8], a: Section, b: Section) -> bool

@@ -30,7 +30,7 @@ use Rattle.form.specs.FormLaws.{kept-all}
 use Rattle.form.specs.Blocks.{BlockLaid, Outside, Fits, Makes, MadeThere, MadeIn}
 use Rattle.form.specs.Verdicts.{culprit-of}
 use Rattle.form_frames.specs.Changes.{onward, wider, tape-kept}
-use Rattle.clause_translation.specs.Translation.{pairs-at}
+use Rattle.clause_pairs.specs.Pairs.{pairs-at}
 use Rattle.modules.specs.declared.Heads.{Heads}
 use Rattle.modules.specs.Modules.{declared}
 use Rattle.modules.specs.Modules.{names-of as names-of-places}

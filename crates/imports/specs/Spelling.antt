@@ -15,7 +15,7 @@ use Rattle.tape.specs.Roles.{All, all-append}
 use Rattle.tape.specs.Tape.{Entry, entry, flat-pair, flat-clause, flat-import, import-role, renamed-role, bound-role, old-role, actual-role}
 use Rattle.form_rows.specs.Entries.{role-at, name-at}
 use Rattle.own_declarations.specs.Spelled.{Spells, spells-front, spells-behind}
-use Rattle.clause_translation.specs.Translation.{pairs-from}
+use Rattle.clause_pairs.specs.Pairs.{pairs-from}
 
 -- ---- runs of entries: those of a clause behind its first have roles from 14 up to 16, those of an import expression from 12
 

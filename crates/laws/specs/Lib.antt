@@ -5,4 +5,5 @@ pub mod Walk
 pub mod TypingWalk
 pub mod Piecewise
 pub mod Reading
+pub mod Distinct
 pub mod Decides

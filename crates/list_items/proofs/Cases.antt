@@ -12,10 +12,10 @@ use Rattle.meaning.specs.Names.{bytes}
 use Rattle.meaning.specs.Written.{between-marks, type-text, section-text, declared-text}
 use Rattle.text_names.specs.Word.{name-of}
 use Rattle.tape.specs.Tape.{variable-role}
+use Rattle.form_sections.specs.declared.Section.{Section}
+use Rattle.form_sections.specs.declared.Section.the-variants.{Export, Hidden, Parameter}
 use Rattle.form_rows.specs.Entries.{role-at, name-at, word-at, names-from, is-function-role, arity-at, sort-place, declared-at}
 use Rattle.form_rows.specs.Rows.{section-of}
-use Rattle.form_rows.specs.declared.Section.{Section}
-use Rattle.form_rows.specs.declared.Section.the-variants.{Export, Hidden, Parameter}
 use Rattle.list_pen.specs.Pen.{Pen, pen, written, rows-text, rows-texts}
 use Rattle.list_pen.proofs.Laws.{then}
 use Rattle.list_pen.proofs.Rows.{rows-start, rows-again, rows-end, rows-between}

@@ -3,9 +3,9 @@ use Prim.Native.Nat.{ℕ, _+_}
 use mathlib.Core.List.{List, _++_}
 use Rattle.meaning.specs.Names.{bytes}
 use Rattle.meaning.specs.Written.{type-text, section-text, declared-text}
+use Rattle.form_sections.specs.declared.Section.{Section}
 use Rattle.form_rows.specs.Entries.{name-at, names-from, arity-at, sort-place, declared-at}
 use Rattle.form_rows.specs.Rows.{section-of}
-use Rattle.form_rows.specs.declared.Section.{Section}
 
 -- the name at place i, after a mark
 unfoldable pub marked-name : List ℕ → List ℕ → ℕ → List ℕ

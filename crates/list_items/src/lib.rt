@@ -1,11 +1,11 @@
 // Origins and declarations written to lent output, as document 01's listing has them. What is declared stands on the tape.
 use form_rows::Origin;
-use form_rows::Section;
 use form_rows::entries::arity_at;
 use form_rows::entries::is_function_role;
 use form_rows::entries::name_at;
 use form_rows::entries::role_at;
 use form_rows::entries::sort_place;
+use form_sections::Section;
 use tape::roles;
 ghost use mathlib.Core.Path.{_≡_};
 ghost use mathlib.Core.List.{_++_};

@@ -11,7 +11,7 @@ use Rattle.form_rows.specs.Rows.{row-size}
 use Rattle.form.specs.Memory.{part}
 use Rattle.form.specs.Forms.{items-at, equation-size, slot-size}
 use Rattle.form.specs.declared.Form.{Form}
-use Rattle.unite_equations.specs.Joined.{copied}
+use Rattle.unite_nodes.specs.Joined.{copied}
 use Rattle.form_frames.specs.Changes.{apart-in}
 use Rattle.form_order.specs.Order.{NamesApart}
 use Rattle.list_order.specs.declared.Table.the-variants.{Visible, Sorts, Hidden, Equations}

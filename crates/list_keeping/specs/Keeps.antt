@@ -28,10 +28,10 @@ use Rattle.form_frames.specs.Changes.{wider, apart-in, at-first, onward-two, wi
 use Rattle.form_order.specs.Order.{upto}
 use Rattle.form_order.specs.Sorting.{placed-alike, every-weaker, below-upto}
 use Rattle.form_order.specs.Ordered.{row-item, map-more}
-use Rattle.unite_equations.specs.Joined.{renode}
-use Rattle.unite_equations.specs.Grown.{copy-kept}
-use Rattle.unite_equations.specs.Copies.{Steady, word-copied}
-use Rattle.unite_equations.specs.Pointed.{renode-stays}
+use Rattle.unite_nodes.specs.Joined.{renode}
+use Rattle.unite_nodes.specs.Grown.{copy-kept}
+use Rattle.unite_nodes.specs.Copies.{Steady, word-copied}
+use Rattle.unite_nodes.specs.Pointed.{renode-stays}
 use Rattle.list_terms.specs.Terms.{equation-at}
 use Rattle.list_order.specs.declared.Table.{Table}
 use Rattle.list_order.specs.declared.Table.the-variants.{Equations}

@@ -22,7 +22,7 @@ use Rattle.form_frames.specs.Changes.{apart-in, at-first, at-second, onward-two
 use Rattle.form_order.specs.Order.{PutInOrder}
 use Rattle.form_order.specs.Sorting.{below-order, every-word}
 use Rattle.form_order.specs.Ordered.{row-item, ordered-slots}
-use Rattle.unite_equations.specs.Joined.{copied}
+use Rattle.unite_nodes.specs.Joined.{copied}
 use Rattle.list_order.specs.declared.Table.{Table}
 use Rattle.list_order.specs.declared.Table.the-variants.{Visible, Sorts, Hidden, Equations}
 use Rattle.list_order.specs.Orders.{is-listed}

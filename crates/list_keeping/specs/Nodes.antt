@@ -18,9 +18,9 @@ use Rattle.form.specs.Memory.{part}
 use Rattle.form.specs.Forms.{items-at, node-of, node-in, nodes-of, node-item, EquationStands, HiddenPoint, Pointing}
 use Rattle.form.specs.Frames.{run-word, Points, points-at, each-points}
 use Rattle.form_order.specs.Ordered.{row-item}
-use Rattle.unite_equations.specs.Joined.{renode}
-use Rattle.unite_equations.specs.Found.{item-visible, item-hidden, Goes, node-goes, points-go}
-use Rattle.unite_equations.specs.Copies.{map-two}
+use Rattle.unite_nodes.specs.Joined.{renode}
+use Rattle.unite_nodes.specs.Found.{item-visible, item-hidden, Goes, node-goes, points-go}
+use Rattle.unite_nodes.specs.Copies.{map-two}
 use Rattle.list_terms.specs.Terms.{equation-at}
 use Rattle.list_terms.specs.Meant.{Told, equation-meant}
 use Rattle.list_terms.specs.Pointed.{alike, visible-told, function-told, variable-told}

@@ -9,7 +9,7 @@ use list_order::Table;
 use list_order::copying::copy_rows;
 use list_order::copying::put_table;
 use list_order::copying::sort_rows;
-use unite_equations::nodes::copy_nodes;
+use unite_nodes::copy_nodes;
 ghost use mathlib.Core.Path.{_≡_};
 ghost use Prim.Native.Nat.{_+_, _*_, _≤_, _<_};
 ghost use lib.ListN.{length};

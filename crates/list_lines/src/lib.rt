@@ -3,7 +3,7 @@ use form_rows::Origin;
 use form_rows::Row;
 use form_rows::kinds;
 use list_items::put_origin;
-use list_terms::sorts::put_shape;
+use list_types::put_shape;
 ghost use mathlib.Core.Path.{_≡_};
 ghost use mathlib.Core.List.{[]};
 ghost use Prim.Native.Nat.{_^_, _<_};

@@ -15,8 +15,8 @@ use Rattle.meaning.specs.Written.{origin-text, shape-text, shape-rank, standing
 use Rattle.meaning.specs.ListingOrder.{place-order}
 use Rattle.text_names.specs.Word.{name-of, no-name}
 use Rattle.text_runs.specs.Orders.{compared, bytes-compared}
-use Rattle.form_rows.specs.declared.Section.{Section}
-use Rattle.form_rows.specs.declared.Section.the-variants as section
+use Rattle.form_sections.specs.declared.Section.{Section}
+use Rattle.form_sections.specs.declared.Section.the-variants as section
 use Rattle.form_rows.specs.declared.Row.{Row}
 use Rattle.form_rows.specs.Rows.{section-of, origin-of, type-of, sort-of, shape-of, item-of, row-at, row-size}
 use Rattle.form.specs.declared.EquationRow.{EquationRow}

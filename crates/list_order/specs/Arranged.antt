@@ -15,7 +15,8 @@ use Rattle.meaning.specs.Origins.{is-sort, sort-shape, function-shape, variable
 use Rattle.meaning.specs.Normal.{sorts-among}
 use Rattle.meaning.specs.Written.{origin-text, visible-order, hidden-order}
 use Rattle.meaning.specs.OrderLaws.{sorted-map, sorted-length, sorted-rearranged, rearranged-member}
-use Rattle.form_rows.specs.Rows.{word-section, words-from, sort-of, type-of, shape-of, row-at, item-of, row-size}
+use Rattle.form_sections.specs.Sections.{word-section}
+use Rattle.form_rows.specs.Rows.{words-from, sort-of, type-of, shape-of, row-at, item-of, row-size}
 use Rattle.form.specs.Memory.{part}
 use Rattle.form.specs.Forms.{items-at}
 use Rattle.form.specs.FormLaws.{items-same, length-items}

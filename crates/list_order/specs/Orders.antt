@@ -10,9 +10,9 @@ use Rattle.meaning.specs.Origins.{Item}
 use Rattle.meaning.specs.Written.{origin-text, shape-text, shape-rank, visible-order, hidden-order}
 use Rattle.meaning.specs.OrderLaws.{IsOrder, order-of, bytes-ordered}
 use Rattle.meaning.specs.ListingOrder.{visible-ordered, hidden-ordered, Place, place-order, place-ordered}
+use Rattle.form_sections.specs.declared.Section.{Section}
+use Rattle.form_sections.specs.declared.Section.the-variants as section
 use Rattle.form_rows.specs.Rows.{row-size}
-use Rattle.form_rows.specs.declared.Section.{Section}
-use Rattle.form_rows.specs.declared.Section.the-variants as section
 use Rattle.form.specs.declared.EquationRow.{EquationRow}
 use Rattle.form.specs.Forms.{items-at, equation-row-at, equation-size}
 use Rattle.form_order.specs.Ordered.{row-item}

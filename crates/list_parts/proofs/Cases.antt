@@ -11,8 +11,8 @@ use Rattle.meaning.specs.Names.{bytes}
 use Rattle.meaning.specs.Origins.{same-section}
 use Rattle.meaning.specs.Written.{numbered}
 use Rattle.text_names.specs.Word.{name-of}
-use Rattle.form_rows.specs.declared.Section.{Section}
-use Rattle.form_rows.specs.declared.Section.the-variants.{Export, Parameter}
+use Rattle.form_sections.specs.declared.Section.{Section}
+use Rattle.form_sections.specs.declared.Section.the-variants.{Export, Parameter}
 use Rattle.form_rows.specs.declared.Row.{Row}
 use Rattle.form_rows.specs.Rows.{section-of, item-of, row-at, row-size}
 use Rattle.form.specs.declared.Form.{Form}

@@ -2,10 +2,10 @@
 use form::Form;
 use form::SLOT_STEP;
 use form::equations::read_equation;
-use form_rows::Section;
 use form_rows::entries::word_at;
 use form_rows::rows::read_row;
 use form_rows::sections::same_section;
+use form_sections::Section;
 use list_lines::put_hidden_item;
 use list_lines::put_line;
 use list_lines::put_visible_item;

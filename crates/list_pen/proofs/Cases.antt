@@ -7,42 +7,16 @@ use native.Mathlib.Numerals.{sub-one, add-one}
 use native.Mathlib.Omega.{arith}
 use borrow.Author.Needs.{needs}
 use borrow.Author.Tests.{lt-ltb, le-ltb}
-use lib.ListN.{length, set, getD, take, drop, drop-of-length-le, length-drop}
-use lib.Seq.{set-out, drop-cons, take-nil, take-length, take-all, drop-append-le, drop-append-add, take-append-le, take-append-add}
+use lib.ListN.{length, getD, take, drop, drop-of-length-le, length-drop}
+use lib.Seq.{drop-cons, take-nil, take-length, take-all, drop-append-le, drop-append-add, take-append-le, take-append-add}
 use Rattle.meaning.specs.Lists.{pick}
 use Rattle.meaning.specs.Written.{digits, decimal}
 use Rattle.meaning.specs.Names.{bytes}
 use Rattle.meaning.specs.Numbers.{name-size}
 use Rattle.text_names.specs.Word.{token-of, name-of, leading, trailing, name-parts}
 use Rattle.text_names.specs.Joint.{joint}
-use Rattle.list_pen.specs.Pen.{Pen, pen, places-before, shown, written, part}
-use Rattle.list_pen.proofs.Laws.{shown-in, shown-before, mark-on, mark-off, written-append, then}
-
-module _ (l n : ℕ) where
-  pub places-left : n < l → l - n - 1 ≡ l - (n + 1)
-  places-left h = omega arith
-
-  pub no-places : l ≤ n → 0 ≡ l - (n + 1)
-  no-places h = omega arith
-
-module _ (s at b : ℕ) (o : List ℕ) where
-  pub show-in : s ≤ at → set o (at - s) b ≡ shown s at b o
-  show-in h = sym (shown-in s at b o h)
-
-  pub show-past : s ≤ at → length o ≤ at - s → o ≡ shown s at b o
-  show-past h k = sym (set-out o (at - s) b k) ∙ show-in h
-
-  pub show-before : at < s → o ≡ shown s at b o
-  show-before h = sym (shown-before s at b o h)
-
-module _ (l : ℕ) (b at : ℕ) (o : List ℕ) where
-  pub put-in : (s : ℕ) (o′ : List ℕ) → at < l → s ≡ l - (length o + 1) → o′ ≡ shown s at b o → pen (at + 1) o′ ≡ written l (b ∷ []) (pen at o)
-  unfolding written places-before
-  put-in s o′ h e f = ap (pen (at + 1)) (f ∙ ap (λ (k : ℕ). shown k at b o) e) ∙ sym (mark-on l b (pen at o) h)
-
-  pub put-full : l ≤ at → pen at o ≡ written l (b ∷ []) (pen at o)
-  unfolding written
-  put-full h = sym (mark-off l b (pen at o) h)
+use Rattle.list_pen.specs.Pen.{Pen, pen, written, part}
+use Rattle.list_pen.proofs.Laws.{written-append, then}
 
 -- a loop that copies the text's bytes from `start`, `size` of them: it is at i with n left, the next place is t, the list is o
 pub record Copying (l : ℕ) (s : List ℕ) (start size at : ℕ) (o₀ : List ℕ) (i n t : ℕ) (o : List ℕ) : Type 0 where
@@ -136,5 +110,5 @@ pub number-done : (l n : ℕ) (p q : Pen) → q ≡ written l (digits 10 n) p �
 unfolding decimal
 number-done l n p q e = e
 
--- what the answers of this crate hand to `search`
-pub ruleset cases = (places-left, no-places, show-in, show-past, show-before, put-in, put-full, copy-start, copy-again, copy-end, copy-past, digits-none, digits-one, digits-more, text-done, token-left, token-over, token-right, name-done, number-done, needs)
+-- what the answers of this crate hand to `search`, but for those of digits and of tokens
+pub ruleset cases = (copy-start, copy-again, copy-end, copy-past, text-done, name-done, number-done, needs)

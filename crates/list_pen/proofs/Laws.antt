@@ -5,13 +5,12 @@ use lib.Dec.{ltb}
 use mathlib.Core.List.{List, [], _∷_, _++_}
 use Prim.Native.Nat.{ℕ, suc, _+_, _-_, _<_, _≤_, min}
 use native.Mathlib.Omega.{arith}
-use native.Mathlib.Numerals.{add-one}
 use native.Mathlib.Nat.{add-zero, zero-add}
-use borrow.Author.Tests.{lt-ltb, le-ltb, ltb-true, ltb-false}
+use borrow.Author.Tests.{ltb-true, ltb-false}
 use lib.ListN.{length, set, take, drop, length-set, length-take, length-drop, drop-of-length-le}
 use lib.Seq.{sets, sets-eq, set-out, take-nil, take-add, take-take, take-at, length-take-le}
-use Rattle.meaning.specs.Lists.{pick}
-use Rattle.list_pen.specs.Pen.{Pen, pen, places-before, shown, mark, written}
+use Rattle.list_window.specs.Pen.{Pen, pen, places-before, shown, mark, written}
+use Rattle.list_window.proofs.Laws.{shown-in, shown-before, mark-on, mark-off}
 
 -- either a is below b, or not
 by-order : {A : Type 0} (a b : ℕ) → (a < b → A) → (b ≤ a → A) → A
@@ -21,28 +20,12 @@ by-order {A} a b f g = go (ltb a b) refl
     go true e = f (ltb-true a b e)
     go false e = g (ltb-false a b e)
 
--- a byte through a window
-module _ (s at b : ℕ) (o : List ℕ) where
-  pub shown-in : s ≤ at → shown s at b o ≡ set o (at - s) b
-  unfolding shown pick
-  shown-in h = rw (le-ltb at s h)
-
-  pub shown-before : at < s → shown s at b o ≡ o
-  unfolding shown pick
-  shown-before h = rw (lt-ltb at s h)
-
-  shown-kept : length (shown s at b o) ≡ length o
-  shown-kept = by-order at s (λ h. ap length (shown-before h)) (λ h. ap length (shown-in h) ∙ length-set o (at - s) b)
+-- a byte through a window leaves the list as long as it was
+shown-kept : (s at b : ℕ) (o : List ℕ) → length (shown s at b o) ≡ length o
+shown-kept s at b o =
+    by-order at s (λ h. ap length (shown-before s at b o h)) (λ h. ap length (shown-in s at b o h) ∙ length-set o (at - s) b)
 
 module _ (l : ℕ) where
-  pub mark-on : (b : ℕ) (p : Pen) → p .at < l → mark l b p ≡ pen (p .at + 1) (shown (places-before l (p .out)) (p .at) b (p .out))
-  unfolding mark pick
-  mark-on b p h = rw (lt-ltb (p .at) l h)
-
-  pub mark-off : (b : ℕ) (p : Pen) → l ≤ p .at → mark l b p ≡ p
-  unfolding mark pick
-  mark-off b p h = rw (le-ltb (p .at) l h)
-
   -- one text after another is both together
   pub written-append : (a b : List ℕ) (p : Pen) → written l (a ++ b) p ≡ written l b (written l a p)
   unfolding written
@@ -55,8 +38,8 @@ module _ (l : ℕ) where
 
   mark-kept : (b : ℕ) (p : Pen) → length (mark l b p .out) ≡ length (p .out)
   mark-kept b p = by-order (p .at) l
-      (λ h. ap (λ (q : Pen). length (q .out)) (mark-on b p h) ∙ shown-kept (places-before l (p .out)) (p .at) b (p .out))
-      (λ h. ap (λ (q : Pen). length (q .out)) (mark-off b p h))
+      (λ h. ap (λ (q : Pen). length (q .out)) (mark-on l b p h) ∙ shown-kept (places-before l (p .out)) (p .at) b (p .out))
+      (λ h. ap (λ (q : Pen). length (q .out)) (mark-off l b p h))
 
   -- the list keeps its length
   pub written-kept : (bs : List ℕ) (p : Pen) → length (written l bs p .out) ≡ length (p .out)
@@ -68,7 +51,7 @@ module _ (l : ℕ) where
   written-full : (bs : List ℕ) (p : Pen) → l ≤ p .at → written l bs p ≡ p
   unfolding written
   written-full [] p h = refl
-  written-full (b ∷ bs) p h = ap (written l bs) (mark-off b p h) ∙ written-full bs p h
+  written-full (b ∷ bs) p h = ap (written l bs) (mark-off l b p h) ∙ written-full bs p h
 
   -- before the window the place moves
   pub written-before : (bs : List ℕ) (at : ℕ) (o : List ℕ) → at + length bs ≤ l - (length o + 1) → written l bs (pen at o) ≡ pen (at + length bs) o
@@ -77,7 +60,7 @@ module _ (l : ℕ) where
   written-before (b ∷ bs) at o h =
       let same : shown (places-before l o) at b o ≡ o = shown-before (places-before l o) at b o (omega arith) in
       let sum : at + 1 + length bs ≡ at + suc (length bs) = omega arith in
-      ap (written l bs) (mark-on b (pen at o) (omega arith) ∙ ap (pen (at + 1)) same) ∙ written-before bs (at + 1) o (omega arith)
+      ap (written l bs) (mark-on l b (pen at o) (omega arith) ∙ ap (pen (at + 1)) same) ∙ written-before bs (at + 1) o (omega arith)
       ∙ ap (λ (n : ℕ). pen n o) sum
 
   -- in it, up to the limit, the bytes are stored one after the other
@@ -89,7 +72,7 @@ module _ (l : ℕ) where
       let place : at - places-before l o ≡ i = omega arith in
       let stored : shown (places-before l o) at b o ≡ set o i b = shown-in (places-before l o) at b o (omega arith) ∙ ap (λ (n : ℕ). set o n b) place in
       let sum : at + 1 + length bs ≡ at + suc (length bs) = omega arith in
-      ap (written l bs) (mark-on b (pen at o) (omega arith) ∙ ap (pen (at + 1)) stored)
+      ap (written l bs) (mark-on l b (pen at o) (omega arith) ∙ ap (pen (at + 1)) stored)
       ∙ written-in bs (at + 1) (suc i) (set o i b) (omega (arith, length-set o i b)) (omega arith)
       ∙ ap (λ (n : ℕ). pen n (sets o i (b ∷ bs))) sum
 
@@ -98,7 +81,7 @@ module _ (l : ℕ) where
   unfolding written
   written-place [] at o h = sym (add-zero at)
   written-place (b ∷ bs) at o h =
-      ap (λ (p : Pen). written l bs p .at) (mark-on b (pen at o) (omega arith)) ∙ written-place bs (at + 1) _ (omega arith) ∙ omega arith
+      ap (λ (p : Pen). written l bs p .at) (mark-on l b (pen at o) (omega arith)) ∙ written-place bs (at + 1) _ (omega arith) ∙ omega arith
 
   -- beyond it the place stays there
   written-long : (bs : List ℕ) (at : ℕ) (o : List ℕ) → at ≤ l → l < at + length bs → written l bs (pen at o) .at ≡ l
@@ -106,7 +89,7 @@ module _ (l : ℕ) where
   written-long [] at o h k = absurd (omega arith)
   written-long (b ∷ bs) at o h k =
       by-order at l
-      (λ i. ap (λ (p : Pen). written l bs p .at) (mark-on b (pen at o) i) ∙ written-long bs (at + 1) _ (omega arith) (omega arith))
+      (λ i. ap (λ (p : Pen). written l bs p .at) (mark-on l b (pen at o) i) ∙ written-long bs (at + 1) _ (omega arith) (omega arith))
       (λ i. ap (λ (p : Pen). p .at) (written-full (b ∷ bs) (pen at o) i) ∙ omega arith)
 
   -- what would pass the limit may be left out
@@ -116,8 +99,8 @@ module _ (l : ℕ) where
   written-taken (b ∷ bs) at o =
       by-order at l
       (λ h. let left : l - at ≡ suc (l - (at + 1)) = omega arith in
-      rw left (ap (written l bs) (mark-on b (pen at o) h) ∙ written-taken bs (at + 1) _
-      ∙ ap (written l (take (l - (at + 1)) bs)) (sym (mark-on b (pen at o) h))))
+      rw left (ap (written l bs) (mark-on l b (pen at o) h) ∙ written-taken bs (at + 1) _
+      ∙ ap (written l (take (l - (at + 1)) bs)) (sym (mark-on l b (pen at o) h))))
       (λ h. written-full (b ∷ bs) (pen at o) h ∙ sym (written-full (take (l - at) (b ∷ bs)) (pen at o) h))
 
 -- What a count tells: k is the place that bytes reached from 0 on, where the limit was one more than n.

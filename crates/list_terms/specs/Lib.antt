@@ -1,4 +1,3 @@
-pub mod Sorts
 pub mod Terms
 pub mod Meant
 pub mod Pointed

@@ -1,6 +1,5 @@
-// Sorts, types, terms and equations written to lent output, as document 01's listing has them.
+// Terms and equations written to lent output, as document 01's listing has them.
 pub mod equations;
-pub mod sorts;
 pub mod terms;
 
 // Where the next byte goes, and the node that comes next.

@@ -13,8 +13,8 @@ use Rattle.meaning.specs.Written.{digits, decimal, between-marks, type-text, se
 use Rattle.meaning.specs.OrderLaws.{Every}
 use Rattle.text_names.specs.Word.{name-of, name-short}
 use Rattle.tape.specs.Tape.{variable-role}
-use Rattle.form_rows.specs.declared.Section.{Section}
-use Rattle.form_rows.specs.declared.Section.the-variants.{Export, Hidden, Parameter}
+use Rattle.form_sections.specs.declared.Section.{Section}
+use Rattle.form_sections.specs.declared.Section.the-variants.{Export, Hidden, Parameter}
 use Rattle.form_rows.specs.declared.Origin.{Origin}
 use Rattle.form_rows.specs.Entries.{role-at, name-at, names-from, inputs-from, is-function-role, arity-at, sort-place, declared-at}
 use Rattle.form_rows.specs.Rows.{section-of, origin-of, hidden-origin, sort-of, type-of, shape-of}

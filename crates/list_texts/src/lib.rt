@@ -4,7 +4,7 @@ use form::EquationRow;
 use form_rows::Row;
 use list_items::put_origin;
 use list_terms::equations::put_equation;
-use list_terms::sorts::put_shape;
+use list_types::put_shape;
 use text_names::compare_bytes;
 ghost use mathlib.Core.Path.{_≡_};
 ghost use Prim.Native.Nat.{_-_, _^_, _<_, _≤_, min};

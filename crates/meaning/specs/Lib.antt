@@ -22,8 +22,8 @@ pub mod Listing
 pub mod Answer
 pub mod Contract
 pub mod Reader
--- computed: the trials that are proved, and samples
-pub mod Trials
+-- opened as a whole, and samples computed
+pub mod Opened
 pub mod Samples
 -- proved of the definitions: choices, orders and outcomes, what is read, a binding's pairs, visible results from visible parts alone, one text
 pub mod Laws
@@ -32,7 +32,6 @@ pub mod OrderLaws
 pub mod ListingOrder
 pub mod OutcomeLaws
 pub mod TextsLaws
-pub mod Distinct
 pub mod PairLaws
 pub mod VisiblyLaws
 pub mod Base

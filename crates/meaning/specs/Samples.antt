@@ -13,7 +13,7 @@ use Rattle.meaning.specs.Checks.{lone}
 use Rattle.meaning.specs.Texts.{Texts, two-texts}
 use Rattle.meaning.specs.Answer.{Answer, listing, refusal, answer, asfnorm}
 use Rattle.meaning.specs.Reader.{a-line, at-end, refused-line, line-at}
-use Rattle.meaning.specs.Trials.{all-opened}
+use Rattle.meaning.specs.Opened.{all-opened}
 
 -- ---- the keywords' kinds are numbered in the order of their table
 
@@ -102,6 +102,13 @@ hidden-names :
     ≡ bytes "module=N\nsort=A\norigin=[B,export,sort,A]\nsort=S\norigin=[C,export,sort,S]\nhidden-sort={1}\norigin=[B,hidden,sort,S]\nhidden-sort={2}\norigin=[C,hidden,sort,A]\nend=N\n"
 unfolding all-opened
 hidden-names = refl
+
+-- a renaming takes its pairs at once: two names are exchanged
+names-exchanged :
+    listing (answer memory-size 99 (bytes "N") (two-texts [] (bytes "module B begin exports begin sorts A, B end end B module N begin imports B { renamed by [ A -> B, B -> A ] } end N")))
+    ≡ bytes "module=N\nsort=A\norigin=[B,export,sort,B]\nsort=B\norigin=[B,export,sort,A]\nend=N\n"
+unfolding all-opened
+names-exchanged = refl
 
 -- ---- the order of names
 

@@ -14,7 +14,7 @@ use Rattle.meaning.specs.OrderLaws.{same-self, same-equal}
 use Rattle.meaning.specs.Syntax.{Module}
 use Rattle.meaning.specs.Evaluate.{named-by, too-late, names-right}
 use Rattle.meaning.specs.Reached.{reached, module-names}
-use Rattle.meaning.specs.Distinct.{Fresh}
+use Rattle.laws.specs.Distinct.{Fresh}
 use Rattle.module_set.specs.ModuleSet.{nothing, added}
 use Rattle.modules.specs.declared.Heads.{Heads}
 use Rattle.modules.specs.Modules.{declared, named-in, named-set, gathered, reached-set}

@@ -1,4 +1,4 @@
--- Which names are members, by the number of the first that is the same; and the names of modules checked one by one.
+-- Which names are members, by the number of the first that is the same.
 use mathlib.Core.Path.{_≡_, refl, _∙_}
 use Prim.Native.Nat.{ℕ, zero, suc, _<_, _≤_}
 use native.Mathlib.Omega.{arith}
@@ -7,9 +7,6 @@ use mathlib.Core.List.{List, [], _∷_}
 use lib.ListN.{length, take}
 use Rattle.meaning.specs.Lists.{pick, any, before}
 use Rattle.meaning.specs.Names.{Name, same, member}
-use Rattle.meaning.specs.Numbers.{named-absent, named-late}
-use Rattle.meaning.specs.Checks.{lone, Check, fine, stop, _>>_}
-use Rattle.meaning.specs.Evaluate.{missing, too-late, names-right}
 use Rattle.form_walks.specs.Lists.{found, none-found}
 
 any-member : (w : Name) (ds : List Name) → member w ds ≡ any (same w) ds
@@ -44,20 +41,3 @@ member-late w (x ∷ ds) (suc k) h = go (same w x) h (member-late w ds k)
         → pick b true (member w (take k ds)) ≡ false
     go true h f = absurd (omega arith)
     go false h f = f (omega arith)
-
--- the first name, and then the others
-pub names-step : (ds es : List Name) (w : Name) (ws : List Name)
-    → names-right ds es (w ∷ ws) ≡ names-right ds es (w ∷ []) >> names-right ds es ws
-unfolding names-right pick _>>_
-names-step ds es w ws = go (missing ds w) (too-late ds es w) (names-right ds es ws)
-  where
-    absent : Check
-    absent = stop named-absent (lone w)
-
-    late : Check
-    late = stop named-late (lone w)
-
-    go : (b c : Bool) (more : Check) → pick b absent (pick c late more) ≡ pick b absent (pick c late (fine tt)) >> more
-    go true c more = refl
-    go false true more = refl
-    go false false more = refl

@@ -8,8 +8,6 @@ use lib.ListN.{length, getD, take}
 use Rattle.meaning.specs.Lists.{pick, before}
 use Rattle.meaning.specs.Names.{Name, same}
 use Rattle.meaning.specs.Numbers.{module-limit}
-use Rattle.meaning.specs.Checks.{Check}
-use Rattle.meaning.specs.Evaluate.{names-right}
 use Rattle.tape.specs.Tape.{module-role, import-role, actual-role}
 use Rattle.form_rows.specs.Entries.{role-at, name-at}
 use Rattle.module_set.specs.ModuleSet.{nothing, added, either}
@@ -59,10 +57,6 @@ picked p text tape i (suc c) =
 unfoldable pub named-in : List ℕ → List ℕ → Heads → ℕ → List Name
 named-in text tape h k =
     let a = getD (h .places) k 0 in picked names-module text tape a (getD (h .places) (k + 1) 0 - a)
-
--- step 1 for one name of module k
-unfoldable pub name-right : List Name → ℕ → Name → Check
-name-right ds k w = names-right ds (take k ds) (w ∷ [])
 
 -- a set, and the numbers of those of the names that are declared before number k
 unfoldable pub with-named : List Name → ℕ → (ℕ → Bool) → List Name → (ℕ → Bool)

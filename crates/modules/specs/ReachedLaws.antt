@@ -15,7 +15,7 @@ use Rattle.meaning.specs.OrderLaws.{same-self, same-equal}
 use Rattle.meaning.specs.Syntax.{Module}
 use Rattle.meaning.specs.Evaluate.{named-by}
 use Rattle.meaning.specs.Reached.{Placed, wanted, reached-among, module-names}
-use Rattle.meaning.specs.Distinct.{Fresh}
+use Rattle.laws.specs.Distinct.{Fresh}
 use Rattle.module_set.specs.ModuleSet.{nothing, added, either}
 use Rattle.modules.specs.Modules.{with-named, turned, gathered}
 use Rattle.form_walks.specs.Lists.{found-passes}

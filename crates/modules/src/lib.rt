@@ -1,34 +1,23 @@
-// The modules of a tape: where each is declared, whether the modules that one names stand before it, and which modules it reaches.
+// The modules of a tape by their heads: where each is declared, its number by its name, and which modules it reaches.
 // A module's number is its place among the modules of the text, from 0.
-use form::Culprit;
-use form::Verdict;
 use form_rows::entries::name_at;
 use form_rows::entries::role_at;
-use meaning::numbers;
 use tape::roles;
 ghost use mathlib.Core.Path.{_≡_};
 ghost use mathlib.Core.List.{[], _∷_};
-ghost use lib.ListN.{getD, take};
+ghost use lib.ListN.{getD};
 ghost use Rattle.meaning.specs.Lists.{before};
 ghost use Rattle.meaning.specs.Names.{Name, same};
-ghost use Rattle.meaning.specs.Evaluate.{names-right};
 ghost use Rattle.text_names.specs.Word.{name-of};
 ghost use Rattle.text_names.specs.Joint.{joint};
 ghost use Rattle.form_rows.specs.Entries.{word-at};
-ghost use Rattle.form.specs.Verdicts.{told};
 ghost use Rattle.module_set.specs.ModuleSet.{holds};
-ghost use Rattle.modules.specs.Modules.{is-module, names-module, HeadsOf, declared, name-right, named-in, with-named, named-set, turned, gathered, reached-set};
+ghost use Rattle.modules.specs.Modules.{names-module, declared, with-named, named-set, turned, gathered, reached-set};
 
 // The places on the tape where the modules begin, in text order, and behind them where the last one ends.
 pub struct Heads {
     pub places: [u32; 65],
     pub count: u32,
-}
-
-fn is_module(role: u32) -> bool
-    ensures { λ r. ⌜ r ≡ is-module role ⌝ }
-{
-    role == roles::MODULE
 }
 
 // Is the name at an entry with the role that of a module which an import or a binding uses?
@@ -39,31 +28,6 @@ pub fn names_module(role: u32) -> bool
         return true;
     }
     role == roles::ACTUAL
-}
-
-// The heads of the modules among the first n entries, up to 64.
-pub fn find_heads(tape: &[u32], n: u32) -> Heads
-    ensures { λ r. ⌜ HeadsOf (now (tape .entry)) n r ⌝ }
-{
-    let mut places = [0; 65];
-    let mut count: u32 = 0;
-    let mut j: u32 = 0;
-    while j < n {
-        if is_module(role_at(tape, j as usize)) {
-            if count < 64 {
-                places[count as usize] = j;
-                count += 1;
-                j += 1;
-            } else {
-                places[64] = n;
-                return Heads { places, count: 64 };
-            }
-        } else {
-            j += 1;
-        }
-    }
-    places[count as usize] = n;
-    Heads { places, count }
 }
 
 // Where module k begins; 0 past the last place.
@@ -112,42 +76,6 @@ pub fn find_asked(library: &[u8], text: &[u8], tape: &[u32], h: Heads, asked: &[
         k += 1;
     }
     k
-}
-
-// Step 1 for the name w of module k: 7 where no module is called so, 8 where none before module k is.
-fn name_right(library: &[u8], text: &[u8], tape: &[u32], h: Heads, k: u32, w: u32) -> Verdict
-    ensures { λ r. ⌜ told (joint (now (library .entry)) (now (text .entry))) r ≡ name-right (declared (joint (now (library .entry)) (now (text .entry))) (now (tape .entry)) h) k (name-of (joint (now (library .entry)) (now (text .entry))) w) ⌝ }
-{
-    let count = h.count;
-    let p = find_number(library, text, tape, h, w);
-    if count <= p {
-        return Verdict::Stop(numbers::NAMED_ABSENT, Culprit { name: w, actual: 0 });
-    }
-    if k <= p {
-        return Verdict::Stop(numbers::NAMED_LATE, Culprit { name: w, actual: 0 });
-    }
-    Verdict::Fine
-}
-
-// Step 1 for module k: the names of modules among its entries, in text order.
-pub fn names_right(library: &[u8], text: &[u8], tape: &[u32], h: Heads, k: u32) -> Verdict
-    ensures { λ r. ⌜ told (joint (now (library .entry)) (now (text .entry))) r ≡ names-right (declared (joint (now (library .entry)) (now (text .entry))) (now (tape .entry)) h) (take k (declared (joint (now (library .entry)) (now (text .entry))) (now (tape .entry)) h)) (named-in (joint (now (library .entry)) (now (text .entry))) (now (tape .entry)) h k) ⌝ }
-{
-    let mut j = place_at(h, k as usize);
-    let end = place_at(h, k as usize + 1);
-    while j < end {
-        if names_module(role_at(tape, j as usize)) {
-            match name_right(library, text, tape, h, k, name_at(tape, j as usize)) {
-                Verdict::Stop(k, w) => return Verdict::Stop(k, w),
-                Verdict::Fine => {
-                    j += 1;
-                }
-            }
-        } else {
-            j += 1;
-        }
-    }
-    Verdict::Fine
 }
 
 // The set with the module called w, if it stands before module k.

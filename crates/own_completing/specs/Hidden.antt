@@ -18,8 +18,8 @@ use Rattle.form_frames.specs.Changes.{onward, wider, around, outside, still-sta
 use Rattle.clause_translation.specs.declared.Mode.{Mode}
 use Rattle.clause_translation.specs.Translation.{sort-name, function-name, moved-in, moved, moved-hidden}
 use Rattle.clause_translation.specs.MovedLaws.{moved-same}
-use Rattle.unite_equations.specs.Joined.{with-counts}
-use Rattle.unite_equations.specs.Found.{Noted}
+use Rattle.unite_nodes.specs.Joined.{with-counts}
+use Rattle.unite_nodes.specs.Found.{Noted}
 use Rattle.unite.specs.Rooms.{HiddenRoomWithin, Inside}
 use Rattle.unite.specs.United.{with-items, hidden-onto, moved-onto, within, sorts, functions, HiddenUnitedWithin}
 use Rattle.unite.specs.InBlock.{hidden-room-in}

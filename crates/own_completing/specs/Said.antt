@@ -21,7 +21,7 @@ use Rattle.form.specs.Forms.{Stands}
 use Rattle.form.specs.FormLaws.{kept-all}
 use Rattle.form.specs.Blocks.{Lies, Makes, MadeIn}
 use Rattle.unite_checks.specs.Consistent.{nobody}
-use Rattle.unite_equations.specs.Joined.{with-counts}
+use Rattle.unite_nodes.specs.Joined.{with-counts}
 use Rattle.unite.specs.United.{with-items}
 use Rattle.own_items.specs.declared.OwnRows.{OwnRows}
 use Rattle.own_completing.specs.declared.Totals.{Totals}

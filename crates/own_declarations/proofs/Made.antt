@@ -15,11 +15,12 @@ use lib.ListN.{length, getD, set, take, drop, length-set, length-take, List·get
 use lib.Seq.{sets, take-suc-set, take-set-le, getD-set-same, getD-take, getD-drop}
 use Rattle.meaning.specs.Lists.{pick}
 use Rattle.tape.specs.Tape.{parameter-role, variable-role}
+use Rattle.form_sections.specs.declared.Section.the-variants.{Export, Hidden, Parameter}
+use Rattle.form_sections.specs.SectionLaws.{IsWord}
 use Rattle.form_rows.specs.Entries.{role-at, word-at, name-at, last-with, inputs-from, is-function-role, is-parameter-role, is-export-role, arity-at, section-at, origin-at, sort-place}
 use Rattle.form_rows.specs.Kinds.{kind-at}
 use Rattle.form_rows.specs.Rows.{sort-of, type-of, shape-of, item-of, row-at, row-words, row-size}
-use Rattle.form_rows.specs.RowLaws.{IsWord, row-back, inputs-short}
-use Rattle.form_rows.specs.declared.Section.the-variants.{Export, Hidden, Parameter}
+use Rattle.form_rows.specs.RowLaws.{row-back, inputs-short}
 use Rattle.form_rows.specs.declared.Origin.{Origin}
 use Rattle.form_rows.specs.declared.Row.{Row}
 use Rattle.form.specs.Memory.{part, Same, Kept}

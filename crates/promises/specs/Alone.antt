@@ -15,7 +15,7 @@ use Rattle.meaning.specs.OutcomeLaws.{then-fine}
 use Rattle.meaning.specs.VisiblyLaws.{clause-visibly, clauses-visibly, expressions-visibly, imported-visibly, joined-visibly, evaluate-visibly}
 use Rattle.meaning.specs.Reached.{wanted, Placed, reached-among, reached, Ended, module-names, normalise, normalised, refused-at}
 use Rattle.meaning.specs.Laws.{by-cases}
-use Rattle.meaning.specs.Distinct.{Fresh, read-fresh}
+use Rattle.laws.specs.Distinct.{Fresh, read-fresh}
 use Rattle.meaning.specs.OrderLaws.{Every, same-equal}
 use Rattle.promises.specs.Members.{clear, member-here, member-right, member-left, no-name, member-either, Inside, inside-more, inside-later, refuted, wanted-here, wanted-asked, ReachedIn, wanted-within, Closed, closed-more, closed-skip}
 use Rattle.promises.specs.TwoCalls.{went-on, both-cases}

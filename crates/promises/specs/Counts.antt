@@ -24,7 +24,7 @@ use Rattle.meaning.specs.Evaluate.{Evaluated, named-by, names-right, once-in, o
 use Rattle.meaning.specs.Texts.{Texts, Reading, all-read, refused-in, read-texts}
 use Rattle.meaning.specs.Reached.{Placed, reached-among, reached, Ended, normalised, refused-at, end-or, total-of, in-turn, module-names, short-or-blank, normalise}
 use Rattle.meaning.specs.Listing.{lines-text}
-use Rattle.meaning.specs.Distinct.{Fresh, read-fresh}
+use Rattle.laws.specs.Distinct.{Fresh, read-fresh}
 use Rattle.meaning.specs.OrderLaws.{Every, every-middle, Pairwise, same-self}
 use Rattle.meaning.specs.Answer.{Answer, refusal, of-ended, unread, of-read, within, answer}
 use Rattle.laws.specs.EveryLaws.{every-so}

@@ -15,7 +15,7 @@ use Rattle.meaning.specs.Own.{own-slot, own-visible}
 use Rattle.meaning.specs.Evaluate.{Evaluated, imported, seen-sorts, joined-visible, evaluate}
 use Rattle.meaning.specs.Reached.{Placed, reached-among, reached, total-of, module-names}
 use Rattle.meaning.specs.Texts.{Texts, all-read, read-texts}
-use Rattle.meaning.specs.Distinct.{Fresh, read-fresh}
+use Rattle.laws.specs.Distinct.{Fresh, read-fresh}
 use Rattle.meaning.specs.OrderLaws.{Every}
 use Rattle.laws.specs.Decides.{both-true}
 use Rattle.laws.specs.EveryLaws.{any-found, every-made, every-member, every-so}

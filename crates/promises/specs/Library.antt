@@ -12,7 +12,7 @@ use Rattle.meaning.specs.Syntax.{Module}
 use Rattle.meaning.specs.Checks.{lone, stop}
 use Rattle.meaning.specs.Evaluate.{missing, too-late, names-right}
 use Rattle.meaning.specs.Reached.{module-names}
-use Rattle.meaning.specs.Distinct.{Fresh, read-fresh}
+use Rattle.laws.specs.Distinct.{Fresh, read-fresh}
 use Rattle.meaning.specs.Texts.{Texts, all-read, read-texts}
 use Rattle.meaning.specs.TextsLaws.{Parts}
 use Rattle.meaning.specs.Answer.{answer}

@@ -12,7 +12,7 @@ use Rattle.meaning.specs.Syntax.{Module}
 use Rattle.meaning.specs.Evaluate.{named-by}
 use Rattle.meaning.specs.Reached.{wanted, Placed, reached-among}
 use Rattle.meaning.specs.Laws.{by-cases}
-use Rattle.meaning.specs.Distinct.{Fresh}
+use Rattle.laws.specs.Distinct.{Fresh}
 use Rattle.meaning.specs.OrderLaws.{same-self, same-equal}
 
 pub clear : {X : Type 0} → _≡_ {A = Bool} true false → X

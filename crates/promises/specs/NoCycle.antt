@@ -17,8 +17,8 @@ use Rattle.meaning.specs.Evaluate.{Evaluated, named-by, names-right, declared-o
 use Rattle.meaning.specs.Reached.{wanted, Placed, reached-among, reached, Ended, normalised, end-or, total-of, in-turn, module-names, normalise}
 use Rattle.meaning.specs.Texts.{Texts, Reading, all-read, refused-in, read-texts}
 use Rattle.meaning.specs.Answer.{Answer, of-read, answer}
-use Rattle.meaning.specs.Distinct.{Fresh, read-fresh}
-use Rattle.meaning.specs.Trials.{all-opened}
+use Rattle.laws.specs.Distinct.{Fresh, read-fresh}
+use Rattle.meaning.specs.Opened.{all-opened}
 use Rattle.meaning.specs.OrderLaws.{Every}
 use Rattle.promises.specs.Members.{clear, found-later, member-here, member-left, member-right, differ, Inside, inside-more, inside-later, inside-cons, outside, no-name, member-more, member-split, member-either, only-itself}
 use Rattle.promises.specs.Demand.{placed-among, all-placed}

@@ -22,7 +22,7 @@ use Rattle.meaning.specs.Reached.{Placed, reached, Ended, normalised, refused-a
 use Rattle.meaning.specs.Texts.{Texts, two-texts, Reading, all-read, refused-in, read-texts}
 use Rattle.meaning.specs.Answer.{Answer, refusal, of-ended, unread, within, place-text, request, request-end, has-request, library-too-long, texts-in}
 use Rattle.meaning.specs.Listing.{line, lines-text}
-use Rattle.meaning.specs.Trials.{all-opened}
+use Rattle.meaning.specs.Opened.{all-opened}
 use Rattle.promises.specs.Given.{bad-binding}
 
 -- ---- the rule as it was: 16 for every mistake, with the formal's name alone

@@ -10,7 +10,7 @@ use Rattle.meaning.specs.Syntax.{Module}
 use Rattle.meaning.specs.Evaluate.{named-by, missing, too-late}
 use Rattle.meaning.specs.Reached.{wanted, Placed, reached-among, reached, module-names}
 use Rattle.meaning.specs.Laws.{by-cases}
-use Rattle.meaning.specs.Distinct.{Fresh, read-fresh}
+use Rattle.laws.specs.Distinct.{Fresh, read-fresh}
 use Rattle.meaning.specs.OrderLaws.{Every}
 use Rattle.promises.specs.Members.{clear, member-here, member-left, member-right, member-more, Inside, inside-cons, refuted, member-either, member-split, no-name, here, wanted-here, wanted-asked, reached-here, reached-later, Closed, closed-more, closed-skip}
 use Rattle.promises.specs.Demand.{InTurn, Counterparts, Acceptance, placed-among, all-placed, InOrderIn, IsEnough}

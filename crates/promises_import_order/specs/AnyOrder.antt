@@ -17,7 +17,7 @@ use Rattle.meaning.specs.Numbers.{parameter-room, item-room, equation-room}
 use Rattle.meaning.specs.Origins.{Section, export-section, hidden-section, parameter-section, Item, in-parameter, ResolvedEquation, Sort, visible-sort, hidden-sort, Shape, sort-shape, function-shape, variable-shape, is-sort, one-item, one-equation}
 use Rattle.meaning.specs.Normal.{Slot, Visible, Normal, nothing-visible, nothing-hidden, empty, sorts-among, is-called, origin-of-item, origin-of, formals, same-slot, origins-agree, sort-agrees, shape-agrees, types-agree, same-formals, is-parameter-of, unite-visible, unite-hidden, unite}
 use Rattle.meaning.specs.Checks.{fine, sorts-clash, functions-clash, overloaded, size, needs, fits, room, _>>=_, _>>_, consistent, checked}
-use Rattle.meaning.specs.Trials.{all-opened}
+use Rattle.meaning.specs.Opened.{all-opened}
 use Rattle.meaning.specs.OrderLaws.{Every, Rearranged, same-equal, Pairwise, same-self}
 use Rattle.meaning.specs.Evaluate.{united}
 use Rattle.promises.specs.ListingLaws.{slot-equal}

@@ -11,7 +11,7 @@ use Rattle.meaning.specs.Syntax.{Module}
 use Rattle.meaning.specs.Texts.{Texts, two-texts, Reading, all-read, refused-in, read-texts}
 use Rattle.meaning.specs.Reached.{reached}
 use Rattle.meaning.specs.Answer.{Answer, listing, answer}
-use Rattle.meaning.specs.Trials.{all-opened}
+use Rattle.meaning.specs.Opened.{all-opened}
 use Rattle.promises.specs.VisiblePart.{visible-part, visible-part-opened}
 use Rattle.promises.specs.Demand.{ReadAs, Counterparts, InTurn, InTheCall, ByItself, Comparable, SameAnswer, ShortOfRoom, placed-among, all-placed, Enough}
 use Rattle.promises.specs.Proof.{demand-3, if-accepted}

@@ -10,7 +10,7 @@ use Rattle.meaning.specs.Numbers.{memory-size, program-output}
 use Rattle.meaning.specs.Texts.{Texts, two-texts, Reading, all-read, refused-in, read-texts}
 use Rattle.meaning.specs.Reached.{Ended, normalised, refused-at, normalise}
 use Rattle.meaning.specs.Answer.{listing, answer}
-use Rattle.meaning.specs.Trials.{all-opened}
+use Rattle.meaning.specs.Opened.{all-opened}
 
 -- ---- to which module an equation belongs, and its position there. Below, `f` stands in N1 in the one
 -- specification and in N2 in the other; M has two different normal forms, with one listing

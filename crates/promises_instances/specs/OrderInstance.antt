@@ -9,7 +9,7 @@ use Rattle.meaning.specs.Syntax.{Import, Module}
 use Rattle.meaning.specs.Texts.{Texts, two-texts, read-texts}
 use Rattle.meaning.specs.Checks.{lone}
 use Rattle.meaning.specs.Answer.{listing, refusal, answer}
-use Rattle.meaning.specs.Trials.{all-opened}
+use Rattle.meaning.specs.Opened.{all-opened}
 use Rattle.laws.specs.EveryLaws.{every-member}
 use Rattle.promises_instances.specs.Instance.{modules-in}
 use Rattle.promises_import_order.specs.Sets.{SameSet, set-itself}

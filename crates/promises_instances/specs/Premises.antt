@@ -14,7 +14,7 @@ use Rattle.meaning.specs.Evaluate.{named-by, missing, too-late}
 use Rattle.meaning.specs.Texts.{Texts, two-texts, all-read, read-texts}
 use Rattle.meaning.specs.Reached.{Placed, reached, module-names}
 use Rattle.meaning.specs.Answer.{listing, answer}
-use Rattle.meaning.specs.Trials.{all-opened}
+use Rattle.meaning.specs.Opened.{all-opened}
 use Rattle.meaning.specs.OrderLaws.{Every}
 use Rattle.promises.specs.VisiblePart.{visible-part, visible-part-opened}
 use Rattle.promises.specs.Demand.{InTurn, InTheCall, Comparable}

@@ -10,7 +10,7 @@ use Rattle.meaning.specs.Numbers.{memory-size, program-output, accepted, over-s
 use Rattle.meaning.specs.Syntax.{Module}
 use Rattle.meaning.specs.Texts.{Texts, two-texts, refused-in, read-texts}
 use Rattle.meaning.specs.Answer.{listing, answer}
-use Rattle.meaning.specs.Trials.{all-opened}
+use Rattle.meaning.specs.Opened.{all-opened}
 use Rattle.promises_instances.specs.Instance.{modules-in}
 use Rattle.promises_replacing.specs.Changing.{changing-opened}
 use Rattle.promises_replacing.specs.Replacing.{replace, Replaced, SameApart}

@@ -1,6 +1,6 @@
 // Two texts on one tape: what the library says, its places moved by the length of the customer's text, and behind it what that text says.
+use module_heads::find_heads;
 use modules::Heads;
-use modules::find_heads;
 use modules::name_of_module;
 use read_steps::Reading;
 ghost use mathlib.Core.Path.{_≡_};

@@ -8,7 +8,6 @@ use native.Mathlib.Numerals.{add-one}
 use lib.Dec.{ltb}
 use lib.ListN.{length, getD, take, drop, length-drop, drop-of-length-le}
 use lib.Seq.{drop-cons, drop-drop}
-use borrow.Author.Needs.{needs}
 use borrow.Author.Tests.{lt-ltb, ltb-true, ltb-false, ne-eqb}
 use mir.Syntax.{w64}
 use mir.Val.{Fits}
@@ -263,5 +262,3 @@ module _ (a b : List ℕ) (i : ℕ) (v : compared a b ≡ compared (drop i a) (d
 
   pub seen-over-same : length b ≤ i → Seen a b 1
   seen-over-same h = record { told = λ k. v ∙ left-none a b (length a) (length b) i refl refl l h }
-
-pub ruleset cases = (not-seen, seen-longer, seen-same, seen-shorter, seen-first, seen-on, seen-less, seen-over-shorter, seen-over-same, needs)

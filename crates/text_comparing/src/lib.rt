@@ -1,4 +1,4 @@
-// Two slices compared: texts by their bytes, and names as far as is seen at once, that is unless a run of digits has a zero in front.
+// Names compared on slices as far as is seen at once, that is unless a run of digits has a zero in front.
 use text_spelling::byte_at;
 use text_spelling::is_digit;
 ghost use mathlib.Core.Path.{_≡_};
@@ -7,33 +7,7 @@ ghost use Prim.Native.Nat.{_+_, _<_};
 ghost use lib.Dec.{ltb};
 ghost use lib.ListN.{length, getD, drop};
 ghost use Rattle.meaning.specs.Names.{is-digit};
-ghost use Rattle.text_runs.specs.Orders.{bytes-compared};
 ghost use Rattle.text_runs.specs.Runs.{digits-of, by-size, plainly-compared, has-zeros, plain-size, Seen, Decides};
-
-// 1 if a and b have the same bytes, 0 if a comes first, 2 if b does.
-pub fn compare_bytes(a: &[u8], b: &[u8]) -> u8
-    ensures { λ r. ⌜ r ≡ bytes-compared (now (a .entry)) (now (b .entry)) ⌝ }
-{
-    let mut i = 0;
-    while i < a.len() {
-        if b.len() <= i {
-            return 2;
-        }
-        if a[i] < b[i] {
-            return 0;
-        }
-        if b[i] < a[i] {
-            return 2;
-        }
-        i += 1;
-    }
-    if i < b.len() {
-        return 0;
-    }
-    1
-}
-
-// ---- names, as far as is seen at once
 
 // Past the bytes from `at` on that two names have in common and that are no digits.
 fn plain_end(a: &[u8], b: &[u8], at: usize) -> usize

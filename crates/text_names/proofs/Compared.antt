@@ -7,8 +7,7 @@ use Prim.Native.Nat.{ℕ}
 use lib.Dec.{ltb}
 use Rattle.meaning.specs.Lists.{pick}
 use Rattle.meaning.specs.Names.{same, bytes-not-after, not-after}
-use Rattle.meaning.specs.OrderLaws.{same-self, same-equal, order-reflexive, bytes-ordered, not-after-self}
-use Rattle.text_names.specs.Word.{name-of}
+use Rattle.meaning.specs.OrderLaws.{same-equal, order-reflexive, bytes-ordered, not-after-self}
 use Rattle.text_runs.specs.Orders.{compared, bytes-compared}
 
 -- the first of two is not after the second, by their comparison c
@@ -30,7 +29,3 @@ module _ (x y : List ℕ) (c : ℕ) where
   pub bytes-told : c ≡ bytes-compared x y → ltb c 2 ≡ bytes-not-after x y
   unfolding bytes-compared
   bytes-told h = told-by x y bytes-not-after (order-reflexive bytes-ordered) c h
-
--- one word is one name
-pub same-words : (text : List ℕ) (a b : ℕ) → a ≡ b → true ≡ same (name-of text a) (name-of text b)
-same-words text a b h = rw h (sym (same-self (name-of text b)))

@@ -1,14 +1,13 @@
 -- Laws of names of two texts, in the code's terms: t is the text, l the library behind it, w a word.
 use mathlib.Core.Path.{_≡_, sym, _∙_}
-use mathlib.Core.Bool.{Bool, true, false}
-use mathlib.Core.List.{List, append-nil}
+use mathlib.Core.Bool.{Bool, true}
+use mathlib.Core.List.{List}
 use Prim.Native.Nat.{ℕ, _+_, _-_, _*_, _/_, _%_, _<_, _≤_, min}
 use native.Mathlib.Omega.{arith}
-use lib.Dec.{leb}
 use lib.ListN.{length, take, drop}
 use lib.Seq.{take-length}
 use borrow.Author.Needs.{needs}
-use borrow.Author.Tests.{le-leb, lt-leb, leb-true, lt-ltb}
+use borrow.Author.Tests.{leb-true, lt-ltb}
 use mir.Syntax.{w32}
 use mir.Val.{Fits}
 use Rattle.meaning.specs.Lists.{pick}
@@ -17,10 +16,11 @@ use Rattle.text_names.specs.Word.{token-of, name-of, plain-name}
 use Rattle.text_spelling.specs.Word.{word-parts}
 use Rattle.text_runs.specs.Orders.{compared}
 use Rattle.text_runs.specs.Runs.{Seen}
-use Rattle.text_names.specs.Joint.{joint, has-room, have-room, both-behind, name-in-library, name-in-text}
+use Rattle.text_names.specs.Joint.{joint, name-in-library, name-in-text}
+use Rattle.text_seams.specs.Sides.{has-room, have-room, both-behind}
+use Rattle.text_places.proofs.Places.{first-true, second-true, same-words, alone}
 use Rattle.text_names.proofs.Auto.{told}
-use Rattle.text_names.proofs.Compared.{same-words, not-after-told}
-use Rattle.text_names.proofs.Places.{first-true, second-true}
+use Rattle.text_names.proofs.Compared.{not-after-told}
 
 -- the same names are level
 pub level-told : (x y : List ℕ) (s : Bool) → s ≡ same x y → s ≡ true → 1 ≡ compared x y
@@ -29,72 +29,45 @@ level-told x y s e h = rw (← e, h)
 
 -- ---- where they stand
 
-module _ (n w : ℕ) where
-  pub room-there : (r : Bool) → w % 256 ≤ 40 → r ≡ leb (w / 256 + 40) n → r ≡ has-room n w
-  unfolding has-room pick
-  room-there r h e = rw (le-leb (w % 256) 40 h) e
+module _ (n w : ℕ) (h : has-room n w ≡ true) where
+  short : w % 256 ≤ 40
+  unfolding has-room
+  short = leb-true (w % 256) 40 (first-true _ _ h)
 
-  pub room-not : 40 < w % 256 → false ≡ has-room n w
-  unfolding has-room pick
-  room-not h = rw (lt-leb (w % 256) 40 h)
+  within : w / 256 + 40 ≤ n
+  unfolding has-room
+  within = leb-true (w / 256 + 40) n (second-true _ _ h)
 
-  module _ (h : has-room n w ≡ true) where
-    short : w % 256 ≤ 40
-    unfolding has-room
-    short = leb-true (w % 256) 40 (first-true _ _ h)
+-- what the two tests tell of each of the names
+module _ (n a b : ℕ) (q : Bool) (y : q ≡ true) where
+  module _ (e : q ≡ have-room n a b) where
+    first-room : has-room n a ≡ true
+    unfolding have-room
+    first-room = first-true _ _ (sym e ∙ y)
 
-    within : w / 256 + 40 ≤ n
-    unfolding has-room
-    within = leb-true (w / 256 + 40) n (second-true _ _ h)
+    second-room : has-room n b ≡ true
+    unfolding have-room
+    second-room = second-true _ _ (sym e ∙ y)
 
-module _ (n a b : ℕ) where
-  module _ (p : Bool) (e : p ≡ has-room n a) where
-    pub rooms-both : (r : Bool) → p ≡ true → r ≡ has-room n b → r ≡ have-room n a b
-    unfolding have-room pick
-    rooms-both r h f = rw (← e, h) f
+    pub first-within : a / 256 + a % 256 ≤ n
+    first-within = omega (arith, short n a first-room, within n a first-room)
 
-    pub rooms-not : p ≡ false → false ≡ have-room n a b
-    unfolding have-room pick
-    rooms-not h = rw (← e, h)
+    pub second-within : b / 256 + b % 256 ≤ n
+    second-within = omega (arith, short n b second-room, within n b second-room)
 
-  pub behind-both : (r : Bool) → n ≤ a / 256 → r ≡ leb n (b / 256) → r ≡ both-behind n a b
-  unfolding both-behind pick
-  behind-both r h e = rw (le-leb n (a / 256) h) e
+  pub first-behind : q ≡ both-behind n a b → n * 256 ≤ a
+  unfolding both-behind
+  first-behind e = omega (arith, leb-true n (a / 256) (first-true _ _ (sym e ∙ y)))
 
-  pub behind-not : a / 256 < n → false ≡ both-behind n a b
-  unfolding both-behind pick
-  behind-not h = rw (lt-leb n (a / 256) h)
+  pub behind-fits : q ≡ both-behind n a b → Fits w32 a → Fits w32 n
+  behind-fits e h = omega (arith, h, first-behind e)
 
-  -- what the two tests tell of each of the names
-  module _ (q : Bool) (y : q ≡ true) where
-    module _ (e : q ≡ have-room n a b) where
-      first-room : has-room n a ≡ true
-      unfolding have-room
-      first-room = first-true _ _ (sym e ∙ y)
+  pub moved-fits : q ≡ both-behind n a b → Fits w32 a → Fits w32 (n * 256)
+  moved-fits e h = omega (arith, h, first-behind e)
 
-      second-room : has-room n b ≡ true
-      unfolding have-room
-      second-room = second-true _ _ (sym e ∙ y)
-
-      pub first-within : a / 256 + a % 256 ≤ n
-      first-within = omega (arith, short n a first-room, within n a first-room)
-
-      pub second-within : b / 256 + b % 256 ≤ n
-      second-within = omega (arith, short n b second-room, within n b second-room)
-
-    pub first-behind : q ≡ both-behind n a b → n * 256 ≤ a
-    unfolding both-behind
-    first-behind e = omega (arith, leb-true n (a / 256) (first-true _ _ (sym e ∙ y)))
-
-    pub behind-fits : q ≡ both-behind n a b → Fits w32 a → Fits w32 n
-    behind-fits e h = omega (arith, h, first-behind e)
-
-    pub moved-fits : q ≡ both-behind n a b → Fits w32 a → Fits w32 (n * 256)
-    moved-fits e h = omega (arith, h, first-behind e)
-
-    pub second-behind : q ≡ both-behind n a b → n * 256 ≤ b
-    unfolding both-behind
-    second-behind e = omega (arith, leb-true n (b / 256) (second-true _ _ (sym e ∙ y)))
+  pub second-behind : q ≡ both-behind n a b → n * 256 ≤ b
+  unfolding both-behind
+  second-behind e = omega (arith, leb-true n (b / 256) (second-true _ _ (sym e ∙ y)))
 
 module _ (l t : List ℕ) where
   text-part : (w : ℕ) → has-room (length t) w ≡ true → take (w / 256 + w % 256 - w / 256) (drop (w / 256) t) ≡ name-of (joint l t) w
@@ -153,16 +126,8 @@ module _ (l t : List ℕ) where
 
 -- ---- a text with none behind it
 
-alone : (s t : List ℕ) → joint (take (0 - 0) (drop 0 s)) t ≡ t
-unfolding joint
-alone s t = append-nil t
-
 pub alone-called : (s t asked : List ℕ) (w : ℕ) (r : Bool) → r ≡ same (name-of (joint (take (0 - 0) (drop 0 s)) t) w) asked → r ≡ same (name-of t w) asked
 alone-called s t asked w r h = rw (alone s t) at h
-
-pub alone-same : (s t u v : List ℕ) (a b : ℕ) (r : Bool)
-    → r ≡ same (name-of (joint (take (0 - 0) (drop 0 s)) t) a) (name-of (joint (take (0 - 0) (drop 0 u)) v) b) → r ≡ same (name-of t a) (name-of v b)
-alone-same s t u v a b r h = rw (alone s t, alone u v) at h
 
 pub alone-compared : (t : List ℕ) (a b r : ℕ)
     → r ≡ compared (name-of (joint (take (0 - 0) (drop 0 t)) t) a) (name-of (joint (take (0 - 0) (drop 0 t)) t) b)
@@ -170,4 +135,4 @@ pub alone-compared : (t : List ℕ) (a b r : ℕ)
 alone-compared t a b r h = rw (alone t t) at h
 
 -- what the answers for these functions hand to `search`
-pub ruleset cases = (room-there, room-not, rooms-both, rooms-not, behind-both, behind-not, first-within, second-within, first-behind, behind-fits, moved-fits, second-behind, here-seen, here-same, there-seen, there-same, elsewhere-compared, elsewhere-same, level-told, same-words, not-after-told, told, needs)
+pub ruleset cases = (first-within, second-within, first-behind, behind-fits, moved-fits, second-behind, here-seen, here-same, there-seen, there-same, elsewhere-compared, elsewhere-same, level-told, same-words, not-after-told, told, needs)

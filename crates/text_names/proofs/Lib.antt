@@ -1,5 +1,5 @@
 pub mod Auto
 pub mod Runs
 pub mod Compared
-pub mod Places
+pub mod AtOnce
 pub mod Joined

@@ -1,18 +1,3 @@
--- Two texts as one, as `text_spelling` has them; and where a name stands in them.
+-- Two texts as one, as `text_spelling` has them.
 pub use Rattle.text_spelling.specs.Joint.{name-in-text, name-in-library}
 unfoldable pub use Rattle.text_spelling.specs.Joint.{joint}
-use Prim.Native.Nat.{ℕ, _+_, _/_, _%_}
-use mathlib.Core.Bool.{Bool, false}
-use lib.Dec.{leb}
-use Rattle.meaning.specs.Lists.{pick}
-
--- is it a plain name that starts where a text of n bytes has room for a whole one?
-unfoldable pub has-room : ℕ → ℕ → Bool
-has-room n w = pick (leb (w % 256) 40) (leb (w / 256 + 40) n) false
-
-unfoldable pub have-room : ℕ → ℕ → ℕ → Bool
-have-room n a b = pick (has-room n a) (has-room n b) false
-
--- do both names start behind a text of n bytes?
-unfoldable pub both-behind : ℕ → ℕ → ℕ → Bool
-both-behind n a b = pick (leb n (a / 256)) (leb n (b / 256)) false

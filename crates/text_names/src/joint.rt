@@ -2,6 +2,9 @@
 // Most names lie in the text, which therefore comes first: their words are as they were read, and are compared there.
 use text_comparing::compare_names;
 use text_elements::compare_across;
+use text_places::same_across;
+use text_seams::both_behind;
+use text_seams::have_room;
 pub use text_spelling::is_called;
 pub use text_spelling::is_infix;
 pub use text_spelling::is_operator;
@@ -11,53 +14,10 @@ use text_spelling::same_wherever;
 pub use text_spelling::token_room;
 pub use text_spelling::trailing;
 ghost use mathlib.Core.Path.{_≡_};
-ghost use lib.ListN.{length};
 ghost use Rattle.meaning.specs.Names.{same, not-after};
 ghost use Rattle.text_names.specs.Word.{name-of};
 ghost use Rattle.text_runs.specs.Orders.{compared};
-ghost use Rattle.text_names.specs.Joint.{joint, has-room, have-room, both-behind};
-
-// ---- wherever they lie, byte by byte
-
-// Are a and b the same name?
-pub fn same_across(library: &[u8], text: &[u8], a: u32, b: u32) -> bool
-    ensures { λ r. ⌜ r ≡ same (name-of (joint (now (library .entry)) (now (text .entry))) a) (name-of (joint (now (library .entry)) (now (text .entry))) b) ⌝ }
-{
-    same_wherever(library, text, a, library, text, b)
-}
-
-// ---- where they stand
-
-// Is w a plain name that starts where the text has room for a whole one?
-fn has_room(text: &[u8], w: u32) -> bool
-    ensures { λ r. ⌜ r ≡ has-room (length (now (text .entry))) w ⌝ }
-{
-    if w % 256 <= 40 {
-        return (w / 256) as usize + 40 <= text.len();
-    }
-    false
-}
-
-// Are both such names?
-fn have_room(text: &[u8], a: u32, b: u32) -> bool
-    ensures { λ r. ⌜ r ≡ have-room (length (now (text .entry))) a b ⌝ }
-{
-    if has_room(text, a) {
-        return has_room(text, b);
-    }
-    false
-}
-
-// Do both names start behind the text?
-fn both_behind(text: &[u8], a: u32, b: u32) -> bool
-    ensures { λ r. ⌜ r ≡ both-behind (length (now (text .entry))) a b ⌝ }
-{
-    let n = text.len();
-    if n <= (a / 256) as usize {
-        return n <= (b / 256) as usize;
-    }
-    false
-}
+ghost use Rattle.text_names.specs.Joint.{joint};
 
 // Names of the library are looked at there, and all others byte by byte.
 fn same_elsewhere(library: &[u8], text: &[u8], a: u32, b: u32) -> bool

@@ -7,13 +7,14 @@ use native.Mathlib.Omega.{arith}
 use native.Mathlib.Numerals.{add-one}
 use lib.Dec.{eqb}
 use lib.ListN.{length, getD, take, drop, drop-of-length-le, List·getD-append, List·getD-eq-default}
-use lib.Seq.{drop-cons, getD-append-add, getD-take, getD-drop}
+use lib.Seq.{drop-cons, getD-take, getD-drop}
 use borrow.Author.Needs.{needs}
 use borrow.Author.Tests.{eq-eqb, ne-eqb}
 use mir.Syntax.{w32, w64}
 use mir.Val.{Fits}
 use Rattle.meaning.specs.Lists.{pick, any}
 use Rattle.meaning.specs.Names.{bytes, is-operator, is-infix}
+use Rattle.text_bytes.proofs.Bytes.{past-seam}
 use Rattle.text_spelling.specs.Word.{leading, trailing, token-of, name-of, leading-few, trailing-few, underlines, name-parts, token-length, name-length}
 
 module _ (w : ℕ) where
@@ -33,18 +34,13 @@ module _ (w : ℕ) where
   unfolding trailing pick
   else-trailing r h e = rw (ne-eqb (w / 64 % 4) 1 h) e
 
--- ---- one underline at the most, and what is behind it
+-- ---- one underline at the most
 
 underline : (k i : ℕ) → k ≤ 1 → i < k → getD (take k (bytes "_")) i 0 ≡ 95
 underline k i h g =
     let one : k ≡ 1 = omega arith in
     let first : i ≡ 0 = omega arith in
     rw (one, first)
-
-pub past-seam : (xs ys : List ℕ) (i : ℕ) → length xs ≤ i → getD (xs ++ ys) i 0 ≡ getD ys (i - length xs) 0
-past-seam xs ys i h =
-    let place : i ≡ length xs + (i - length xs) = omega arith in
-    ap (λ (j : ℕ). getD (xs ++ ys) j 0) place ∙ getD-append-add xs ys (i - length xs) 0
 
 -- ---- the bytes of a name
 

@@ -4,26 +4,16 @@ use mathlib.Core.Bool.{true, false}
 use mathlib.Core.List.{List}
 use Prim.Native.Nat.{ℕ, _+_, _-_, _/_, _%_, _<_, _≤_, min}
 use native.Mathlib.Omega.{arith}
-use lib.ListN.{length, getD, drop, List·getD-append}
+use lib.ListN.{length, getD, drop}
 use borrow.Author.Needs.{needs}
 use Rattle.meaning.specs.Names.{same}
 use Rattle.text_spelling.specs.Word.{token-of, token-length}
 use Rattle.text_spelling.specs.Joint.{joint, joint-length}
 use Rattle.text_spelling.proofs.Same.{same-lengths, same-on, same-off, same-end}
-use Rattle.text_spelling.proofs.Forms.{past-seam}
 
-module _ (l t : List ℕ) where
-  pub byte-left : (i : ℕ) → i < length t → getD t i 0 ≡ getD (joint l t) i 0
-  unfolding joint
-  byte-left i h = sym (List·getD-append t l 0 i h)
-
-  pub byte-right : (i r : ℕ) → length t ≤ i → r ≡ getD l (i - length t) 0 → r ≡ getD (joint l t) i 0
-  unfolding joint
-  byte-right i r h e = e ∙ sym (past-seam t l i h)
-
-  pub joined-size : (w k s r : ℕ) → k ≡ min (w % 64) 40 → s ≡ min (w / 256) (length t + length l) → r ≡ min k (length t + length l - s)
-      → r ≡ length (token-of (joint l t) w)
-  joined-size w k s r e f g = omega (arith, token-length (joint l t) w, joint-length l t)
+pub joined-size : (l t : List ℕ) (w k s r : ℕ) → k ≡ min (w % 64) 40 → s ≡ min (w / 256) (length t + length l) → r ≡ min k (length t + length l - s)
+    → r ≡ length (token-of (joint l t) w)
+joined-size l t w k s r e f g = omega (arith, token-length (joint l t) w, joint-length l t)
 
 -- a name of n bytes and the bytes b
 module _ (a b : List ℕ) (n : ℕ) (e : n ≡ length a) where
@@ -56,4 +46,4 @@ module _ (a b : List ℕ) (n m : ℕ) (e : n ≡ length a) (f : m ≡ length b) 
   across-end i z h = same-end a b i (omega arith) (omega arith)
 
 -- what the answers for these functions hand to `search`
-pub ruleset cases = (byte-left, byte-right, joined-size, called-not, called-off, called-on, called-end, across-not, across-off, across-on, across-end, needs)
+pub ruleset cases = (joined-size, called-not, called-off, called-on, called-end, across-not, across-off, across-on, across-end, needs)

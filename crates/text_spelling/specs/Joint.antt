@@ -1,4 +1,5 @@
--- Two texts as one: the customer's text, and the library behind it. A place is one of both together.
+-- Names of two texts as one, which `text_bytes` joins.
+unfoldable pub use Rattle.text_bytes.specs.Joint.{joint}
 use mathlib.Core.Path.{_≡_, sym, ap, _∙_}
 use mathlib.Core.List.{List, _++_}
 use Prim.Native.Nat.{ℕ, _+_, _-_, _*_, _/_, _%_, _≤_, min}
@@ -7,9 +8,6 @@ use lib.ListN.{length, take, drop, length-append, length-drop}
 use lib.Seq.{take-append-le, drop-append-le, drop-append-add}
 use Rattle.meaning.specs.Numbers.{name-size}
 use Rattle.text_spelling.specs.Word.{in-form, token-of, name-of, word-parts}
-
-unfoldable pub joint : List ℕ → List ℕ → List ℕ
-joint library text = text ++ library
 
 -- a word moved by n places
 module _ (w n : ℕ) (h : n ≤ w / 256) where

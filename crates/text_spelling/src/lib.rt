@@ -1,18 +1,15 @@
 // The bytes of a name, and whether two are spelled alike: of one text, and of two as one, the customer's text with the library behind it. A name is one
 // word: the place where its token starts times 256, its form (plain, or a prefix or infix operator) times 64, and its token's length.
+pub use text_bytes::byte_at;
+use text_bytes::byte_in;
+pub use text_bytes::lesser;
+pub use text_bytes::token_room;
 ghost use mathlib.Core.Path.{_≡_};
-ghost use Prim.Native.Nat.{_+_, _%_, min};
+ghost use Prim.Native.Nat.{_+_};
 ghost use lib.ListN.{length, getD};
 ghost use Rattle.meaning.specs.Names.{same, is-digit, is-operator, is-infix};
 ghost use Rattle.text_spelling.specs.Word.{leading, trailing, token-of, name-of};
 ghost use Rattle.text_spelling.specs.Joint.{joint};
-
-// The byte at i, and 0 past the end.
-pub fn byte_at(text: &[u8], i: usize) -> u8
-    ensures { λ r. ⌜ r ≡ getD (now (text .entry)) i 0 ⌝ }
-{
-    if i < text.len() { text[i] } else { 0 }
-}
 
 // Is b a digit?
 pub fn is_digit(b: u8) -> bool
@@ -24,32 +21,7 @@ pub fn is_digit(b: u8) -> bool
     false
 }
 
-// The lesser of two.
-pub fn lesser(a: usize, b: usize) -> usize
-    ensures { λ r. ⌜ r ≡ min a b ⌝ }
-{
-    if a < b { a } else { b }
-}
-
-// The byte at i of both, and 0 past the end.
-fn byte_in(library: &[u8], text: &[u8], i: usize) -> u8
-    ensures { λ r. ⌜ r ≡ getD (joint (now (library .entry)) (now (text .entry))) i 0 ⌝ }
-{
-    let n = text.len();
-    if i < n {
-        return text[i];
-    }
-    byte_at(library, i - n)
-}
-
 // ---- the bytes of a name
-
-// How many bytes the token of the name w may have.
-pub fn token_room(w: u32) -> usize
-    ensures { λ r. ⌜ r ≡ min (w % 64) 40 ⌝ }
-{
-    lesser((w % 64) as usize, 40)
-}
 
 // How many underlines stand before the token of the name w.
 pub fn leading(w: u32) -> usize

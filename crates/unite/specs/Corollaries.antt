@@ -19,9 +19,10 @@ use Rattle.form.specs.Memory.{part}
 use Rattle.form.specs.Forms.{Stands}
 use Rattle.form.specs.FullLists.{length-union}
 use Rattle.clause_translation.specs.declared.Mode.{Mode}
-use Rattle.clause_translation.specs.Translation.{pairs-at, sort-name, function-name}
+use Rattle.clause_pairs.specs.Pairs.{pairs-at}
+use Rattle.clause_translation.specs.Translation.{sort-name, function-name}
 use Rattle.clause_translation.specs.MovedLaws.{map-kept, item-kept, hidden-kept, equation-kept, sort-name-same, function-name-same, sort-name-renamed, function-name-renamed}
-use Rattle.unite_equations.specs.Found.{Noted}
+use Rattle.unite_nodes.specs.Found.{Noted}
 use Rattle.unite.specs.United.{other-slots, visible-onto, hidden-onto, moved-onto, within, sorts, functions, HiddenUnited, United}
 
 -- ---- parameters

@@ -22,12 +22,12 @@ use Rattle.clause_translation.specs.declared.Mode.{Mode}
 use Rattle.clause_translation.specs.Translation.{moved-in, moved-hidden}
 use Rattle.unite_items.specs.Absorb.{Absorbed, taken}
 use Rattle.unite_items.specs.Turns.{RoomWithin}
-use Rattle.unite_equations.specs.declared.Notes.{Notes}
-use Rattle.unite_equations.specs.Joined.{with-counts, Out, out, joined}
-use Rattle.unite_equations.specs.Grown.{Grown, joined-grown}
-use Rattle.unite_equations.specs.Found.{Noted}
-use Rattle.unite_equations.specs.Pointed.{noted-stays}
-use Rattle.unite_equations.specs.Joins.{Joining, joined-stands}
+use Rattle.unite_nodes.specs.declared.Notes.{Notes}
+use Rattle.unite_nodes.specs.Joined.{with-counts, Out, out, joined}
+use Rattle.unite_nodes.specs.Grown.{Grown, joined-grown}
+use Rattle.unite_nodes.specs.Found.{Noted}
+use Rattle.unite_nodes.specs.Pointed.{noted-stays}
+use Rattle.unite_nodes.specs.Joins.{Joining, joined-stands}
 use Rattle.unite.specs.Rooms.{HiddenRoomWithin}
 use Rattle.unite.specs.United.{with-items, hidden-onto, within, ItemsUnited, sorts, functions, HiddenUnitedWithin}
 use Rattle.unite.specs.Standing.{visible-same, stands-more}

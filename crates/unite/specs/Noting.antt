@@ -20,7 +20,7 @@ use Rattle.form.specs.FlatMoves.{move-node}
 use Rattle.clause_translation.specs.declared.Mode.{Mode}
 use Rattle.clause_translation.specs.Translation.{sort-name, function-name, moved, moved-hidden, moved-in}
 use Rattle.unite_items.specs.Absorb.{Absorbed, taken}
-use Rattle.unite_equations.specs.Found.{Noted}
+use Rattle.unite_nodes.specs.Found.{Noted}
 
 -- ---- what moves
 

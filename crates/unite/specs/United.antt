@@ -17,8 +17,8 @@ use Rattle.form.specs.Blocks.{Lies}
 use Rattle.clause_translation.specs.declared.Mode.{Mode}
 use Rattle.clause_translation.specs.Translation.{sort-name, function-name}
 use Rattle.unite_items.specs.Absorb.{Absorbed, AbsorbedWithin}
-use Rattle.unite_equations.specs.Joined.{with-counts}
-use Rattle.unite_equations.specs.Found.{Noted}
+use Rattle.unite_nodes.specs.Joined.{with-counts}
+use Rattle.unite_nodes.specs.Found.{Noted}
 
 -- ---- forms
 

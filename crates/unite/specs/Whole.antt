@@ -22,8 +22,8 @@ use Rattle.clause_translation.specs.declared.Mode.{Mode}
 use Rattle.clause_translation.specs.Translation.{sort-name, function-name}
 use Rattle.clause_translation.specs.MovedLaws.{sort-name-apart, function-name-apart}
 use Rattle.unite_items.specs.Turns.{Room}
-use Rattle.unite_equations.specs.Joined.{with-counts}
-use Rattle.unite_equations.specs.Found.{Noted}
+use Rattle.unite_nodes.specs.Joined.{with-counts}
+use Rattle.unite_nodes.specs.Found.{Noted}
 use Rattle.unite.specs.Rooms.{SlotsRoom, HiddenRoom, Inside, UniteRoom}
 use Rattle.unite.specs.United.{with-items, other-slots, visible-onto, hidden-onto, within, SlotsUnited, VisibleUnited, sorts, functions, HiddenUnited, United}
 use Rattle.unite.specs.InBlock.{inside-as, outside-notes, outside-slots, outside-rows, hidden-room-in}

@@ -12,7 +12,7 @@ use Rattle.form.specs.declared.Made.{Made}
 use Rattle.form.specs.Memory.{part, Kept}
 use Rattle.form.specs.Forms.{Stands}
 use Rattle.form.specs.Blocks.{BlockLaid, Outside, Fits, Makes, MadeThere, MadeIn}
-use Rattle.clause_translation.specs.Translation.{pairs-at}
+use Rattle.clause_pairs.specs.Pairs.{pairs-at}
 
 -- the block has room for two forms that fit, united, and for the notes of both
 pub record BlockRoom (size t : ℕ) (b : Block) : Type 0 where

@@ -1,3 +1,1 @@
-pub mod Agree
-pub mod Runs
 pub mod Turns

@@ -14,8 +14,8 @@ use Rattle.meaning.specs.Lists.{pick}
 use Rattle.form.specs.declared.Form.{Form}
 use Rattle.form.specs.declared.EquationRow.{EquationRow}
 use Rattle.form.specs.Forms.{equation-row-at, equation-words, equation-size}
-use Rattle.unite_equations.specs.declared.Notes.{Notes}
-use Rattle.unite_equations.specs.Joined.{copied, same-run, same-equation, has-equation, with-counts, Out, out, settled, joined-row, joined}
+use Rattle.unite_nodes.specs.declared.Notes.{Notes}
+use Rattle.unite_nodes.specs.Joined.{copied, same-run, same-equation, has-equation, with-counts, Out, out, settled, joined-row, joined}
 
 -- ---- `same_equation`
 

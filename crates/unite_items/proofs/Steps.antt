@@ -13,9 +13,10 @@ use mir.Val.{Fits}
 use Rattle.meaning.specs.Lists.{pick, any, before, union}
 use Rattle.meaning.specs.Origins.{Item, one-item}
 use Rattle.laws.specs.Decides.{items-decided}
+use Rattle.form_sections.specs.SectionLaws.{section-is-word}
 use Rattle.form_rows.specs.declared.Row.{Row}
 use Rattle.form_rows.specs.Rows.{item-of, row-at, row-size}
-use Rattle.form_rows.specs.RowLaws.{section-is-word, length-words}
+use Rattle.form_rows.specs.RowLaws.{length-words}
 use Rattle.form.specs.Memory.{Kept}
 use Rattle.form.specs.Forms.{items-at}
 use Rattle.form.specs.FormLaws.{kept-set, kept-same, kept-is-two, kept-two-swap, kept-two-then, items-same, length-items}

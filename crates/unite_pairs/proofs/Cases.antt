@@ -12,9 +12,9 @@ use Rattle.meaning.specs.Names.{same}
 use Rattle.meaning.specs.Origins.{same-origin, same-sort, same-shape, is-sort, is-function, Shape, function-shape, in-parameter}
 use Rattle.meaning.specs.Checks.{other-origin, other-output, in-one-parameter, both-in-one}
 use Rattle.text_names.specs.Word.{name-of}
+use Rattle.form_sections.specs.declared.Section.{Section}
+use Rattle.form_sections.specs.declared.Section.the-variants.{Export, Hidden, Parameter}
 use Rattle.form_rows.specs.declared.Row.{Row}
-use Rattle.form_rows.specs.declared.Section.{Section}
-use Rattle.form_rows.specs.declared.Section.the-variants.{Export, Hidden, Parameter}
 use Rattle.form_rows.specs.Rows.{sort-of, type-of, section-of, shape-of, origin-of, item-of}
 use Rattle.form_walks.specs.Shapes.{shape-function, by-kind, is-sort-kind, is-function-kind}
 use Rattle.unite_pairs.specs.declared.Test.{Test}

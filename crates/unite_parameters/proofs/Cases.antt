@@ -9,7 +9,7 @@ use lib.ListN.{getD, take}
 use borrow.Author.Needs.{needs}
 use borrow.Author.Tests.{eq-eqb, ne-eqb, lt-ltb, le-ltb}
 use Rattle.meaning.specs.Lists.{pick, any, before, all-among}
-use Rattle.meaning.specs.Names.{Name, same}
+use Rattle.meaning.specs.Names.{Name}
 use Rattle.meaning.specs.Origins.{same-origin, FunctionType, Shape, Item, in-parameter, one-item}
 use Rattle.meaning.specs.Normal.{Visible, origin-of, formals, same-slot, origins-agree, sort-agrees, shape-agrees, types-agree, same-formals, is-parameter-of}
 use Rattle.text_names.specs.Word.{name-of}
@@ -20,7 +20,7 @@ use Rattle.form.specs.Forms.{slot-at, slots-at, items-at, visible-at}
 use Rattle.clause_checks.specs.Searches.{sort-called}
 use Rattle.clause_checks.specs.SortOrigins.{origin-among, origin-there, origin-nowhere}
 use Rattle.form_walks.specs.Shapes.{shape-function, by-kind}
-use Rattle.form_walks.specs.Rows.{Finding, find-start, find-again, nowhere, somewhere, found-below, seek-start, seek-end, seek-again, seek-found}
+use Rattle.form_walks.specs.Rows.{Finding, find-start, find-again, nowhere, somewhere, found-below}
 use Rattle.clause_checks.specs.Walks.{all-pass, inputs-pass, fitting-start, fitting-again, fitting-not, fitting-all, fitting-end}
 use Rattle.unite_parameters.specs.Formals.{missing, at-odds, none-missing, none-at-odds}
 
@@ -177,19 +177,7 @@ module _ (p : Name) (u v : Visible) (a : Bool) (e : a ≡ all-among one-item (fo
     unfolding same-formals
     formals-types r q g = rw (← e, h, ← f, q) g
 
--- ---- its name and its module
-
-module _ (text w : List ℕ) (a b x y : ℕ) (c : Bool) (e : x ≡ getD w a 0) (f : y ≡ getD w b 0) (g : c ≡ same (name-of text x) (name-of text y)) where
-  abbrev alike : Bool
-  alike = same-slot (slot-at text w a) (slot-at text w b)
-
-  pub slot-named : c ≡ false → false ≡ alike
-  unfolding same-slot slot-at
-  slot-named h = rw (← e, ← f, ← g, h)
-
-  pub slot-homed : (z v : ℕ) (r : Bool) → c ≡ true → z ≡ getD w (a + 1) 0 → v ≡ getD w (b + 1) 0 → r ≡ same (name-of text z) (name-of text v) → r ≡ alike
-  unfolding same-slot slot-at
-  slot-homed z v r h i j k = rw (← e, ← f, ← g, h, ← i, ← j) k
+-- ---- whether it is one of f's
 
 module _ (text tape w : List ℕ) (f : Form) (v : Visible) (q : ℕ) (b : Bool)
     (e : b ≡ any (same-slot (slot-at text w q)) (slots-at text w (f .parameters) (f .«parameter_count»))) where
@@ -220,6 +208,4 @@ pub ruleset sorts = (agree-both, agree-first, agree-none, sort-visible, sort-hid
 
 pub ruleset fittings = (fitting-start, fitting-again, fitting-not, fitting-all, fitting-end, needs)
 
-pub ruleset both = (formals-not, formals-back, formals-types, slot-named, slot-homed, parameter-none, parameter-one, needs)
-
-pub ruleset seeks = (seek-start, seek-again, seek-found, seek-end, needs)
+pub ruleset both = (formals-not, formals-back, formals-types, parameter-none, parameter-one, needs)

@@ -4,24 +4,23 @@ use clause_checks::searches::find_sort;
 use clause_checks::sorts::same_origin_at;
 use clause_translation::formals::in_parameter;
 use form::Form;
-use form::SLOT_STEP;
 use form_rows::Row;
-use form_rows::entries::same_word;
 use form_rows::entries::word_at;
 use form_rows::kinds;
 use form_rows::rows::read_row;
 use unite_finding::find_item;
+use unite_slots::has_slot;
 ghost use mathlib.Core.Path.{_≡_};
 ghost use Prim.Native.Nat.{_-_, _^_, _≤_};
 ghost use lib.ListN.{length, take};
-ghost use Rattle.meaning.specs.Lists.{any, all-among};
+ghost use Rattle.meaning.specs.Lists.{all-among};
 ghost use Rattle.meaning.specs.Origins.{one-item};
-ghost use Rattle.meaning.specs.Normal.{origin-of, formals, same-slot, origins-agree, sort-agrees, shape-agrees, types-agree, same-formals, is-parameter-of};
+ghost use Rattle.meaning.specs.Normal.{origin-of, formals, origins-agree, sort-agrees, shape-agrees, types-agree, same-formals, is-parameter-of};
 ghost use Rattle.text_names.specs.Word.{name-of};
 ghost use Rattle.text_names.specs.Joint.{joint};
 ghost use Rattle.form_rows.specs.Rows.{sort-of, shape-of, item-of};
 ghost use Rattle.form.specs.Memory.{part};
-ghost use Rattle.form.specs.Forms.{slot-at, slots-at, items-at, visible-at};
+ghost use Rattle.form.specs.Forms.{slot-at, items-at, visible-at};
 ghost use Rattle.clause_checks.specs.Walks.{inputs-pass};
 ghost use Rattle.unite_parameters.specs.Formals.{missing, at-odds};
 
@@ -238,41 +237,6 @@ fn same_formals(
             return types_agree(library, text, work, t, p, f, g);
         }
         return false;
-    }
-    false
-}
-
-// Are the parameters at places a and b of one name, and declared in one module?
-fn same_slot(library: &[u8], text: &[u8], work: &[u32], a: usize, b: usize) -> bool
-    requires { ⌜ a ≤ 2 ^ 40 ⌝ }
-    requires { ⌜ b ≤ 2 ^ 40 ⌝ }
-    ensures { λ r. ⌜ r ≡ same-slot (slot-at (joint (now (library .entry)) (now (text .entry))) (now (work .entry)) a) (slot-at (joint (now (library .entry)) (now (text .entry))) (now (work .entry)) b) ⌝ }
-{
-    if same_word(library, text, word_at(work, a), word_at(work, b)) {
-        return same_word(library, text, word_at(work, a + 1), word_at(work, b + 1));
-    }
-    false
-}
-
-// Has f a parameter of the name and the module of the one at place q?
-fn has_slot(library: &[u8], text: &[u8], work: &[u32], f: Form, q: usize) -> bool
-    requires { ⌜ q ≤ 2 ^ 40 ⌝ }
-    ensures { λ r. ⌜ r ≡ any (same-slot (slot-at (joint (now (library .entry)) (now (text .entry))) (now (work .entry)) q)) (slots-at (joint (now (library .entry)) (now (text .entry))) (now (work .entry)) (f .parameters) (f .«parameter_count»)) ⌝ }
-{
-    let base = f.parameters;
-    let count = f.parameter_count;
-    let mut i = 0;
-    while i < count {
-        if same_slot(
-            library,
-            text,
-            work,
-            q,
-            base as usize + i as usize * SLOT_STEP,
-        ) {
-            return true;
-        }
-        i += 1;
     }
     false
 }

@@ -1,6 +1,7 @@
 -- `list_pen::put_digits` meets its contract. The digits that are left fall.
 -- Assumes nothing.
-use Rattle.list_pen.proofs.Cases.{cases}
+use Rattle.list_pen.proofs.Cases.{digits-none, digits-one, digits-more}
+use borrow.Author.Needs.{needs}
 use Prim.Native.Nat.{ℕ, _<_}
 use borrow.Fn.Kinds.{In}
 use borrow.Fn.PlainCycle.{Measures, is, falls, and}
@@ -31,16 +32,16 @@ pub +put-digits-spec : {M : Type 1} → statement M
 )
     (put-digits-at t)
     put-digits.Post
-    (λ c. search cases)  -- put-digits-returns
-    (λ c. search cases)  -- put-digits-add-put
-    (λ c. search cases)  -- put-digits-cast-put
-    (λ c κs. search cases)  -- put-digits-put-requires
-    (λ c. search cases)  -- put-digits-same-length
-    (λ c. search cases)  -- put-digits-returns-2
-    (λ c. search cases)  -- put-digits-sub-put-digits
-    (λ c κs. search cases)  -- put-digits-put-digits-requires
-    (λ c. search cases)  -- put-digits-add-put-2
-    (λ c. search cases)  -- put-digits-cast-put-2
-    (λ c κs. search cases)  -- put-digits-put-requires-2
-    (λ c. search cases)  -- put-digits-same-length-2
-    (λ c. search cases)  -- put-digits-returns-3
+    (λ c. search (digits-none, needs))  -- put-digits-returns
+    (λ c. search needs)  -- put-digits-add-put
+    (λ c. search needs)  -- put-digits-cast-put
+    (λ c κs. search needs)  -- put-digits-put-requires
+    (λ c. search needs)  -- put-digits-same-length
+    (λ c. search (digits-one, needs))  -- put-digits-returns-2
+    (λ c. search needs)  -- put-digits-sub-put-digits
+    (λ c κs. search needs)  -- put-digits-put-digits-requires
+    (λ c. search needs)  -- put-digits-add-put-2
+    (λ c. search needs)  -- put-digits-cast-put-2
+    (λ c κs. search needs)  -- put-digits-put-requires-2
+    (λ c. search needs)  -- put-digits-same-length-2
+    (λ c. search (digits-more, needs))  -- put-digits-returns-3

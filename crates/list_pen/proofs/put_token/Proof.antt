@@ -1,6 +1,6 @@
 -- `list_pen::put_token` meets its contract.
 -- Assumes nothing.
-use Rattle.list_pen.proofs.Cases.{cases}
+use Rattle.list_pen.proofs.Cases.{token-left, token-over, token-right}
 use borrow.Author.Needs.{needs}
 use Rattle.list_pen.proofs.put_token.Statement.{statement}
 use Rattle.list_pen.proofs.put_token.Tie as tie
@@ -16,10 +16,10 @@ put-token-spec =
     (λ c. search needs)  -- sub-put-bytes
     (λ c κs. search needs)  -- put-bytes-requires-2
     (λ c. search needs)  -- same-length
-    (λ c. search cases)  -- returns
+    (λ c. search (token-over, needs))  -- returns
     (λ c. search needs)  -- same-length-2
-    (λ c. search cases)  -- returns-2
+    (λ c. search (token-left, needs))  -- returns-2
     (λ c κs. search needs)  -- put-bytes-requires-3
     (λ c. search needs)  -- same-length-3
-    (λ c. search cases)  -- returns-3
+    (λ c. search (token-right, needs))  -- returns-3
     )

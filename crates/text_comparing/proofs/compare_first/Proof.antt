@@ -1,6 +1,6 @@
 -- `text_comparing::compare_first` meets its contract.
 -- Assumes nothing.
-use Rattle.text_comparing.proofs.AtOnce.{cases, digit-so, run-in-front, run-behind, byte-less, byte-more}
+use Rattle.text_comparing.proofs.AtOnce.{not-seen, digit-so, run-in-front, run-behind, byte-less, byte-more}
 use borrow.Author.Needs.{needs}
 use Rattle.text_comparing.proofs.compare_first.Statement.{statement}
 use Rattle.text_comparing.proofs.compare_first.Tie as tie
@@ -20,5 +20,5 @@ compare-first-spec =
     (λ c. search (run-behind, needs))  -- returns-3
     (λ c. search (byte-less, needs))  -- returns-4
     (λ c. search (byte-more, needs))  -- returns-5
-    (λ c. search cases)  -- returns-6
+    (λ c. search (not-seen, needs))  -- returns-6
     )

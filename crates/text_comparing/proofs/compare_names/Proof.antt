@@ -4,7 +4,8 @@ use Prim.Native.Nat.{_-_}
 use mathlib.Core.Path.{_≡_}
 use lib.ListN.{length, drop}
 use Rattle.text_runs.specs.Orders.{compared}
-use Rattle.text_comparing.proofs.AtOnce.{cases}
+use Rattle.text_comparing.proofs.AtOnce.{seen-longer, seen-same, seen-shorter, seen-first, seen-on, seen-less, seen-over-shorter, seen-over-same}
+use borrow.Author.Needs.{needs}
 use Rattle.text_comparing.proofs.compare_names.Statement.{statement}
 use Rattle.text_comparing.proofs.compare_names.Tie as tie
 
@@ -20,16 +21,16 @@ compare-names-spec =
     (tie.spec
     Inv-loop
     μ-loop
-    (λ c. search cases)  -- loop-holds
-    (λ c κs. search cases)  -- plain-end-requires
-    (λ c. search cases)  -- returns
-    (λ c. search cases)  -- returns-2
-    (λ c. search cases)  -- returns-3
-    (λ c κs. search cases)  -- compare-first-requires
-    (λ c. search cases)  -- returns-4
-    (λ c κs. search cases)  -- digits-end-requires
-    (λ c. search cases)  -- loop-less
-    (λ c. search cases)  -- loop-again
-    (λ c. search cases)  -- returns-5
-    (λ c. search cases)  -- returns-6
+    (λ c. search needs)  -- loop-holds
+    (λ c κs. search needs)  -- plain-end-requires
+    (λ c. search (seen-longer, needs))  -- returns
+    (λ c. search (seen-same, needs))  -- returns-2
+    (λ c. search (seen-shorter, needs))  -- returns-3
+    (λ c κs. search needs)  -- compare-first-requires
+    (λ c. search (seen-first, needs))  -- returns-4
+    (λ c κs. search needs)  -- digits-end-requires
+    (λ c. search (seen-less, needs))  -- loop-less
+    (λ c. search (seen-on, needs))  -- loop-again
+    (λ c. search (seen-over-same, needs))  -- returns-5
+    (λ c. search (seen-over-shorter, needs))  -- returns-6
     )

@@ -6,7 +6,7 @@ use lib.ListN.{length, drop}
 use Rattle.text_runs.specs.Runs.{digits-of}
 use borrow.Author.Needs.{needs}
 use Rattle.text_spelling.proofs.Auto.{on, done}
-use Rattle.text_comparing.proofs.AtOnce.{cases, run-on, run-stop, run-over}
+use Rattle.text_comparing.proofs.AtOnce.{run-on, run-stop, run-over}
 use Rattle.text_comparing.proofs.digits_end.Statement.{statement}
 use Rattle.text_comparing.proofs.digits_end.Tie as tie
 
@@ -22,11 +22,11 @@ digits-end-spec =
     (tie.spec
     Inv-loop
     μ-loop
-    (λ c. search cases)  -- loop-holds
-    (λ c. search cases)  -- shared-slice-read-is-digit
-    (λ c κs. search cases)  -- is-digit-requires
-    (λ c. search cases)  -- add-i
-    (λ c. search cases)  -- loop-less
+    (λ c. search needs)  -- loop-holds
+    (λ c. search needs)  -- shared-slice-read-is-digit
+    (λ c κs. search needs)  -- is-digit-requires
+    (λ c. search needs)  -- add-i
+    (λ c. search needs)  -- loop-less
     (λ c. search (on, run-on, needs))  -- loop-again
     (λ c. search (done, run-stop, needs))  -- returns
     (λ c. search (done, run-over, needs))  -- returns-2

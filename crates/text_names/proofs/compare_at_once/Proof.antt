@@ -1,6 +1,6 @@
 -- `text_names::compare_at_once` meets its contract.
 -- Assumes nothing.
-use Rattle.text_names.proofs.Places.{cases}
+use Rattle.text_names.proofs.AtOnce.{cases}
 use borrow.Author.Needs.{needs}
 use Rattle.text_names.proofs.compare_at_once.Statement.{statement}
 use Rattle.text_names.proofs.compare_at_once.Tie as tie

@@ -1,6 +1,6 @@
 -- `text_names::joint::same_between` meets its contract.
 -- Assumes nothing.
-use Rattle.text_names.proofs.Joined.{alone-same}
+use Rattle.text_places.proofs.Places.{alone-same}
 use borrow.Author.Needs.{needs}
 use Rattle.text_names.proofs.joint.same_between.Statement.{statement}
 use Rattle.text_names.proofs.joint.same_between.Tie as tie
