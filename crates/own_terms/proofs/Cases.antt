@@ -19,7 +19,7 @@ use Rattle.own_finding.specs.Known.{variable-called, function-called}
 use Rattle.own_finding.specs.Arguments.{node-word, arguments-of, closers-of, ends-at}
 use Rattle.own_terms.specs.declared.Answer.{Answer}
 use Rattle.own_terms.specs.declared.Answer.the-variants.{Sorted, Ill}
-use Rattle.own_terms.specs.Typing.{Out, out, tape-in, items-in, settled, resolved, no-sorts, variable-row, function-row, alone-at, applied-at, further, args-by, term-by, term-at, args-at}
+use Rattle.own_terms.specs.Typing.{Out, out, tape-in, items-in, settled, resolved, no-sorts, variable-row, variable-at, function-row, alone-at, applied-at, further, args-by, term-by, term-at, args-at}
 
 -- ---- one node
 
@@ -34,33 +34,27 @@ module _ (k : Known) (row n : ℕ) where
 -- ---- a name: a is its word, v and f are the rows found
 
 module _ (text : List ℕ) (k : Known) (i : ℕ) (w : List ℕ) (a : ℕ) (e : a ≡ word-at (tape-in k w) i) where
-  pub row-of-variable : (v : ℕ) → v ≡ before (variable-called (name-of text a)) (items-in text k w) → v ≡ variable-row text k i w
-  unfolding variable-row
-  row-of-variable v h = rw (← e) h
+  pub row-of-variable : (alone : Bool) (v : ℕ) → alone ≡ true → v ≡ before (variable-called (name-of text a)) (items-in text k w) → v ≡ variable-at text k alone i w
+  unfolding variable-at variable-row pick
+  row-of-variable alone v t h = rw (t, ← e) h
 
   pub row-of-function : (n : ℕ) (sorts : List ℕ) (f : ℕ) → f ≡ before (function-called (name-of text a) (map (sort-of text (tape-in k w)) (take n sorts))) (items-in text k w)
       → f ≡ function-row text k i sorts n w
   unfolding function-row
   row-of-function n sorts f h = rw (← e) h
 
-module _ (text : List ℕ) (k : Known) (i q : ℕ) (w : List ℕ) where
-  module _ (v : ℕ) (h : v ≡ variable-row text k i w) where
-    pub alone-variable : (o : Out) → v < k .count → o ≡ settled k q v 0 (i + 1) (q + 1) w → o ≡ alone-at text k i q w
-    unfolding alone-at pick
-    alone-variable o l t = rw (← h, lt-ltb v (k .count) l) t
+pub row-of-none : (text : List ℕ) (k : Known) (alone : Bool) (i : ℕ) (w : List ℕ) → alone ≡ false → k .count ≡ variable-at text k alone i w
+unfolding variable-at pick
+row-of-none text k alone i w t = rw t
 
-    pub alone-constant : (o : Out) → k .count ≤ v → o ≡ applied-at text k i q 0 no-sorts (i + 1) (q + 1) w → o ≡ alone-at text k i q w
-    unfolding alone-at pick
-    alone-constant o l t = rw (← h, le-ltb v (k .count) l) t
+module _ (text : List ℕ) (k : Known) (i q : ℕ) (w : List ℕ) (n : ℕ) (sorts : List ℕ) (next free : ℕ) (f : ℕ) (g : f ≡ function-row text k i sorts n w) where
+  pub applied-found : (o : Out) → f < k .count → o ≡ settled k q f n next free w → o ≡ applied-at text k i q n sorts next free w
+  unfolding applied-at resolved pick
+  applied-found o m t = rw (← g, lt-ltb f (k .count) m) t
 
-  module _ (n : ℕ) (sorts : List ℕ) (next free : ℕ) (f : ℕ) (g : f ≡ function-row text k i sorts n w) where
-    pub applied-found : (o : Out) → f < k .count → o ≡ settled k q f n next free w → o ≡ applied-at text k i q n sorts next free w
-    unfolding applied-at resolved pick
-    applied-found o m t = rw (← g, lt-ltb f (k .count) m) t
-
-    pub applied-ill : k .count ≤ f → out Ill w ≡ applied-at text k i q n sorts next free w
-    unfolding applied-at resolved pick
-    applied-ill m = rw (← g, le-ltb f (k .count) m)
+  pub applied-ill : k .count ≤ f → out Ill w ≡ applied-at text k i q n sorts next free w
+  unfolding applied-at resolved pick
+  applied-ill m = rw (← g, le-ltb f (k .count) m)
 
 -- ---- how many arguments there are, and where they end
 
@@ -189,4 +183,4 @@ module _ (text : List ℕ) (k : Known) (d i q : ℕ) (w : List ℕ) where
           term-other p = rw (term-any z, lt-ltb i (k .tape) h, lt-ltb q (length w) g, ← e, ne-eqb role alone-role x, ← y, eq-eqb a 0 p)
 
 -- what the answers of this crate hand to `search`
-pub ruleset cases = (settle-done, row-of-variable, row-of-function, alone-variable, alone-constant, applied-found, applied-ill, needs)
+pub ruleset cases = (settle-done, row-of-variable, row-of-none, row-of-function, applied-found, applied-ill, needs)

@@ -6,6 +6,7 @@ use Prim.Native.Nat.{ℕ, zero, suc, _+_, _-_, _^_, _<_, _≤_}
 use native.Mathlib.Numerals.{add-one, sub-one}
 use native.Mathlib.Omega.{arith}
 use borrow.Author.Needs.{needs}
+use borrow.Author.Tests.{lt-ltb, le-ltb}
 use lib.ListN.{length, getD, set}
 use Rattle.meaning.specs.Lists.{pick}
 use Rattle.tape.specs.Tape.{alone-role}
@@ -15,7 +16,7 @@ use Rattle.own_finding.specs.declared.Known.{Known}
 use Rattle.own_finding.specs.Arguments.{arguments-of, closers-of, ends-at}
 use Rattle.own_terms.specs.declared.Answer.{Answer}
 use Rattle.own_terms.specs.declared.Answer.the-variants.{Sorted, Ill}
-use Rattle.own_terms.specs.Typing.{Out, out, no-sorts, alone-at, applied-at, term-at, args-at, known-of, Words, answered, Told, Reached, item-at}
+use Rattle.own_terms.specs.Typing.{Out, out, settled, variable-at, no-sorts, alone-at, applied-at, term-at, args-at, known-of, Words, answered, Told, Reached, item-at}
 use Rattle.own_terms.proofs.Cases.{arguments-few, closers-few, end-fits, Arguing, args-start, args-again, args-end, args-done, args-many, args-ill, term-deep, term-past, term-full, term-alone, term-args, term-other}
 
 -- ---- what is known
@@ -33,13 +34,12 @@ module _ (known : Known) (k : List ℕ) (e : known ≡ known-of k) where
   unfolding known-of
   known-tape n h = rw e h
 
-  pub known-inside : (i : ℕ) → i < getD k 0 0 → i < known .tape
-  unfolding known-of
-  known-inside i h = rw e h
-
   pub known-count : Words k → known .count ≤ 65536
   unfolding known-of
   known-count h = rw e (h .count)
+
+  pub known-row : (v : ℕ) → v < known .count → Words k → v < 65536
+  known-row v l h = let c = known-count h in omega arith
 
   pub known-hidden : Words k → known .hidden ≤ 65536
   unfolding known-of
@@ -91,25 +91,25 @@ answered-ill r next free e = rw e
 
 -- ---- a name
 
-module _ (text k : List ℕ) (i q n : ℕ) (sorts : List ℕ) (next free : ℕ) (w : List ℕ) (alone : Bool) (known : Known) (a : Answer) (u : List ℕ) (r : ℕ) (p : List ℕ)
-    (e : known ≡ known-of k) (t : Told a r p) where
-  pub item-alone : alone ≡ true → out a u ≡ alone-at text known i q w → Reached (item-at text (known-of k) alone i q n sorts next free w) r p u
+module _ (text k : List ℕ) (i q n : ℕ) (sorts : List ℕ) (next free : ℕ) (w : List ℕ) (alone : Bool) (known : Known) (a : Answer) (u : List ℕ) (r : ℕ) (p : List ℕ) (v : ℕ)
+    (e : known ≡ known-of k) (t : Told a r p) (h : v ≡ variable-at text known alone i w) where
+  pub item-variable : v < known .count → out a u ≡ settled known q v n next free w → Reached (item-at text (known-of k) alone i q n sorts next free w) r p u
   unfolding item-at pick
-  item-alone h f = reached (item-at text (known-of k) alone i q n sorts next free w) a u r p (rw (h, ← e) f) t
+  item-variable l f = reached (item-at text (known-of k) alone i q n sorts next free w) a u r p (rw (← e, ← h, lt-ltb v (known .count) l) f) t
 
-  pub item-applied : alone ≡ false → out a u ≡ applied-at text known i q n sorts next free w → Reached (item-at text (known-of k) alone i q n sorts next free w) r p u
+  pub item-function : known .count ≤ v → out a u ≡ applied-at text known i q n sorts next free w → Reached (item-at text (known-of k) alone i q n sorts next free w) r p u
   unfolding item-at pick
-  item-applied h f = reached (item-at text (known-of k) alone i q n sorts next free w) a u r p (rw (h, ← e) f) t
+  item-function l f = reached (item-at text (known-of k) alone i q n sorts next free w) a u r p (rw (← e, ← h, le-ltb v (known .count) l) f) t
 
-pub leaf-told : (text : List ℕ) (k : Known) (i q n : ℕ) (sorts : List ℕ) (next free : ℕ) (w : List ℕ) (r : ℕ) (p u : List ℕ)
-    → Reached (item-at text k true i q n sorts next free w) r p u → Reached (alone-at text k i q w) r p u
-unfolding item-at pick
-leaf-told text k i q n sorts next free w r p u h = h
+pub leaf-told : (text : List ℕ) (k : Known) (i q : ℕ) (w : List ℕ) (r : ℕ) (p u : List ℕ)
+    → Reached (item-at text k true i q 0 no-sorts (i + 1) (q + 1) w) r p u → Reached (alone-at text k i q w) r p u
+unfolding item-at variable-at alone-at pick
+leaf-told text k i q w r p u h = h
 
 pub named-told : (text : List ℕ) (k : Known) (i q n : ℕ) (sorts : List ℕ) (next free : ℕ) (w : List ℕ) (r : ℕ) (p u : List ℕ)
     → Reached (item-at text k false i q n sorts next free w) r p u → Reached (applied-at text k i q n sorts next free w) r p u
-unfolding item-at pick
-named-told text k i q n sorts next free w r p u h = h
+unfolding item-at variable-at pick
+named-told text k i q n sorts next free w r p u h = rw (le-ltb (k .count) (k .count) (omega arith)) at h
 
 -- ---- the arguments
 
@@ -213,4 +213,4 @@ module _ (text k : List ℕ) (known : Known) (d i q : ℕ) (w : List ℕ) (r : �
   whole-sorted z = ap (λ (a : Answer). out a u) (sym (answered-sorted r (getD p 0 0) (getD p 1 0) z)) ∙ reached-out _ r p u h ∙ ap (λ (k : Known). term-at text k d i q w) e
 
 -- what the answers of a level hand to `search`
-pub ruleset deeper = (known-told, known-kept, known-tape, known-inside, known-count, known-hidden, words-tape, words-kept, tell-ill, tell-sorted, reached-word, item-alone, item-applied, leaf-told, named-told, arguments-few, closers-few, deep-open, deep-done, deep-many, deep-ill, deep-again, deep-none, deep-past, deep-full, deep-leaf, deep-args, deep-other, whole-ill, whole-sorted, needs)
+pub ruleset deeper = (known-told, known-kept, known-tape, known-count, known-row, known-hidden, words-tape, words-kept, tell-ill, tell-sorted, reached-word, item-variable, item-function, leaf-told, named-told, arguments-few, closers-few, deep-open, deep-done, deep-many, deep-ill, deep-again, deep-none, deep-past, deep-full, deep-leaf, deep-args, deep-other, whole-ill, whole-sorted, needs)

@@ -124,6 +124,13 @@ pub record Reached (o : Out) (r : ℕ) (p w : List ℕ) : Type 0 where
   pub told : Told (o .answer) r p
   pub memory : w ≡ o .memory
 
--- the name at i, alone or with arguments of the first n sorts
+-- the row of the variable that the name at i is, if it stands alone
+unfoldable pub variable-at : List ℕ → Known → Bool → ℕ → List ℕ → ℕ
+variable-at text k alone i w = pick alone (variable-row text k i w) (k .count)
+
+-- the name at i: a variable if it stands alone, or else a function of the first n sorts
 unfoldable pub item-at : List ℕ → Known → Bool → ℕ → ℕ → ℕ → List ℕ → ℕ → ℕ → List ℕ → Out
-item-at text k alone i q n sorts next free w = pick alone (alone-at text k i q w) (applied-at text k i q n sorts next free w)
+item-at text k alone i q n sorts next free w =
+    let v = variable-at text k alone i w in
+    let function = applied-at text k i q n sorts next free w in
+    pick (ltb v (k .count)) (settled k q v n next free w) function

@@ -18,7 +18,7 @@ ghost use mathlib.Core.Path.{_≡_};
 ghost use Prim.Native.Nat.{_+_, _≤_, _<_};
 ghost use lib.ListN.{length, getD};
 ghost use Rattle.text_names.specs.Joint.{joint};
-ghost use Rattle.own_terms.specs.Typing.{out, settled, variable-row, function-row, alone-at, applied-at, no-sorts, args-at, term-at, known-of, Words, Told, Reached, item-at};
+ghost use Rattle.own_terms.specs.Typing.{out, settled, variable-at, function-row, alone-at, applied-at, no-sorts, args-at, term-at, known-of, Words, Told, Reached, item-at};
 
 // The node at q is of the item of a row, with n arguments.
 fn settle(
@@ -40,16 +40,19 @@ fn settle(
     Answer::Sorted { sort, next, free }
 }
 
-// The row of the variable that the name at i is; `count` if it is none.
-fn variable_row(library: &[u8], text: &[u8], work: &[u32], k: Known, i: usize) -> u32
+// The row of the variable that the name at i is; `count` if it is none, or does not stand alone.
+fn variable_row(library: &[u8], text: &[u8], work: &[u32], k: Known, i: usize, alone: bool) -> u32
     requires { ⌜ k .tape ≤ length (now work) ⌝ }
-    ensures { λ r. ⌜ r ≡ variable-row (joint (now (library .entry)) (now (text .entry))) k i (now (work .entry)) ⌝ }
+    ensures { λ r. ⌜ r ≡ variable-at (joint (now (library .entry)) (now (text .entry))) k alone i (now (work .entry)) ⌝ }
 {
-    let t = k.tape;
-    let b = k.base;
     let n = k.count;
-    let a = name_at(&work[0..t], i);
-    find_variable(library, text, work, t, b, n, a)
+    if alone {
+        let t = k.tape;
+        let b = k.base;
+        let a = name_at(&work[0..t], i);
+        return find_variable(library, text, work, t, b, n, a);
+    }
+    n
 }
 
 // The row of the function that the name at i is with arguments of the first n sorts; `count` if it is none.
@@ -96,19 +99,6 @@ fn type_applied(
     Answer::Ill
 }
 
-// The name at i with no argument: a variable, or else a constant.
-fn type_alone(library: &[u8], text: &[u8], work: &mut [u32], k: Known, i: usize, q: usize) -> Answer
-    requires { ⌜ (k .tape ≤ length (now work)) × (i < k .tape) × (q < length (now work)) × (k .count ≤ 65536) × (k .hidden ≤ 65536) ⌝ }
-    ensures { λ r. ⌜ out r (now (work .exit)) ≡ alone-at (joint (now (library .entry)) (now (text .entry))) k i q (now (work .entry)) ⌝ }
-{
-    let count = k.count;
-    let v = variable_row(library, text, work, k, i);
-    if v < count {
-        return settle(work, k, q, v, 0, i + 1, q + 1);
-    }
-    type_applied(library, text, work, k, i, q, 0, [0; 9], i + 1, q + 1)
-}
-
 // The words of what is known: tape, base, count, visible and hidden.
 fn known_words(k: Known) -> [usize; 5]
     ensures { λ r. ⌜ known-of r ≡ k ⌝ }
@@ -152,7 +142,8 @@ fn tell(a: Answer, places: &mut [usize; 2]) -> usize
     sort as usize + 1
 }
 
-// The name at i with arguments of the first n sorts, or alone; its node is written at q.
+// The name at i: a variable if it stands alone, or else a function of the first n sorts; its node is written at q. The one call of `type_applied`
+// is compiled into it, so that it is too large to be compiled into a level, whatever `alone` is there.
 fn type_item(
     library: &&[u8],
     text: &&[u8],
@@ -165,26 +156,19 @@ fn type_item(
     sorts: &[u32; 9],
     n: usize,
 ) -> usize
-    requires { ⌜ (getD (now k) 0 0 ≤ length (now work)) × Words (now k) × (n ≤ 9) × (i < getD (now k) 0 0) × (q < length (now work)) ⌝ }
+    requires { ⌜ (getD (now k) 0 0 ≤ length (now work)) × Words (now k) × (n ≤ 9) ⌝ }
     ensures { λ r. ⌜ Reached (item-at (joint (now (now (library .entry))) (now (now (text .entry)))) (known-of (now (k .entry))) alone i q n (now (sorts .entry)) (getD (now (places .entry)) 0 0) (getD (now (places .entry)) 1 0) (now (work .entry))) r (now (places .exit)) (now (work .exit)) ⌝ }
 {
     let known = known_of(k);
-    if alone {
-        let a = type_alone(*library, *text, work, known, i, q);
+    let count = known.count;
+    let next = places[0];
+    let free = places[1];
+    let v = variable_row(*library, *text, work, known, i, alone);
+    if v < count {
+        let a = settle(work, known, q, v, n, next, free);
         return tell(a, places);
     }
-    let a = type_applied(
-        *library,
-        *text,
-        work,
-        known,
-        i,
-        q,
-        n,
-        *sorts,
-        places[0],
-        places[1],
-    );
+    let a = type_applied(*library, *text, work, known, i, q, n, *sorts, next, free);
     tell(a, places)
 }
 
@@ -202,6 +186,7 @@ fn type_leaf(
     let none = [0; 9];
     let i = places[0];
     let q = places[1];
+    *places = [i + 1, q + 1];
     type_item(library, text, work, k, places, i, q, true, &none, 0)
 }
 
@@ -253,7 +238,7 @@ fn type_named(
     sorts: &[u32; 9],
     n: usize,
 ) -> usize
-    requires { ⌜ (getD (now k) 0 0 ≤ length (now work)) × Words (now k) × (n ≤ 9) × (i < getD (now k) 0 0) × (q < length (now work)) ⌝ }
+    requires { ⌜ (getD (now k) 0 0 ≤ length (now work)) × Words (now k) × (n ≤ 9) ⌝ }
     ensures { λ r. ⌜ Reached (applied-at (joint (now (now (library .entry))) (now (now (text .entry)))) (known-of (now (k .entry))) i q n (now (sorts .entry)) (getD (now (places .entry)) 0 0) (getD (now (places .entry)) 1 0) (now (work .entry))) r (now (places .exit)) (now (work .exit)) ⌝ }
 {
     type_item(library, text, work, k, places, i, q, false, sorts, n)
@@ -274,7 +259,7 @@ fn type_argument(
     type_deep(library, text, work, k, places, depth)
 }
 
-// The arguments of the name at the place, at most `left` and closed by so many entries.
+// The arguments of the name at the place, at most `left` and closed by so many entries. Where the tape ends is read at each turn: no level keeps it.
 fn type_args(
     library: &&[u8],
     text: &&[u8],
@@ -288,7 +273,6 @@ fn type_args(
     requires { ⌜ (getD (now k) 0 0 ≤ length (now work)) × Words (now k) × (getD (now places) 0 0 < getD (now k) 0 0) × (getD (now places) 1 0 < length (now work)) × (closers ≤ 1) × (left ≤ 9) ⌝ }
     ensures { λ r. ⌜ Reached (args-at (joint (now (now (library .entry))) (now (now (text .entry)))) (known-of (now (k .entry))) depth (getD (now (places .entry)) 0 0) (getD (now (places .entry)) 1 0) closers left ((getD (now (places .entry)) 0 0) + 1) ((getD (now (places .entry)) 1 0) + 1) 0 no-sorts (now (work .entry))) r (now (places .exit)) (now (work .exit)) ⌝ }
 {
-    let t = k[0];
     let head = places[0];
     let place = places[1];
     *places = [head + 1, place + 1];
@@ -296,6 +280,7 @@ fn type_args(
     let mut count = 0;
     let mut known = [0; 9];
     loop {
+        let t = k[0];
         let at = places[0];
         if ends_at(&work[0..t], closers, rest, at) {
             let free = places[1];

@@ -62,11 +62,11 @@ type-deep-below t =
     and 7 type-deep-kinds.ps (falls 7 type-deep-kinds.ps _<_ μ-type-deep t) type-deep.Pre
 
 abbrev type-args-Inv-loop : type-args-lts.InvT-loop
-type-args-Inv-loop library text work₀ k places₀ depth closers left t head place rest₀ count₀ known₀ work places rest count known =
+type-args-Inv-loop library text work₀ k places₀ depth closers left head place rest₀ count₀ known₀ work places rest count known =
     Arguing (joint (now library) (now text)) (known-of k) depth head place closers left (head + 1) (place + 1) 0 no-sorts work₀ rest (getD places 0 0) (getD places 1 0) count known work
 
 abbrev type-args-μ-loop : type-args-lts.MeasureT-loop
-type-args-μ-loop library text work₀ k places₀ depth closers left t head place rest₀ count₀ known₀ work places rest count known =
+type-args-μ-loop library text work₀ k places₀ depth closers left head place rest₀ count₀ known₀ work places rest count known =
     rest
 
 pub +type-args+type-argument+type-deep-spec : {M : Type 1} → statement M
@@ -84,12 +84,12 @@ pub +type-args+type-argument+type-deep-spec : {M : Type 1} → statement M
     type-args.Post
     type-args-Inv-loop
     type-args-μ-loop
-    (λ c. search deeper)  -- type-args-element-copy-out-t
     (λ c. search deeper)  -- type-args-element-copy-out-head
     (λ c. search deeper)  -- type-args-element-copy-out-place
     (λ c. search deeper)  -- type-args-add-t20
     (λ c. search deeper)  -- type-args-add-t25
     (λ c. search deeper)  -- type-args-loop-holds
+    (λ c. search deeper)  -- type-args-element-copy-out-t
     (λ c. search deeper)  -- type-args-element-copy-out-at
     (λ c. search deeper)  -- type-args-sub-ends-at
     (λ c. search deeper)  -- type-args-part-ends-at-start
@@ -98,7 +98,7 @@ pub +type-args+type-argument+type-deep-spec : {M : Type 1} → statement M
     (λ c. search deeper)  -- type-args-element-copy-out-free
     (λ c κs.
     let start = c .before .before .before .before .before .before .before .before .before .before .before .before in
-    let turn = c .before .before .before .before .before .before .loop in
+    let turn = c .before .before .before .before .before .before .before .loop in
     deep-fits _ _ _ _ _ _ _ _ _ _ _ _ _ _ (turn .inv) _ (c .before .before .ends-at .ensures) (c .before .if1 .taken) (start .pre .1 .4) (start .good .1 .1 .0 .0))  -- type-args-behind-requires
     (λ c κs. search deeper)  -- type-args-type-named-requires
     (λ c. search deeper)  -- type-args-same-length
@@ -108,7 +108,7 @@ pub +type-args+type-argument+type-deep-spec : {M : Type 1} → statement M
     (λ c κs. search deeper)  -- type-args-type-argument-requires
     (λ c. search deeper)  -- type-args-same-length-3
     (λ c.
-    let turn = c .before .before .before .before .before .before .before .before .before .before .before .before .loop in
+    let turn = c .before .before .before .before .before .before .before .before .before .before .before .before .before .loop in
     deep-ill _ _ _ _ _ _ _ _ _ _ _ _ _ _ (turn .inv) _ (c .before .before .before .before .before .before .before .before .ends-at .ensures) (c .before .before .before .before .before .before .before .if1 .left) (c .before .before .before .before .before .before .if2 .left) _ _ _ (c .before .before .before .type-argument .ensures) (c .if3 .taken))  -- type-args-returns-3
     (λ c. search deeper)  -- type-args-sub-known
     (λ c. search deeper)  -- type-args-cast-known
@@ -118,7 +118,7 @@ pub +type-args+type-argument+type-deep-spec : {M : Type 1} → statement M
     (λ c. search deeper)  -- type-args-sub-rest
     (λ c. search deeper)  -- type-args-loop-less
     (λ c.
-    let turn = c .before .before .before .before .before .before .before .before .before .before .before .before .loop in
+    let turn = c .before .before .before .before .before .before .before .before .before .before .before .before .before .loop in
     deep-again _ _ _ _ _ _ _ _ _ _ _ _ _ _ (turn .inv) _ (c .before .before .before .before .before .before .before .before .ends-at .ensures) (c .before .before .before .before .before .before .before .if1 .left) (c .before .before .before .before .before .before .if2 .left) _ _ _ (c .before .before .before .type-argument .ensures) _ (c .if3 .left) (search needs) refl)  -- type-args-loop-again
     )
     (λ t. type-argument-lts.spec

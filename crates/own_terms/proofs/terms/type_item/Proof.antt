@@ -9,12 +9,13 @@ type-item-spec =
     tie.close
     (tie.spec
     (λ c κs. search deeper)  -- known-of-requires
-    (λ c κs. search deeper)  -- type-alone-requires
+    (λ c. search deeper)  -- element-copy-out-next
+    (λ c. search deeper)  -- element-copy-out-free
+    (λ c κs. search deeper)  -- variable-row-requires
+    (λ c κs. search deeper)  -- settle-requires
     (λ c κs. search deeper)  -- tell-requires
     (λ c. search deeper)  -- same-length
     (λ c. search deeper)  -- returns
-    (λ c. search deeper)  -- element-copy-out-type-applied
-    (λ c. search deeper)  -- element-copy-out-type-applied-2
     (λ c κs. search deeper)  -- type-applied-requires
     (λ c κs. search deeper)  -- tell-requires-2
     (λ c. search deeper)  -- same-length-2

@@ -13,4 +13,5 @@ variable-row-spec =
     (λ c κs. search needs)  -- name-at-requires
     (λ c κs. search needs)  -- find-variable-requires
     (λ c. search cases)  -- returns
+    (λ c. search cases)  -- returns-2
     )
