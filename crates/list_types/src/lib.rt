@@ -72,7 +72,7 @@ fn is_sort_row(
 }
 
 // The number of the hidden sort declared at d.
-pub fn number_of_sort(
+fn number_of_sort(
     library: &[u8],
     text: &[u8],
     tape: &[u32],
@@ -95,7 +95,7 @@ pub fn number_of_sort(
 }
 
 // The sort s.
-pub fn put_sort(
+fn put_sort(
     out: &mut [u8],
     at: usize,
     limit: usize,
