@@ -1,20 +1,17 @@
 -- One law for each way through the code that writes terms at four places: of the output, the node, the limit and the visible rows.
 use mathlib.Core.Path.{_≡_, refl, sym, ap, _∙_}
 use mathlib.Core.List.{List, [], _∷_}
-use Prim.Native.Nat.{ℕ, _+_, _-_, _%_, _<_, _≤_}
+use Prim.Native.Nat.{ℕ, suc, _+_, _-_, _%_, _<_, _≤_}
+use native.Mathlib.Numerals.{add-one}
+use native.Mathlib.Omega.{arith}
 use borrow.Author.Needs.{needs}
 use lib.ListN.{length, getD}
 use Rattle.list_pen.specs.Pen.{pen, written}
 use Rattle.list_pen.proofs.Laws.{then}
 use Rattle.list_terms.specs.declared.Printed.{Printed}
-use Rattle.list_terms.specs.Terms.{Spelt, item-at, alone, opened, listed, term-at, Shown, reached, Placed}
-use Rattle.list_terms.proofs.TermCases.{Listing, listing-first, listing-none, listing-last, listing-again, item-next, term-leaf, term-deep, term-applied}
-
--- a byte was written, whose limit is l
-mark-content : (l b : ℕ) (p o p′ o′ : List ℕ) → getD p 2 0 ≡ l → Placed (alone b (getD p 1 0)) p o p′ o′
-    → pen (getD p′ 0 0) o′ ≡ written l (b ∷ []) (pen (getD p 0 0) o)
-unfolding alone
-mark-content l b p o p′ o′ e k = k .shown .content ∙ ap (λ (n : ℕ). written n (b ∷ []) (pen (getD p 0 0) o)) e
+use Rattle.list_terms.specs.Terms.{Spelt, spelt, item-at, alone, opened, term-at, Shown, Placed}
+use Rattle.list_terms.specs.Terms.{followed, heads-at, down-at, closed, back-at, Applied, Headed}
+use Rattle.list_terms.proofs.TermCases.{term-leaf, heads-next, down-back, applied-again}
 
 module _ (p o : List ℕ) where
   pub placed : (s : Spelt) (r : Printed) (o′ : List ℕ) → Shown (getD p 2 0) (getD p 0 0) s o r o′
@@ -26,93 +23,157 @@ module _ (p o : List ℕ) where
   unfolding alone
   marked b t o′ e = record { limit = refl; visible = refl; shown = record { node = refl; content = e } }
 
-  pub opened-placed : (s : Spelt) (p₁ o₁ p₂ o₂ : List ℕ) → Placed s p o p₁ o₁ → Placed (alone 40 (getD p₁ 1 0)) p₁ o₁ p₂ o₂ → Placed (opened s) p o p₂ o₂
-  unfolding alone opened
-  opened-placed s p₁ o₁ p₂ o₂ h k = record {
-    limit = k .limit ∙ h .limit;
-    visible = k .visible ∙ h .visible;
-    shown = record {
-      node = k .shown .node ∙ h .shown .node;
-      content =
-          then (getD p 2 0) (s .bytes) (40 ∷ []) (pen (getD p 0 0) o) (pen (getD p₁ 0 0) o₁) (pen (getD p₂ 0 0) o₂) (h .shown .content)
-          (mark-content (getD p 2 0) 40 p₁ o₁ p₂ o₂ (h .limit) k);
-    };
-  }
+  -- nothing
+  unmoved : Placed (spelt [] (getD p 1 0)) p o p o
+  unfolding written
+  unmoved = record { limit = refl; visible = refl; shown = record { node = refl; content = refl } }
 
--- a term
-module _ (text w : List ℕ) (d : ℕ) (p o : List ℕ) where
-  pub deep-none : d ≡ 0 → Placed (term-at text w (getD p 3 0) d (getD p 1 0)) p o p o
-  deep-none z = record { limit = refl; visible = refl; shown = term-deep text w (getD p 3 0) (getD p 2 0) (getD p 0 0) (getD p 1 0) o d z }
-
-  module _ (k : ℕ) (z : d ≡ 0 → ⊥) (e : k ≡ getD w (getD p 1 0) 0 % 16) where
-    pub deep-leaf : (p′ o′ : List ℕ) → k ≡ 0 → Placed (item-at text w (getD p 3 0) (getD p 1 0)) p o p′ o′
-        → Placed (term-at text w (getD p 3 0) d (getD p 1 0)) p o p′ o′
-    deep-leaf p′ o′ y h = rw (← term-leaf text w (getD p 3 0) d (getD p 1 0) z (sym e ∙ y)) h
-
-    pub deep-applied : (p₁ o₁ p₂ o₂ p₃ o₃ : List ℕ) → (k ≡ 0 → ⊥) → Placed (opened (item-at text w (getD p 3 0) (getD p 1 0))) p o p₁ o₁
-        → Placed (listed (term-at text w (getD p₁ 3 0) (d - 1)) k (getD p₁ 1 0)) p₁ o₁ p₂ o₂ → Placed (alone 41 (getD p₂ 1 0)) p₂ o₂ p₃ o₃
-        → Placed (term-at text w (getD p 3 0) d (getD p 1 0)) p o p₃ o₃
-    unfolding alone opened
-    deep-applied p₁ o₁ p₂ o₂ p₃ o₃ y h m c =
-        let i = getD p 1 0 in
-        let n : getD w i 0 % 16 ≡ 0 → ⊥ = λ u. y (e ∙ u) in
-        let next : getD p₁ 1 0 ≡ i + 1 = h .shown .node ∙ item-next text w (getD p 3 0) i n in
-        let inner : Shown (getD p 2 0) (getD p₁ 0 0) (listed (term-at text w (getD p 3 0) (d - 1)) (getD w i 0 % 16) (i + 1)) o₁ (reached p₂) o₂ =
-        rw (← h .limit, ← h .visible, ← next, ← e) (m .shown) in
-        let q =
-        term-applied text w (getD p 3 0) (getD p 2 0) (getD p 0 0) i o d (getD p₁ 0 0) (getD p₃ 0 0) (reached p₂) o₁ o₂ o₃ z n (h .shown .content) inner
-        (mark-content (getD p 2 0) 41 p₂ o₂ p₃ o₃ (m .limit ∙ h .limit) c) in
-        record {
-          limit = c .limit ∙ (m .limit ∙ h .limit);
-          visible = c .visible ∙ (m .visible ∙ h .visible);
-          shown = record { node = c .shown .node ∙ q .node; content = q .content };
-        }
-
--- the arguments: k of them from the places p₀ on. The loop is at the places p with m left, the output is o
-pub record Placing (text w : List ℕ) (d : ℕ) (p₀ o₀ : List ℕ) (k m : ℕ) (p o : List ℕ) : Type 0 where
-  pub limit : getD p 2 0 ≡ getD p₀ 2 0
-  pub visible : getD p 3 0 ≡ getD p₀ 3 0
-  pub listing : Listing (getD p₀ 2 0) (term-at text w (getD p₀ 3 0) d) (getD p₀ 0 0) o₀ k (getD p₀ 1 0) m (getD p 1 0) (getD p 0 0) o
-
-module _ (text w : List ℕ) (d : ℕ) (p₀ o₀ : List ℕ) (k : ℕ) where
-  abbrev one : ℕ → Spelt
-  one = term-at text w (getD p₀ 3 0) d
-
-  pub placing-first : Placing text w d p₀ o₀ k k p₀ o₀
-  placing-first = record { limit = refl; visible = refl; listing = listing-first (getD p₀ 2 0) one (getD p₀ 0 0) o₀ k (getD p₀ 1 0) }
-
-  module _ (m : ℕ) (p o : List ℕ) (v : Placing text w d p₀ o₀ k m p o) where
-    pub placing-none : m ≤ 0 → Placed (listed (term-at text w (getD p₀ 3 0) d) k (getD p₀ 1 0)) p₀ o₀ p o
-    placing-none h = record {
-      limit = v .limit;
-      visible = v .visible;
-      shown = listing-none (getD p₀ 2 0) one (getD p₀ 0 0) o₀ k (getD p₀ 1 0) m (getD p 1 0) (getD p 0 0) o (v .listing) h;
+  module _ (s : Spelt) (p₁ o₁ : List ℕ) (h : Placed s p o p₁ o₁) where
+    placed-then : (t : Spelt) (p₂ o₂ : List ℕ) → Placed t p₁ o₁ p₂ o₂ → Placed (followed s t) p o p₂ o₂
+    unfolding followed
+    placed-then t p₂ o₂ k = record {
+      limit = k .limit ∙ h .limit;
+      visible = k .visible ∙ h .visible;
+      shown = record {
+        node = k .shown .node;
+        content =
+            then (getD p 2 0) (s .bytes) (t .bytes) (pen (getD p 0 0) o) (pen (getD p₁ 0 0) o₁) (pen (getD p₂ 0 0) o₂) (h .shown .content)
+            (k .shown .content ∙ ap (λ (n : ℕ). written n (t .bytes) (pen (getD p₁ 0 0) o₁)) (h .limit));
+      };
     }
 
-    module _ (p₁ o₁ : List ℕ) (h : Placed (term-at text w (getD p 3 0) d (getD p 1 0)) p o p₁ o₁) where
-      turn : Shown (getD p₀ 2 0) (getD p 0 0) (one (getD p 1 0)) o (reached p₁) o₁
-      turn = rw (← v .limit, ← v .visible) (h .shown)
+    pub opened-placed : (p₂ o₂ : List ℕ) → Placed (alone 40 (getD p₁ 1 0)) p₁ o₁ p₂ o₂ → Placed (opened s) p o p₂ o₂
+    unfolding alone opened followed
+    opened-placed p₂ o₂ k = rw (h .shown .node) at (placed-then (alone 40 (getD p₁ 1 0)) p₂ o₂ k)
 
-      pub placing-last : m ≡ 1 → Placed (listed (term-at text w (getD p₀ 3 0) d) k (getD p₀ 1 0)) p₀ o₀ p₁ o₁
-      placing-last z = record {
-        limit = h .limit ∙ v .limit;
-        visible = h .visible ∙ v .visible;
-        shown = listing-last (getD p₀ 2 0) one (getD p₀ 0 0) o₀ k (getD p₀ 1 0) m (getD p 1 0) (getD p 0 0) o (v .listing) (reached p₁) o₁ turn z;
-      }
+-- the way down from the places p₀ on. The loop is at the places p with n brackets open, the output is o
+pub record Heading (text w : List ℕ) (d : ℕ) (p₀ o₀ : List ℕ) (n : ℕ) (p o : List ℕ) : Type 0 where
+  pub size : length o ≡ length o₀
+  pub within : n ≤ d
+  pub applied : Applied w (getD p₀ 1 0) n
+  pub heads : Placed (heads-at text w (getD p₀ 3 0) n (getD p₀ 1 0)) p₀ o₀ p o
 
-      pub placing-again : (p₂ o₂ : List ℕ) → 0 < m → (m ≡ 1 → ⊥) → length o₂ ≡ length o → Placed (alone 44 (getD p₁ 1 0)) p₁ o₁ p₂ o₂
-          → Placing text w d p₀ o₀ k (m - 1) p₂ o₂
-      unfolding alone
-      placing-again p₂ o₂ y z s c =
-          let next : getD p₂ 1 0 ≡ getD p₁ 1 0 = c .shown .node in
-          let kept : getD p₁ 2 0 ≡ getD p₀ 2 0 = h .limit ∙ v .limit in
+module _ (text w : List ℕ) (d : ℕ) (p₀ o₀ : List ℕ) where
+  pub heading-first : Heading text w d p₀ o₀ 0 p₀ o₀
+  unfolding heads-at
+  heading-first = record { size = refl; within = omega arith; applied = λ m y z. omega arith; heads = unmoved p₀ o₀ }
+
+  module _ (n : ℕ) (p o : List ℕ) (v : Heading text w d p₀ o₀ n p o) where
+    heading-down : (p₁ o₁ : List ℕ) → Placed (term-at text w (getD p 3 0) (d - n) (getD p 1 0)) p o p₁ o₁ → Headed text w d n p₀ o₀ p₁ o₁
+    unfolding down-at
+    heading-down p₁ o₁ h =
+        let b = getD p₀ 3 0 in
+        let a = heads-at text w b n (getD p₀ 1 0) in
+        let last = rw (v .heads .visible, v .heads .shown .node) at h in
+        record {
+          within = v .within;
+          applied = v .applied;
+          placed = placed-then p₀ o₀ a p o (v .heads) (term-at text w b (d - n) (a .next)) p₁ o₁ last;
+        }
+
+    pub heading-end : d ≤ n → Headed text w d n p₀ o₀ p o
+    unfolding term-at
+    heading-end y = let z : d - n ≡ 0 = omega arith in heading-down p o (rw z (unmoved p o))
+
+    module _ (k : ℕ) (e : k ≡ getD w (getD p 1 0) 0 % 16) (y : n < d) where
+      pub heading-leaf : (p₁ o₁ : List ℕ) → k ≡ 0 → Placed (item-at text w (getD p 3 0) (getD p 1 0)) p o p₁ o₁ → Headed text w d n p₀ o₀ p₁ o₁
+      heading-leaf p₁ o₁ z h = heading-down p₁ o₁ (rw (← term-leaf text w (getD p 3 0) (d - n) (getD p 1 0) (omega arith) (sym e ∙ z)) h)
+
+      pub heading-again : (p₁ o₁ : List ℕ) → (k ≡ 0 → ⊥) → length o₁ ≡ length o → Placed (opened (item-at text w (getD p 3 0) (getD p 1 0))) p o p₁ o₁
+          → Heading text w d p₀ o₀ (n + 1) p₁ o₁
+      unfolding heads-at
+      heading-again p₁ o₁ z s h =
+          let b = getD p₀ 3 0 in
+          let i = getD p₀ 1 0 in
+          let a = heads-at text w b n i in
+          let next : getD p 1 0 ≡ i + n = v .heads .shown .node ∙ heads-next text w b i n (v .applied) in
+          let some : getD w (i + n) 0 % 16 ≡ 0 → ⊥ = rw (← next) (λ u. z (e ∙ u)) in
+          let last = rw (v .heads .visible, v .heads .shown .node) at h in
           record {
-            limit = c .limit ∙ kept;
-            visible = c .visible ∙ (h .visible ∙ v .visible);
-            listing =
-                rw next
-                (listing-again (getD p₀ 2 0) one (getD p₀ 0 0) o₀ k (getD p₀ 1 0) m (getD p 1 0) (getD p 0 0) o (v .listing) (reached p₁) o₁ turn (getD p₂ 0 0) o₂ y z s
-                (mark-content (getD p₀ 2 0) 44 p₁ o₁ p₂ o₂ kept c));
+            size = s ∙ v .size;
+            within = omega arith;
+            applied = applied-again w i n (v .applied) some;
+            heads = rw add-one (placed-then p₀ o₀ a p o (v .heads) (opened (item-at text w b (a .next))) p₁ o₁ last);
           }
 
-pub ruleset places = (placed, marked, opened-placed, deep-none, deep-leaf, deep-applied, placing-first, placing-none, placing-last, placing-again, needs)
+-- s is to be written from the places p₀ on. The loop is at the places p, where t is left of it, the output is o
+pub record Leaving (s : Spelt) (p₀ o₀ : List ℕ) (t : Spelt) (p o : List ℕ) : Type 0 where
+  pub size : length o ≡ length o₀
+  pub visible : getD p 3 0 ≡ getD p₀ 3 0
+  pub goes-on : (p′ o′ : List ℕ) → Placed t p o p′ o′ → Placed s p₀ o₀ p′ o′
+
+module _ (s : Spelt) (p₀ o₀ : List ℕ) where
+  pub leaving-first : Leaving s p₀ o₀ s p₀ o₀
+  leaving-first = record { size = refl; visible = refl; goes-on = λ p′ o′ h. h }
+
+  leaving-then : (t u : Spelt) (p o p₁ o₁ : List ℕ) → Leaving s p₀ o₀ (followed t u) p o → length o₁ ≡ length o → Placed t p o p₁ o₁ → Leaving s p₀ o₀ u p₁ o₁
+  leaving-then t u p o p₁ o₁ v e h = record {
+    size = e ∙ v .size;
+    visible = h .visible ∙ v .visible;
+    goes-on = λ p′ o′ k. v .goes-on p′ o′ (placed-then p o t p₁ o₁ h u p′ o′ k);
+  }
+
+-- what follows an item's first argument, with m more left
+module _ (text w : List ℕ) (d : ℕ) (s : Spelt) (p₀ o₀ : List ℕ) (m : ℕ) (p o : List ℕ) where
+  module _ (v : Leaving s p₀ o₀ (closed (term-at text w (getD p₀ 3 0) d) m (getD p 1 0)) p o) where
+    pub closing-end : (p₁ o₁ : List ℕ) → m ≤ 0 → Placed (alone 41 (getD p 1 0)) p o p₁ o₁ → Placed s p₀ o₀ p₁ o₁
+    unfolding closed alone
+    closing-end p₁ o₁ y h = let z : m ≡ 0 = omega arith in v .goes-on p₁ o₁ (rw z h)
+
+    pub closing-again : (p₁ o₁ p₂ o₂ : List ℕ) → 0 < m → length o₂ ≡ length o → Placed (alone 44 (getD p 1 0)) p o p₁ o₁
+        → Placed (term-at text w (getD p₁ 3 0) d (getD p₁ 1 0)) p₁ o₁ p₂ o₂
+        → Leaving s p₀ o₀ (closed (term-at text w (getD p₀ 3 0) d) (m - 1) (getD p₂ 1 0)) p₂ o₂
+    unfolding closed alone followed
+    closing-again p₁ o₁ p₂ o₂ y e c h =
+        let x : m ≡ suc (m - 1) = omega arith in
+        let one = term-at text w (getD p₀ 3 0) d in
+        let t = one (getD p 1 0) in
+        let comma = alone 44 (getD p 1 0) in
+        let turn : Placed t p₁ o₁ p₂ o₂ = rw (c .visible ∙ v .visible, c .shown .node) at h in
+        rw (turn .shown .node)
+        (leaving-then s p₀ o₀ (followed comma t) (closed one (m - 1) (t .next)) p o p₂ o₂ (rw x at v) e (placed-then p o comma p₁ o₁ c t p₂ o₂ turn))
+
+-- the way back over the items of n₀ nodes from i on, from the places p₀ on. The loop is at the places p with n brackets open
+pub record Backing (text w : List ℕ) (d i n₀ : ℕ) (p₀ o₀ : List ℕ) (n : ℕ) (p o : List ℕ) : Type 0 where
+  pub within : n ≤ d
+  pub applied : Applied w i n
+  pub leaving : Leaving (back-at text w (getD p₀ 3 0) d n₀ i (getD p₀ 1 0)) p₀ o₀ (back-at text w (getD p₀ 3 0) d n i (getD p 1 0)) p o
+
+module _ (text w : List ℕ) (d n₀ : ℕ) (q u p₀ o₀ : List ℕ) (g : Headed text w d n₀ q u p₀ o₀) where
+  pub backing-first : Backing text w d (getD q 1 0) n₀ p₀ o₀ n₀ p₀ o₀
+  backing-first = record {
+    within = g .within;
+    applied = g .applied;
+    leaving = leaving-first (back-at text w (getD p₀ 3 0) d n₀ (getD q 1 0) (getD p₀ 1 0)) p₀ o₀;
+  }
+
+  pub backing-end : (n : ℕ) (p o : List ℕ) → Backing text w d (getD q 1 0) n₀ p₀ o₀ n p o → n ≤ 0 → Placed (term-at text w (getD q 3 0) d (getD q 1 0)) q u p o
+  unfolding back-at
+  backing-end n p o v y =
+      let z : n ≡ 0 = omega arith in
+      let b = getD q 3 0 in
+      let i = getD q 1 0 in
+      let a = down-at text w b d n₀ i in
+      let back = rw (g .placed .visible, g .placed .shown .node) at (v .leaving .goes-on p o (rw z (unmoved p o))) in
+      rw (down-back text w b d i n₀ (g .within) (g .applied)) (placed-then q u a p₀ o₀ (g .placed) (back-at text w b d n₀ i (a .next)) p o back)
+
+module _ (text w : List ℕ) (d i n₀ : ℕ) (p₀ o₀ : List ℕ) (n : ℕ) (p o : List ℕ) (v : Backing text w d i n₀ p₀ o₀ n p o) (y : 0 < n) where
+  pub backing-some : 0 < getD w (i + (n - 1)) 0 % 16
+  backing-some = let some = v .applied (n - 1) (omega arith) in omega arith
+
+  pub backing-again : (k : ℕ) (p₁ o₁ : List ℕ) → k ≡ getD w (i + (n - 1)) 0 % 16 - 1 → length o₁ ≡ length o
+      → Placed (closed (term-at text w (getD p 3 0) (d - (n - 1) - 1)) k (getD p 1 0)) p o p₁ o₁ → Backing text w d i n₀ p₀ o₀ (n - 1) p₁ o₁
+  unfolding back-at
+  backing-again k p₁ o₁ e s h =
+      let x : n ≡ suc (n - 1) = omega arith in
+      let b = getD p₀ 3 0 in
+      let a = closed (term-at text w b (d - (n - 1) - 1)) (getD w (i + (n - 1)) 0 % 16 - 1) (getD p 1 0) in
+      let turn : Placed a p o p₁ o₁ = rw (v .leaving .visible, e) at h in
+      let whole = back-at text w b d n₀ i (getD p₀ 1 0) in
+      record {
+        within = omega arith;
+        applied = λ m z. v .applied m (omega arith);
+        leaving = rw (turn .shown .node) (leaving-then whole p₀ o₀ a (back-at text w b d (n - 1) i (a .next)) p o p₁ o₁ (rw x at (v .leaving)) s turn);
+      }
+
+pub ruleset places = (placed, marked, opened-placed, heading-first, heading-end, heading-leaf, heading-again, needs)

@@ -1,11 +1,14 @@
 -- One law for each way through the code that writes terms and equations, in the code's terms.
 use mathlib.Core.Path.{_≡_, refl, sym, ap, _∙_}
-use mathlib.Core.List.{List, [], _∷_, _++_, append-assoc}
+use mathlib.Core.Logic.{⊎-elim}
+use mathlib.Core.List.{List, [], _∷_, _++_, append-nil, append-assoc}
 use Prim.Native.Nat.{ℕ, zero, suc, _+_, _-_, _*_, _/_, _%_, _<_, _≤_}
 use native.Mathlib.Numerals.{sub-one}
+use native.Mathlib.Nat.{eq-or-lt-of-le, sub-zero}
 use native.Mathlib.Omega.{arith}
 use borrow.Author.Needs.{needs}
 use borrow.Author.Tests.{eq-eqb, ne-eqb, lt-ltb, le-ltb}
+use lib.Dec.{eqb·suc-zero}
 use lib.ListN.{length, getD, List·getD-eq-default}
 use Rattle.meaning.specs.Lists.{pick}
 use Rattle.meaning.specs.Names.{bytes}
@@ -16,11 +19,22 @@ use Rattle.form.specs.declared.EquationRow.{EquationRow}
 use Rattle.list_pen.specs.Pen.{Pen, pen, written}
 use Rattle.list_pen.proofs.Laws.{then}
 use Rattle.list_terms.specs.declared.Printed.{Printed}
-use Rattle.list_terms.specs.Terms.{Spelt, node-text, item-at, opened, listed, term-by, term-at, sides-at, when-at, rule-at, equation-at, Shown}
+use Rattle.list_terms.specs.Terms.{Spelt, spelt, node-text, item-at, alone, opened, listed, term-by, term-at, sides-at, when-at, rule-at, equation-at}
+use Rattle.list_terms.specs.Terms.{followed, heads-at, down-at, closed, back-at, Shown, Applied}
 
 -- past the end is no name
 pub name-none : (w : List ℕ) (b r : ℕ) → length w ≤ b → 0 ≡ getD w (b + r * row-size + 1) 0
 name-none w b r h = sym (List·getD-eq-default w 0 {n = b + r * row-size + 1} (omega arith))
+
+-- only a node has arguments
+pub node-there : (w : List ℕ) (i : ℕ) → 0 < getD w i 0 % 16 → i < length w
+node-there [] i e = omega arith
+node-there (x ∷ xs) zero e = omega arith
+node-there (x ∷ xs) (suc i) e = let h = node-there xs i e in omega arith
+
+-- one more item has arguments
+pub applied-again : (w : List ℕ) (i n : ℕ) → Applied w i n → (getD w (i + n) 0 % 16 ≡ 0 → ⊥) → Applied w i (n + 1)
+applied-again w i n e h m y = ⊎-elim (λ z. rw z h) (λ z. e m z) (eq-or-lt-of-le {n = m} {m = n} (omega arith))
 
 -- the item at a node
 module _ (l : ℕ) (text w : List ℕ) (b v : ℕ) (p q : Pen) where
@@ -72,20 +86,22 @@ module _ (l : ℕ) (one : ℕ → Spelt) (at : ℕ) (o₀ : List ℕ) (k i : ℕ
             }));
       }
 
+-- a list that a bracket ends is the first of it, and what follows
+listed-closed : (one : ℕ → Spelt) (n i : ℕ)
+    → let a = listed one (suc n) i in followed a (alone 41 (a .next)) ≡ followed (one i) (closed one n (one i .next))
+unfolding listed closed followed alone pick
+listed-closed one zero i = refl
+listed-closed one (suc n) i =
+    let t = one i in
+    let a = listed one (suc n) (t .next) in
+    rw (eqb·suc-zero n, append-assoc (t .bytes) (44 ∷ a .bytes) (41 ∷ []))
+    (ap (λ (s : Spelt). spelt (t .bytes ++ (bytes "," ++ s .bytes)) (s .next)) (listed-closed one n (t .next)))
+
 -- terms
 module _ (text w : List ℕ) (b : ℕ) where
-  -- only a node has arguments
-  node-there : (i : ℕ) → (getD w i 0 % 16 ≡ 0 → ⊥) → i < length w
-  node-there i e = go w i e
-    where
-      go : (w : List ℕ) (i : ℕ) → (getD w i 0 % 16 ≡ 0 → ⊥) → i < length w
-      go [] i e = absurd (e refl)
-      go (x ∷ xs) zero e = omega arith
-      go (x ∷ xs) (suc i) e = let h = go xs i e in omega arith
-
-  pub item-next : (i : ℕ) → (getD w i 0 % 16 ≡ 0 → ⊥) → item-at text w b i .next ≡ i + 1
+  item-next : (i : ℕ) → (getD w i 0 % 16 ≡ 0 → ⊥) → item-at text w b i .next ≡ i + 1
   unfolding item-at pick
-  item-next i e = rw (lt-ltb i (length w) (node-there i e))
+  item-next i e = rw (lt-ltb i (length w) (node-there w i (omega arith)))
 
   -- the arguments stand one less deep
   term-any : (d i : ℕ) → (d ≡ 0 → ⊥) → term-at text w b d i ≡ term-by text w b (listed (term-at text w b (d - 1))) i
@@ -97,6 +113,43 @@ module _ (text w : List ℕ) (b : ℕ) where
   unfolding term-by item-at pick
   term-leaf d i z e = rw (term-any d i z, eq-eqb (getD w i 0 % 16) 0 e)
 
+  -- an item with its bracket, its first argument, and what follows that
+  term-closed : (d i : ℕ) → (d ≡ 0 → ⊥) → (getD w i 0 % 16 ≡ 0 → ⊥)
+      → let t = term-at text w b (d - 1) (i + 1) in
+      term-at text w b d i ≡ followed (opened (item-at text w b i)) (followed t (closed (term-at text w b (d - 1)) (getD w i 0 % 16 - 1) (t .next)))
+  unfolding term-by item-at opened followed alone pick
+  term-closed d i z e =
+      let there = lt-ltb i (length w) (node-there w i (omega arith)) in
+      let name = node-text text w b (getD w i 0) in
+      let one = term-at text w b (d - 1) in
+      let more : suc (getD w i 0 % 16 - 1) ≡ getD w i 0 % 16 = omega arith in
+      let rest = followed (one (i + 1)) (closed one (getD w i 0 % 16 - 1) (one (i + 1) .next)) in
+      let inner = listed one (getD w i 0 % 16) (i + 1) in
+      let h : followed inner (alone 41 (inner .next)) ≡ rest = rw more at (listed-closed one (getD w i 0 % 16 - 1) (i + 1)) in
+      rw (term-any d i z, there, ne-eqb (getD w i 0 % 16) 0 e, append-assoc name (40 ∷ []) (rest .bytes))
+      (ap (λ (s : Spelt). spelt (name ++ (bytes "(" ++ s .bytes)) (s .next)) h)
+
+  -- first arguments stand straight behind their items
+  pub heads-next : (i n : ℕ) → Applied w i n → heads-at text w b n i .next ≡ i + n
+  unfolding heads-at followed opened
+  heads-next i zero e = omega arith
+  heads-next i (suc n) e =
+      let h = heads-next i n (λ m y. e m (omega arith)) in
+      rw h (item-next (i + n) (e n (omega arith)) ∙ omega arith)
+
+  -- down and back is the term, however many brackets are open in between
+  pub down-back : (d i n : ℕ) → n ≤ d → Applied w i n
+      → let a = down-at text w b d n i in term-at text w b d i ≡ followed a (back-at text w b d n i (a .next))
+  unfolding down-at back-at heads-at followed opened
+  down-back d i zero y e = rw (sub-zero, append-nil)
+  down-back d i (suc n) y e =
+      let fewer : Applied w i n = λ m x. e m (omega arith) in
+      let here = e n (omega arith) in
+      let next = heads-next i n fewer in
+      let less : d - suc n ≡ d - n - 1 = omega arith in
+      let h = rw (next, term-closed (d - n) (i + n) (omega arith) here) at (down-back d i n (omega arith) fewer) in
+      rw (next, item-next (i + n) here, less) (simp append-assoc (simp append-assoc at h))
+
   module _ (l at i : ℕ) (o : List ℕ) where
     pub item-there : (v t : ℕ) (o′ : List ℕ) → i < length w → v ≡ getD w i 0 → pen t o′ ≡ written l (node-text text w b v) (pen at o)
         → Shown l at (item-at text w b i) o (record { at = t; next = i + 1 }) o′
@@ -106,29 +159,6 @@ module _ (text w : List ℕ) (b : ℕ) where
     pub item-past : length w ≤ i → Shown l at (item-at text w b i) o (record { at = at; next = i }) o
     unfolding item-at written pick
     item-past h = rw (le-ltb i (length w) h) (record { node = refl; content = refl })
-
-    pub term-deep : (d : ℕ) → d ≡ 0 → Shown l at (term-at text w b d i) o (record { at = at; next = i }) o
-    unfolding term-at written
-    term-deep d z = rw z (record { node = refl; content = refl })
-
-    pub term-applied : (d u x : ℕ) (r : Printed) (o₁ o₂ o₃ : List ℕ) → (d ≡ 0 → ⊥) → (getD w i 0 % 16 ≡ 0 → ⊥)
-        → pen u o₁ ≡ written l (opened (item-at text w b i) .bytes) (pen at o)
-        → Shown l u (listed (term-at text w b (d - 1)) (getD w i 0 % 16) (i + 1)) o₁ r o₂ → pen x o₃ ≡ written l (41 ∷ []) (pen (r .at) o₂)
-        → Shown l at (term-at text w b d i) o (record { at = x; next = r .next }) o₃
-    unfolding term-by item-at opened pick
-    term-applied d u x r o₁ o₂ o₃ z e a c k =
-        let there = lt-ltb i (length w) (node-there i e) in
-        let name = node-text text w b (getD w i 0) in
-        let inner = listed (term-at text w b (d - 1)) (getD w i 0 % 16) (i + 1) .bytes in
-        let f : pen u o₁ ≡ written l (name ++ (40 ∷ [])) (pen at o) = rw there at a in
-        rw (term-any d i z, there, ne-eqb (getD w i 0 % 16) 0 e)
-        (record {
-          node = c .node;
-          content =
-              then l (name ++ (40 ∷ [])) (inner ++ (41 ∷ [])) (pen at o) (pen u o₁) (pen x o₃) f
-              (then l inner (41 ∷ []) (pen u o₁) (pen (r .at) o₂) (pen x o₃) (c .content) k)
-              ∙ ap (λ (bs : List ℕ). written l bs (pen at o)) (append-assoc name (40 ∷ []) (inner ++ (41 ∷ [])));
-        })
 
 module _ (l : ℕ) (text w : List ℕ) (b d at : ℕ) (o : List ℕ) where
   -- two terms

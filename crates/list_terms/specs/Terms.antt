@@ -1,7 +1,7 @@
 -- What the words of nodes are written as, whatever they hold. A node is 32 times its row, 16 more for a hidden item, and its number of
 -- arguments; nodes stand in prefix order. The visible items stand from place b of the memory w on.
 use mathlib.Core.Path.{_≡_}
-use Prim.Native.Nat.{ℕ, zero, suc, _+_, _*_, _/_, _%_}
+use Prim.Native.Nat.{ℕ, zero, suc, _+_, _-_, _*_, _/_, _%_, _<_, _≤_}
 use mathlib.Core.List.{List, [], _∷_, _++_}
 use lib.Dec.{eqb, ltb}
 use lib.ListN.{length, getD}
@@ -61,6 +61,32 @@ unfoldable pub term-at : List ℕ → List ℕ → ℕ → ℕ → ℕ → Spelt
 term-at text w b zero i = spelt [] i
 term-at text w b (suc depth) i = term-by text w b (listed (term-at text w b depth)) i
 
+-- ---- the same term by a loop down the first arguments, each straight behind its item, and one back
+
+-- one behind the other
+unfoldable pub followed : Spelt → Spelt → Spelt
+followed s t = spelt (s .bytes ++ t .bytes) (t .next)
+
+-- the items of n nodes from i on, each with the bracket before its arguments
+unfoldable pub heads-at : List ℕ → List ℕ → ℕ → ℕ → ℕ → Spelt
+heads-at text w b zero i = spelt [] i
+heads-at text w b (suc n) i = let a = heads-at text w b n i in followed a (opened (item-at text w b (a .next)))
+
+-- the way down: n brackets, and the term in the last
+unfoldable pub down-at : List ℕ → List ℕ → ℕ → ℕ → ℕ → ℕ → Spelt
+down-at text w b depth n i = let a = heads-at text w b n i in followed a (term-at text w b (depth - n) (a .next))
+
+-- what follows an item's first argument: n more from node i on, each spelt by `one` behind a comma, and the closing bracket
+unfoldable pub closed : (ℕ → Spelt) → ℕ → ℕ → Spelt
+closed one zero i = spelt (bytes ")") i
+closed one (suc n) i = let t = one i in let a = closed one n (t .next) in spelt (bytes "," ++ (t .bytes ++ a .bytes)) (a .next)
+
+-- the way back: from node j on, what follows the first arguments of the items of n nodes from i on, the last item's first
+unfoldable pub back-at : List ℕ → List ℕ → ℕ → ℕ → ℕ → ℕ → ℕ → Spelt
+back-at text w b depth zero i j = spelt [] j
+back-at text w b depth (suc n) i j =
+    let a = closed (term-at text w b (depth - n - 1)) (getD w (i + n) 0 % 16 - 1) j in followed a (back-at text w b depth n i (a .next))
+
 -- two terms
 unfoldable pub sides-at : List ℕ → List ℕ → ℕ → ℕ → ℕ → Spelt
 sides-at text w b depth i =
@@ -95,3 +121,13 @@ pub record Placed (s : Spelt) (p o p′ o′ : List ℕ) : Type 0 where
   pub limit : getD p′ 2 0 ≡ getD p 2 0
   pub visible : getD p′ 3 0 ≡ getD p 3 0
   pub shown : Shown (getD p 2 0) (getD p 0 0) s o (reached p′) o′
+
+-- the items of n nodes from i on have arguments
+abbrev pub Applied : List ℕ → ℕ → ℕ → Type 0
+Applied w i n = (m : ℕ) → m < n → getD w (i + m) 0 % 16 ≡ 0 → ⊥
+
+-- the way down was written at the places p, where n items with arguments have their brackets open
+pub record Headed (text w : List ℕ) (depth n : ℕ) (p o p′ o′ : List ℕ) : Type 0 where
+  pub within : n ≤ depth
+  pub applied : Applied w (getD p 1 0) n
+  pub placed : Placed (down-at text w (getD p 3 0) depth n (getD p 1 0)) p o p′ o′

@@ -4,12 +4,12 @@ use super::Printed;
 use form_rows::ROW_STEP;
 use form_rows::entries::word_at;
 ghost use mathlib.Core.Path.{_≡_};
-ghost use Prim.Native.Nat.{_+_, _*_, _%_};
+ghost use Prim.Native.Nat.{_+_, _-_, _*_, _%_, _<_};
 ghost use lib.ListN.{getD};
 ghost use Rattle.text_names.specs.Joint.{joint};
 ghost use Rattle.list_pen.specs.Pen.{pen, written};
 ghost use Rattle.form_rows.specs.Rows.{row-size};
-ghost use Rattle.list_terms.specs.Terms.{node-text, item-at, alone, opened, listed, term-at, Shown, Placed};
+ghost use Rattle.list_terms.specs.Terms.{node-text, item-at, alone, opened, closed, term-at, Shown, Placed, Headed};
 
 // The word of the name of a visible item's row; 0 where no rows are.
 fn name_word(work: &[u32], visible: usize, row: u32) -> u32
@@ -98,11 +98,13 @@ fn arguments_at(work: &[u32], i: usize) -> usize
     (word_at(work, i) % 16) as usize
 }
 
-// A term that is one item. It and `put_opened` are apart from `put_deep` so that what is lent to the node's call shares its room there.
-fn put_leaf(out: &mut [u8], library: &&[u8], text: &&[u8], work: &&[u32], places: &mut [usize; 4])
-    ensures { λ _. ⌜ Placed (item-at (joint (now (now (library .entry))) (now (now (text .entry)))) (now (now (work .entry))) (getD (now (places .entry)) 3 0) (getD (now (places .entry)) 1 0)) (now (places .entry)) (now (out .entry)) (now (places .exit)) (now (out .exit)) ⌝ }
+// How many arguments follow the first of an item that has some, n nodes behind node i. Here the slice itself is lent: its length tells
+// that the sum fits.
+fn others_at(work: &[u32], i: usize, n: usize) -> usize
+    requires { ⌜ 0 < getD (now work) (i + n) 0 % 16 ⌝ }
+    ensures { λ r. ⌜ r ≡ getD (now (work .entry)) (i + n) 0 % 16 - 1 ⌝ }
 {
-    put_node(out, library, text, work, places);
+    arguments_at(work, i + n) - 1
 }
 
 // An item that has arguments, and the bracket before them.
@@ -113,7 +115,54 @@ fn put_opened(out: &mut [u8], library: &&[u8], text: &&[u8], work: &&[u32], plac
     put_mark(out, places, b'(');
 }
 
-// The term at the node, down to a depth.
+// The items from the node on, each with its bracket, and the first that has no arguments, unless the depth ends before it; how many
+// brackets are open.
+fn put_heads(
+    out: &mut [u8],
+    library: &&[u8],
+    text: &&[u8],
+    work: &&[u32],
+    places: &mut [usize; 4],
+    depth: usize,
+) -> usize
+    ensures { λ n. ⌜ Headed (joint (now (now (library .entry))) (now (now (text .entry)))) (now (now (work .entry))) depth n (now (places .entry)) (now (out .entry)) (now (places .exit)) (now (out .exit)) ⌝ }
+{
+    let mut n = 0;
+    while n < depth {
+        let i = places[1];
+        if arguments_at(*work, i) == 0 {
+            put_node(out, library, text, work, places);
+            return n;
+        }
+        put_opened(out, library, text, work, places);
+        n += 1;
+    }
+    n
+}
+
+// What follows an item's first argument: the others from the node on, `left` of them, each behind a comma, and the closing bracket.
+fn put_more(
+    out: &mut [u8],
+    library: &&[u8],
+    text: &&[u8],
+    work: &&[u32],
+    places: &mut [usize; 4],
+    depth: usize,
+    left: usize,
+)
+    ensures { λ _. ⌜ Placed (closed (term-at (joint (now (now (library .entry))) (now (now (text .entry)))) (now (now (work .entry))) (getD (now (places .entry)) 3 0) depth) left (getD (now (places .entry)) 1 0)) (now (places .entry)) (now (out .entry)) (now (places .exit)) (now (out .exit)) ⌝ }
+{
+    let mut more = left;
+    while 0 < more {
+        put_mark(out, places, b',');
+        put_deep(out, library, text, work, places, depth);
+        more -= 1;
+    }
+    put_mark(out, places, b')');
+}
+
+// The term at the node, down to a depth. First arguments stand straight behind their items, so a loop goes down them and one goes back:
+// only the other arguments take a level.
 fn put_deep(
     out: &mut [u8],
     library: &&[u8],
@@ -124,40 +173,12 @@ fn put_deep(
 )
     ensures { λ _. ⌜ Placed (term-at (joint (now (now (library .entry))) (now (now (text .entry)))) (now (now (work .entry))) (getD (now (places .entry)) 3 0) depth (getD (now (places .entry)) 1 0)) (now (places .entry)) (now (out .entry)) (now (places .exit)) (now (out .exit)) ⌝ }
 {
-    if depth == 0 {
-        return;
-    }
     let i = places[1];
-    let left = arguments_at(*work, i);
-    if left == 0 {
-        put_leaf(out, library, text, work, places);
-        return;
-    }
-    put_opened(out, library, text, work, places);
-    put_arguments(out, library, text, work, places, depth - 1, left);
-    put_mark(out, places, b')');
-}
-
-// The terms from the node on, `left` of them, with commas between.
-fn put_arguments(
-    out: &mut [u8],
-    library: &&[u8],
-    text: &&[u8],
-    work: &&[u32],
-    places: &mut [usize; 4],
-    depth: usize,
-    left: usize,
-)
-    ensures { λ _. ⌜ Placed (listed (term-at (joint (now (now (library .entry))) (now (now (text .entry)))) (now (now (work .entry))) (getD (now (places .entry)) 3 0) depth) left (getD (now (places .entry)) 1 0)) (now (places .entry)) (now (out .entry)) (now (places .exit)) (now (out .exit)) ⌝ }
-{
-    let mut more = left;
-    while 0 < more {
-        put_deep(out, library, text, work, places, depth);
-        if more == 1 {
-            return;
-        }
-        put_mark(out, places, b',');
-        more -= 1;
+    let mut n = put_heads(out, library, text, work, places, depth);
+    while 0 < n {
+        n -= 1;
+        let left = others_at(*work, i, n);
+        put_more(out, library, text, work, places, depth - n - 1, left);
     }
 }
 

@@ -7,11 +7,11 @@ use native.Mathlib.Numerals.{sub-one}
 use native.Mathlib.Omega.{arith}
 use borrow.Author.Needs.{needs}
 use borrow.Author.Tests.{eq-eqb, ne-eqb, lt-ltb, le-ltb, ltb-true, ltb-false}
-use lib.Dec.{eqb, ltb}
+use lib.Dec.{ltb}
 use lib.ListN.{length, getD, set, take, drop, length-take, length-drop, List·getD-eq-default}
 use Rattle.meaning.specs.Lists.{pick, before}
 use Rattle.text_names.specs.Word.{name-of}
-use Rattle.tape.specs.Tape.{alone-role, head-role, prefix-role, infix-role}
+use Rattle.tape.specs.Tape.{alone-role}
 use Rattle.form_rows.specs.Entries.{role-at, word-at}
 use Rattle.form_rows.specs.Rows.{sort-of, words-from, row-at, row-size}
 use Rattle.own_finding.specs.declared.Known.{Known}
@@ -56,33 +56,11 @@ module _ (text : List ℕ) (k : Known) (i q : ℕ) (w : List ℕ) (n : ℕ) (sor
   unfolding applied-at resolved pick
   applied-ill m = rw (← g, le-ltb f (k .count) m)
 
--- ---- how many arguments there are, and where they end
+-- ---- where the arguments end: what closes them is on the tape
 
-module _ (role : ℕ) where
-  pub arguments-few : (a : ℕ) → a ≡ arguments-of role → a ≤ 9
-  unfolding arguments-of pick
-  arguments-few a e = rw e (go (eqb role head-role) (eqb role prefix-role) (eqb role infix-role))
-    where
-      go : (x y z : Bool) → pick x 9 (pick y 1 (pick z 2 0)) ≤ 9
-      go true y z = omega arith
-      go false true z = omega arith
-      go false false true = omega arith
-      go false false false = omega arith
-
-  pub closers-few : (c : ℕ) → c ≡ closers-of role → c ≤ 1
-  unfolding closers-of pick
-  closers-few c e = rw e (go (eqb role head-role))
-    where
-      go : (x : Bool) → pick x 1 0 ≤ 1
-      go true = omega arith
-      go false = omega arith
-
--- what closes them is on the tape
-pub end-fits : (k : Known) (w : List ℕ) (c left i : ℕ) (b : Bool) → b ≡ ends-at (tape-in k w) c left i → b ≡ true → c ≤ 1 → length w < 2 ^ 64 → (c ≡ 0 → ⊥) → i + c < 2 ^ 64
+pub end-fits : (k : Known) (w : List ℕ) (left i : ℕ) (b : Bool) → b ≡ ends-at (tape-in k w) 1 left i → b ≡ true → length w < 2 ^ 64 → i + 1 < 2 ^ 64
 unfolding ends-at pick
-end-fits k w zero left i b e t h g f = absurd (f refl)
-end-fits k w (suc (suc c)) left i b e t h g f = absurd (omega arith)
-end-fits k w (suc zero) left i b e t h g f = go (ltb i (length (tape-in k w))) refl
+end-fits k w left i b e t g = go (ltb i (length (tape-in k w))) refl
   where
     go : (x : Bool) → ltb i (length (tape-in k w)) ≡ x → i + 1 < 2 ^ 64
     go true d = let l = ltb-true i (length (tape-in k w)) d in omega (arith, length-take (k .tape - 0) (drop 0 w), length-drop 0 w)

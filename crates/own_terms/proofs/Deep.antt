@@ -2,22 +2,25 @@
 use mathlib.Core.Path.{_≡_, refl, sym, ap, _∙_}
 use mathlib.Core.Bool.{Bool, true, false}
 use mathlib.Core.List.{List, [], _∷_}
-use Prim.Native.Nat.{ℕ, zero, suc, _+_, _-_, _^_, _<_, _≤_}
+use Prim.Native.Nat.{ℕ, zero, suc, _+_, _-_, _*_, _/_, _%_, _^_, _<_, _≤_}
 use native.Mathlib.Numerals.{add-one, sub-one}
+use native.Mathlib.Nat.{add-zero, pow-suc}
 use native.Mathlib.Omega.{arith}
 use borrow.Author.Needs.{needs}
-use borrow.Author.Tests.{lt-ltb, le-ltb}
+use borrow.Author.Tests.{ne-eqb, lt-ltb, le-ltb}
 use lib.ListN.{length, getD, set}
+use lib.Pow.{pow-pos}
 use Rattle.meaning.specs.Lists.{pick}
-use Rattle.tape.specs.Tape.{alone-role}
+use Rattle.tape.specs.Tape.{alone-role, head-role}
 use Rattle.form_rows.specs.Entries.{role-at}
 use Rattle.form.specs.Memory.{part}
 use Rattle.own_finding.specs.declared.Known.{Known}
 use Rattle.own_finding.specs.Arguments.{arguments-of, closers-of, ends-at}
 use Rattle.own_terms.specs.declared.Answer.{Answer}
 use Rattle.own_terms.specs.declared.Answer.the-variants.{Sorted, Ill}
-use Rattle.own_terms.specs.Typing.{Out, out, settled, variable-at, no-sorts, alone-at, applied-at, term-at, args-at, known-of, Words, answered, Told, Reached, item-at}
-use Rattle.own_terms.proofs.Cases.{arguments-few, closers-few, end-fits, Arguing, args-start, args-again, args-end, args-done, args-many, args-ill, term-deep, term-past, term-full, term-alone, term-args, term-other}
+use Rattle.own_terms.specs.Typing.{Out, out, settled, variable-at, no-sorts, alone-at, applied-at, further, args-by, term-at, args-at, operated, operated-row, operands-at, operators-in, returned, Backed, stepped, shortened, Ended, Operators, known-of, Words, answered, Told, Reached, item-at}
+use Rattle.own_terms.proofs.Operators.{operands-counted, doubled, halved, halved-some}
+use Rattle.own_terms.proofs.Cases.{end-fits, Arguing, args-start, args-again, args-end, args-done, args-many, args-ill, term-deep, term-past, term-full, term-alone, term-args, term-other}
 
 -- ---- what is known
 
@@ -101,109 +104,367 @@ module _ (text k : List ℕ) (i q n : ℕ) (sorts : List ℕ) (next free : ℕ) 
   unfolding item-at pick
   item-function l f = reached (item-at text (known-of k) alone i q n sorts next free w) a u r p (rw (← e, ← h, le-ltb v (known .count) l) f) t
 
-pub leaf-told : (text : List ℕ) (k : Known) (i q : ℕ) (w : List ℕ) (r : ℕ) (p u : List ℕ)
-    → Reached (item-at text k true i q 0 no-sorts (i + 1) (q + 1) w) r p u → Reached (alone-at text k i q w) r p u
+pub leaf-told : (text : List ℕ) (k : Known) (i q : ℕ) (sorts w : List ℕ) (r : ℕ) (p u : List ℕ) → sorts ≡ no-sorts
+    → Reached (item-at text k true i q 0 sorts (i + 1) (q + 1) w) r p u → Reached (alone-at text k i q w) r p u
 unfolding item-at variable-at alone-at pick
-leaf-told text k i q w r p u h = h
+leaf-told text k i q sorts w r p u e h = rw e at h
 
 pub named-told : (text : List ℕ) (k : Known) (i q n : ℕ) (sorts : List ℕ) (next free : ℕ) (w : List ℕ) (r : ℕ) (p u : List ℕ)
     → Reached (item-at text k false i q n sorts next free w) r p u → Reached (applied-at text k i q n sorts next free w) r p u
 unfolding item-at variable-at pick
 named-told text k i q n sorts next free w r p u h = rw (le-ltb (k .count) (k .count) (omega arith)) at h
 
--- ---- the arguments
+-- ---- the arguments, n of which are there
 
-module _ (text k : List ℕ) (d head place c left₀ : ℕ) (w₀ : List ℕ) where
-  abbrev Deep : ℕ → ℕ → ℕ → ℕ → List ℕ → List ℕ → Type 0
-  Deep left i q n sorts w = Arguing text (known-of k) d head place c left₀ (head + 1) (place + 1) 0 no-sorts w₀ left i q n sorts w
+module _ (text k : List ℕ) (d head place : ℕ) (w₀ : List ℕ) where
+  abbrev Deep : ℕ → ℕ → ℕ → List ℕ → List ℕ → Type 0
+  Deep n i q sorts w = Arguing text (known-of k) d head place 1 9 (head + 1) (place + 1) 0 no-sorts w₀ (9 - n) i q n sorts w
 
   abbrev wanted : Out
-  wanted = args-at text (known-of k) d head place c left₀ (head + 1) (place + 1) 0 no-sorts w₀
+  wanted = args-at text (known-of k) d head place 1 9 (head + 1) (place + 1) 0 no-sorts w₀
 
-  pub deep-open : left₀ ≤ 9 → Deep left₀ (head + 1) (place + 1) 0 no-sorts w₀
-  deep-open h = args-start text (known-of k) d head place c left₀ (head + 1) (place + 1) 0 no-sorts w₀ (omega arith)
+  pub deep-open : (sorts : List ℕ) → sorts ≡ no-sorts → Deep 0 (head + 1) (place + 1) sorts w₀
+  deep-open sorts e = rw e (args-start text (known-of k) d head place 1 9 (head + 1) (place + 1) 0 no-sorts w₀ (omega arith))
 
-  module _ (left i q n : ℕ) (sorts w : List ℕ) (inv : Deep left i q n sorts w) (b : Bool) (e : b ≡ ends-at (part w 0 (getD k 0 0)) c left i) where
-    pub deep-fits : b ≡ true → c ≤ 1 → length w₀ < 2 ^ 64 → (c ≡ 0 → ⊥) → i + c < 2 ^ 64
+  module _ (n i q : ℕ) (sorts w : List ℕ) (inv : Deep n i q sorts w) (b : Bool) (e : b ≡ ends-at (part w 0 (getD k 0 0)) 1 (9 - n) i) where
+    pub deep-fits : b ≡ true → length w₀ < 2 ^ 64 → i + 1 < 2 ^ 64
     unfolding known-of
-    deep-fits z h f g = end-fits (known-of k) w c left i b e z h (omega (arith, inv .size)) g
+    deep-fits z f = end-fits (known-of k) w (9 - n) i b e z (omega (arith, inv .size))
 
-    pub deep-done : (end r : ℕ) (p u : List ℕ) → b ≡ true → end ≡ i + c → Reached (applied-at text (known-of k) head place n sorts end q w) r p u → Reached wanted r p u
+    pub deep-done : (end r : ℕ) (p u : List ℕ) → b ≡ true → end ≡ i + 1 → Reached (applied-at text (known-of k) head place n sorts end q w) r p u
+        → Reached wanted r p u
     unfolding known-of
     deep-done end r p u z f h =
-        let o = applied-at text (known-of k) head place n sorts (i + c) q w in
+        let o = applied-at text (known-of k) head place n sorts (i + 1) q w in
         reached-as o wanted r p u
-        (args-end text (known-of k) d head place c left₀ (head + 1) (place + 1) 0 no-sorts w₀ left i q n sorts w inv o
-        (args-done text (known-of k) d head place c i q n sorts w left b o e z refl))
+        (args-end text (known-of k) d head place 1 9 (head + 1) (place + 1) 0 no-sorts w₀ (9 - n) i q n sorts w inv o
+        (args-done text (known-of k) d head place 1 i q n sorts w (9 - n) b o e z refl))
         (rw f at h)
 
     module _ (z : b ≡ false) where
-      pub deep-many : (p : List ℕ) → left ≡ 0 → Reached wanted 0 p w
+      pub deep-many : (p : List ℕ) → n ≡ 9 → Reached wanted 0 p w
       unfolding known-of
       deep-many p y =
           reached-ill wanted p w
-          (args-end text (known-of k) d head place c left₀ (head + 1) (place + 1) 0 no-sorts w₀ left i q n sorts w inv (out Ill w)
-          (args-many text (known-of k) d head place c i q n sorts w left b e z y))
+          (args-end text (known-of k) d head place 1 9 (head + 1) (place + 1) 0 no-sorts w₀ (9 - n) i q n sorts w inv (out Ill w)
+          (args-many text (known-of k) d head place 1 i q n sorts w (9 - n) b e z (omega arith)))
 
-      module _ (y : left ≡ 0 → ⊥) (r : ℕ) (p u : List ℕ) (h : Reached (term-at text (known-of k) d i q w) r p u) where
+      module _ (y : n ≡ 9 → ⊥) (r : ℕ) (p u : List ℕ) (h : Reached (term-at text (known-of k) d i q w) r p u) where
         abbrev answer : Answer
         answer = answered r (getD p 0 0) (getD p 1 0)
+
+        more-fit : 9 - n ≡ 0 → ⊥
+        more-fit x = omega (arith, inv .few)
 
         pub deep-ill : r ≡ 0 → Reached wanted 0 p u
         unfolding known-of
         deep-ill x =
             reached-ill wanted p u
-            (args-end text (known-of k) d head place c left₀ (head + 1) (place + 1) 0 no-sorts w₀ left i q n sorts w inv (out Ill u)
-            (args-ill text (known-of k) d head place c i q n sorts w left b e z answer u (reached-out _ r p u h) y (answered-ill r (getD p 0 0) (getD p 1 0) x)))
+            (args-end text (known-of k) d head place 1 9 (head + 1) (place + 1) 0 no-sorts w₀ (9 - n) i q n sorts w inv (out Ill u)
+            (args-ill text (known-of k) d head place 1 i q n sorts w (9 - n) b e z answer u (reached-out _ r p u h) more-fit
+            (answered-ill r (getD p 0 0) (getD p 1 0) x)))
 
-        pub deep-again : (more : List ℕ) → (r ≡ 0 → ⊥) → length u ≡ length w → more ≡ set sorts n (r - 1)
-            → Deep (left - 1) (getD p 0 0) (getD p 1 0) (n + 1) more u
+        pub deep-again : (more : List ℕ) → (r ≡ 0 → ⊥) → length u ≡ length w → more ≡ set sorts n (r - 1) → Deep (n + 1) (getD p 0 0) (getD p 1 0) more u
         unfolding known-of
         deep-again more x l m =
-            args-again text (known-of k) d head place c left₀ (head + 1) (place + 1) 0 no-sorts w₀ left i q n sorts w inv b answer u (r - 1) (getD p 0 0) (getD p 1 0) more e z y
+            let less : 9 - (n + 1) ≡ 9 - n - 1 = omega arith in
+            rw less
+            (args-again text (known-of k) d head place 1 9 (head + 1) (place + 1) 0 no-sorts w₀ (9 - n) i q n sorts w inv b answer u
+            (r - 1) (getD p 0 0) (getD p 1 0) more e z more-fit
             (reached-out _ r p u h)
             (answered-sorted r (getD p 0 0) (getD p 1 0) x)
             l
-            m
+            m)
+
+-- ---- an operator
+
+module _ (text : List ℕ) (k : Known) (d i q word first next free : ℕ) (w : List ℕ) (y : first ≡ 0 → ⊥) where
+  operated-one : word % 2 ≡ 0 → applied-at text k i q 1 (set no-sorts 0 (first - 1)) next free w ≡ operated text k d word i q (out (answered first next free) w)
+  unfolding operated further args-by ends-at pick
+  operated-one b = rw (answered-sorted first next free y, b, add-zero next)
+
+  -- the second operand came out so
+  module _ (b : word % 2 ≡ 0 → ⊥) (a : Answer) (u : List ℕ) (e : out a u ≡ term-at text k d next free w) where
+    operated-two : further (args-by k (term-at text k d) (applied-at text k i q) 0 0) 1 (set no-sorts 0 (first - 1)) a u
+        ≡ operated text k d word i q (out (answered first next free) w)
+    unfolding operated further args-by ends-at pick
+    operated-two = let odd : word % 2 ≡ 1 = omega arith in rw (answered-sorted first next free y, odd, ← e)
+
+    operated-ill : a ≡ Ill → out Ill u ≡ operated text k d word i q (out (answered first next free) w)
+    unfolding further
+    operated-ill x = rw x at operated-two
+
+    operated-both : (t next′ free′ : ℕ) → a ≡ Sorted t next′ free′
+        → applied-at text k i q 2 (set (set no-sorts 0 (first - 1)) 1 t) next′ free′ u ≡ operated text k d word i q (out (answered first next free) w)
+    unfolding further args-by ends-at pick
+    operated-both t next′ free′ x = rw (x, add-zero next′) at operated-two
+
+module _ (text k : List ℕ) (d i q word first : ℕ) (p w : List ℕ) (y : first ≡ 0 → ⊥) where
+  abbrev combined : Out
+  combined = operated text (known-of k) d word i q (out (answered first (getD p 0 0) (getD p 1 0)) w)
+
+  pub operator-prefix : (more : List ℕ) (r : ℕ) (p′ u : List ℕ) → word % 2 ≡ 0 → more ≡ set no-sorts 0 (first - 1)
+      → Reached (applied-at text (known-of k) i q 1 more (getD p 0 0) (getD p 1 0) w) r p′ u → Reached combined r p′ u
+  operator-prefix more r p′ u b m h = reached-as _ combined r p′ u (operated-one text (known-of k) d i q word first (getD p 0 0) (getD p 1 0) w y b) (rw m at h)
+
+  module _ (b : word % 2 ≡ 0 → ⊥) (second : ℕ) (p′ u : List ℕ) (h : Reached (term-at text (known-of k) d (getD p 0 0) (getD p 1 0) w) second p′ u) where
+    pub operator-ill : second ≡ 0 → Reached combined 0 p′ u
+    operator-ill x =
+        reached-ill combined p′ u
+        (operated-ill text (known-of k) d i q word first (getD p 0 0) (getD p 1 0) w y b _ u (reached-out _ second p′ u h)
+        (answered-ill second (getD p′ 0 0) (getD p′ 1 0) x))
+
+    pub operator-infix : (more : List ℕ) (r : ℕ) (p″ v : List ℕ) → (second ≡ 0 → ⊥) → more ≡ set (set no-sorts 0 (first - 1)) 1 (second - 1)
+        → Reached (applied-at text (known-of k) i q 2 more (getD p′ 0 0) (getD p′ 1 0) u) r p″ v → Reached combined r p″ v
+    operator-infix more r p″ v x m g =
+        reached-as _ combined r p″ v
+        (operated-both text (known-of k) d i q word first (getD p 0 0) (getD p 1 0) w y b _ u (reached-out _ second p′ u h)
+        (second - 1) (getD p′ 0 0) (getD p′ 1 0)
+        (answered-sorted second (getD p′ 0 0) (getD p′ 1 0) x))
+        (rw m at g)
+
+-- ---- the operators, from the last to the first
+
+few-left : (n word : ℕ) → 2 ^ n ≤ word → word ≤ 1 → n ≡ 0
+few-left zero word l h = refl
+few-left (suc n) word l h = let some = pow-pos n in absurd (omega (arith, l, pow-suc 2 n, some))
+
+more-left : (n word : ℕ) → word < 2 ^ (n + 1) → 1 < word → 0 < n
+more-left zero word b h = absurd (omega arith)
+more-left (suc n) word b h = omega arith
+
+row-ill : (text : List ℕ) (k : Known) (d i q n word : ℕ) (w : List ℕ) → operated-row text k d i q n word (out Ill w) ≡ out Ill w
+unfolding operated-row operated further
+row-ill text k d i q zero word w = refl
+row-ill text k d i q (suc n) word w = row-ill text k d i q n (word / 2) w
+
+before-last : (i n : ℕ) → i - 1 - n ≡ i - suc n
+before-last i n = omega arith
+
+at-last : (i n : ℕ) → suc n ≤ i → i - suc n + n ≡ i - 1
+at-last i n h = omega arith
+
+deep-last : (d n : ℕ) → d + suc n - n - 1 ≡ d
+deep-last d n = omega arith
+
+-- the last one is typed first
+row-last : (text : List ℕ) (k : Known) (d i q n word : ℕ) (o : Out) → 0 < n → n ≤ i → n ≤ q
+    → operated-row text k (d + n) (i - n) (q - n) n word o
+    ≡ operated-row text k (d + 1 + (n - 1)) (i - 1 - (n - 1)) (q - 1 - (n - 1)) (n - 1) (word / 2) (operated text k d word (i - 1) (q - 1) o)
+unfolding operated-row
+row-last text k d i q zero word o h g f = absurd (omega arith)
+row-last text k d i q (suc n) word o h g f =
+    let one : suc n - 1 ≡ n = omega arith in
+    let total : d + 1 + n ≡ d + suc n = omega arith in
+    rw (one, total, before-last i n, before-last q n, deep-last d n, at-last i n g, at-last q n f)
+
+-- ---- the row, as it is kept
+
+module _ (text : List ℕ) (k : Known) (row : List ℕ) (n : ℕ) (f : n ≤ 63) (l : 2 ^ n ≤ getD row 2 0) (b : getD row 2 0 < 2 ^ (n + 1)) where
+  counted : operators-in row ≡ n
+  counted = halved 64 n (getD row 2 0) (omega arith) l b
+
+  returned-as : (o : Out) → returned text k row o ≡ operated-row text k (getD row 3 0 + n) (getD row 0 0 - n) (getD row 1 0 - n) n (getD row 2 0) o
+  unfolding returned
+  returned-as o = rw counted
+
+pub onward-less : (row : List ℕ) (t : ℕ) → 1 < getD row 2 0 → (getD row 3 0 + operators-in row) * 3 + 1 ≡ t → getD row 3 0 * 3 + 3 < t
+onward-less row t h e = omega (arith, halved-some 63 (getD row 2 0) h)
+
+module _ (k : Known) (d i q : ℕ) (w row : List ℕ) (o : Operators k d i q w row) where
+  row-count : operators-in row ≡ o .n
+  row-count = counted [] k row (o .n) (o .stand .few) (o .stand .low) (o .stand .bits)
+
+  pub row-backed : d < 2 ^ 64 → Backed row
+  row-backed h = record {
+    left = o .n;
+    few = o .stand .few;
+    low = o .stand .low;
+    bits = o .stand .bits;
+    entry = omega (arith, o .entry);
+    place = omega (arith, o .place);
+    depth = omega (arith, o .deep, o .stand .within);
+  }
+
+  pub row-ended : Ended k row w
+  row-ended = o .ended
+
+  pub row-less : (t : ℕ) → d * 3 + 2 ≡ t → (getD row 3 0 + operators-in row) * 3 + 1 < t
+  row-less t e = omega (arith, row-count, o .deep, o .stand .within)
+
+-- what is wanted is what is wanted from here
+pub record Returning (text k row₀ : List ℕ) (first : ℕ) (p₀ w₀ row : List ℕ) (sort : ℕ) (p w : List ℕ) : Type 0 where
+  pub size : length w ≡ length w₀
+  pub back : Backed row
+  pub total : getD row 3 0 + back .left ≡ getD row₀ 3 0 + operators-in row₀
+  pub fits : sort ≤ 4294967296
+  pub rest : returned text (known-of k) row₀ (out (answered first (getD p₀ 0 0) (getD p₀ 1 0)) w₀)
+      ≡ returned text (known-of k) row (out (answered sort (getD p 0 0) (getD p 1 0)) w)
+
+module _ (text k row₀ : List ℕ) (first : ℕ) (p₀ w₀ : List ℕ) where
+  abbrev regained : Out
+  regained = returned text (known-of k) row₀ (out (answered first (getD p₀ 0 0) (getD p₀ 1 0)) w₀)
+
+  pub back-open : first ≤ 4294967296 → Backed row₀ → Returning text k row₀ first p₀ w₀ row₀ first p₀ w₀
+  back-open h b = record {
+    size = refl;
+    back = b;
+    total = ap (λ (n : ℕ). getD row₀ 3 0 + n) (sym (counted text (known-of k) row₀ (b .left) (b .few) (b .low) (b .bits)));
+    fits = h;
+    rest = refl;
+  }
+
+  module _ (row : List ℕ) (sort : ℕ) (p w : List ℕ) (inv : Returning text k row₀ first p₀ w₀ row sort p w) where
+    abbrev left : ℕ
+    left = inv .back .left
+
+    abbrev held : Out
+    held = out (answered sort (getD p 0 0) (getD p 1 0)) w
+
+    rest-as : (o : Out) → returned text (known-of k) row o
+        ≡ operated-row text (known-of k) (getD row 3 0 + left) (getD row 0 0 - left) (getD row 1 0 - left) left (getD row 2 0) o
+    rest-as = returned-as text (known-of k) row left (inv .back .few) (inv .back .low) (inv .back .bits)
+
+    pub back-ill : sort ≡ 0 → Reached regained 0 p w
+    back-ill e =
+        let ill = ap (λ (a : Answer). returned text (known-of k) row (out a w)) (answered-ill sort (getD p 0 0) (getD p 1 0) e) in
+        reached-ill regained p w (sym (inv .rest ∙ ill ∙ rest-as (out Ill w) ∙ row-ill text (known-of k) _ _ _ left (getD row 2 0) w))
+
+    pub back-end : getD row 2 0 ≤ 1 → Reached regained sort p w
+    unfolding operated-row
+    back-end h =
+        let a = answered sort (getD p 0 0) (getD p 1 0) in
+        let none = few-left left (getD row 2 0) (inv .back .low) h in
+        reached regained a w sort p (sym (inv .rest ∙ rest-as (out a w) ∙ rw none)) (record { same = refl; fits = inv .fits })
+
+    module _ (h : 1 < getD row 2 0) where
+      some-left : 0 < left
+      some-left = more-left left (getD row 2 0) (inv .back .bits) h
+
+      pub back-entry : 0 < getD row 0 0
+      back-entry = omega (arith, some-left, inv .back .entry)
+
+      pub back-place : 0 < getD row 1 0
+      back-place = omega (arith, some-left, inv .back .place)
+
+      module _ (row′ : List ℕ) (e : row′ ≡ stepped row) where
+        pub back-less : (t : ℕ) → (getD row₀ 3 0 + operators-in row₀) * 3 + 1 ≡ t → getD row′ 3 0 * 3 + 3 < t
+        unfolding stepped
+        back-less t x = rw e (omega (arith, some-left, inv .total))
+
+        pub back-deeper : getD row′ 3 0 + 1 < 2 ^ 64
+        unfolding stepped
+        back-deeper = rw e (omega (arith, some-left, inv .back .depth))
+
+        module _ (row″ : List ℕ) (e′ : row″ ≡ shortened row′) where
+          pub back-fewer : getD row″ 2 0 < getD row 2 0
+          unfolding stepped shortened
+          back-fewer = rw (e′, e) (omega arith)
+
+          unfoldable shorter : Backed (shortened (stepped row))
+          unfolding stepped shortened
+          shorter =
+              let onward : left ≡ left - 1 + 1 = omega (arith, some-left) in
+              let low : 2 ^ (left - 1 + 1) ≤ getD row 2 0 = rw (← onward) (inv .back .low) in
+              let bits : getD row 2 0 < 2 ^ (left - 1 + 1 + 1) = rw (← onward) (inv .back .bits) in
+              record {
+                left = left - 1;
+                few = omega (arith, inv .back .few);
+                low = omega (arith, low, doubled (left - 1));
+                bits = omega (arith, bits, doubled (left - 1 + 1));
+                entry = omega (arith, inv .back .entry);
+                place = omega (arith, inv .back .place);
+                depth = omega (arith, some-left, inv .back .depth);
+              }
+
+          pub back-again : (r : ℕ) (p′ u : List ℕ) → length u ≡ length w
+              → Reached (operated text (known-of k) (getD row′ 3 0) (getD row′ 2 0) (getD row′ 0 0) (getD row′ 1 0) held) r p′ u
+              → Returning text k row₀ first p₀ w₀ row″ r p′ u
+          unfolding stepped shortened shorter
+          back-again r p′ u z t = rw (e′, e) (again r p′ u z (rw e at t))
+            where
+              again : (r : ℕ) (p′ u : List ℕ) → length u ≡ length w
+                  → Reached (operated text (known-of k) (getD row 3 0) (getD row 2 0) (getD row 0 0 - 1) (getD row 1 0 - 1) held) r p′ u
+                  → Returning text k row₀ first p₀ w₀ (shortened (stepped row)) r p′ u
+              again r p′ u z t =
+                  let total : getD row 3 0 + 1 + (left - 1) ≡ getD row 3 0 + left = omega (arith, some-left) in
+                  let s = shorter in
+                  record {
+                    size = z ∙ inv .size;
+                    back = s;
+                    total = total ∙ inv .total;
+                    fits = t .told .fits;
+                    rest = inv .rest
+                        ∙ rest-as held
+                        ∙ row-last text (known-of k) (getD row 3 0) (getD row 0 0) (getD row 1 0) left (getD row 2 0) held some-left (inv .back .entry) (inv .back .place)
+                        ∙ sym (returned-as text (known-of k) (shortened (stepped row)) (left - 1) (s .few) (s .low) (s .bits) _)
+                        ∙ ap (λ (o : Out). returned text (known-of k) (shortened (stepped row)) o) (sym (reached-out _ r p′ u t));
+                  }
 
 -- ---- the term
 
-module _ (text k : List ℕ) (d : ℕ) (p w : List ℕ) where
+module _ (text k : List ℕ) (d i q : ℕ) (w : List ℕ) where
   abbrev sought : Out
-  sought = term-at text (known-of k) d (getD p 0 0) (getD p 1 0) w
+  sought = term-at text (known-of k) d i q w
 
-  pub deep-none : d ≡ 0 → Reached sought 0 p w
-  deep-none z = reached-ill sought p w (term-deep text (known-of k) d (getD p 0 0) (getD p 1 0) w z)
+  pub deep-none : (p : List ℕ) → d ≡ 0 → Reached sought 0 p w
+  deep-none p z = reached-ill sought p w (term-deep text (known-of k) d i q w z)
 
   module _ (z : d ≡ 0 → ⊥) where
-    pub deep-past : getD k 0 0 ≤ getD p 0 0 → Reached sought 0 p w
+    pub deep-past : (p : List ℕ) → getD k 0 0 ≤ i → Reached sought 0 p w
     unfolding known-of
-    deep-past h = reached-ill sought p w (term-past text (known-of k) d (getD p 0 0) (getD p 1 0) w z h)
+    deep-past p h = reached-ill sought p w (term-past text (known-of k) d i q w z h)
 
-    module _ (h : getD p 0 0 < getD k 0 0) where
-      pub deep-full : length w ≤ getD p 1 0 → Reached sought 0 p w
+    module _ (h : i < getD k 0 0) where
+      pub deep-full : (p : List ℕ) → length w ≤ q → Reached sought 0 p w
       unfolding known-of
-      deep-full g = reached-ill sought p w (term-full text (known-of k) d (getD p 0 0) (getD p 1 0) w z h g)
+      deep-full p g = reached-ill sought p w (term-full text (known-of k) d i q w z h g)
 
-      module _ (g : getD p 1 0 < length w) (role : ℕ) (e : role ≡ role-at (part w 0 (getD k 0 0)) (getD p 0 0)) where
-        pub deep-leaf : (r : ℕ) (p′ u : List ℕ) → role ≡ alone-role → Reached (alone-at text (known-of k) (getD p 0 0) (getD p 1 0) w) r p′ u
+      module _ (g : q < length w) (role : ℕ) (e : role ≡ role-at (part w 0 (getD k 0 0)) i) where
+        pub deep-leaf : (r : ℕ) (p′ u : List ℕ) → role ≡ alone-role → Reached (alone-at text (known-of k) i q w) r p′ u
             → Reached sought r p′ u
         unfolding known-of
         deep-leaf r p′ u y t =
-            let o = alone-at text (known-of k) (getD p 0 0) (getD p 1 0) w in
-            reached-as o sought r p′ u (term-alone text (known-of k) d (getD p 0 0) (getD p 1 0) w z h g role e o y refl) t
+            let o = alone-at text (known-of k) i q w in
+            reached-as o sought r p′ u (term-alone text (known-of k) d i q w z h g role e o y refl) t
 
-        module _ (x : role ≡ alone-role → ⊥) (a : ℕ) (y : a ≡ arguments-of role) where
-          pub deep-args : (c r : ℕ) (p′ u : List ℕ) → c ≡ closers-of role → (a ≡ 0 → ⊥)
-              → Reached (args-at text (known-of k) (d - 1) (getD p 0 0) (getD p 1 0) c a (getD p 0 0 + 1) (getD p 1 0 + 1) 0 no-sorts w) r p′ u → Reached sought r p′ u
-          unfolding known-of
-          deep-args c r p′ u f m t =
-              let o = args-at text (known-of k) (d - 1) (getD p 0 0) (getD p 1 0) c a (getD p 0 0 + 1) (getD p 1 0 + 1) 0 no-sorts w in
-              reached-as o sought r p′ u (term-args text (known-of k) d (getD p 0 0) (getD p 1 0) w z h g role e x a y c o f m refl) t
+        module _ (x : role ≡ alone-role → ⊥) where
+          pub deep-args : (r : ℕ) (p′ u : List ℕ) → role ≡ head-role
+              → Reached (args-at text (known-of k) (d - 1) i q 1 9 (i + 1) (q + 1) 0 no-sorts w) r p′ u
+              → Reached sought r p′ u
+          unfolding known-of arguments-of closers-of pick
+          deep-args r p′ u y t =
+              let o = args-at text (known-of k) (d - 1) i q 1 9 (i + 1) (q + 1) 0 no-sorts w in
+              reached-as o sought r p′ u
+              (term-args text (known-of k) d i q w z h g role e x
+              9 (ap arguments-of (sym y)) 1 o (ap closers-of (sym y)) (λ f. omega arith) refl)
+              t
 
-          pub deep-other : a ≡ 0 → Reached sought 0 p w
-          unfolding known-of
-          deep-other m = reached-ill sought p w (term-other text (known-of k) d (getD p 0 0) (getD p 1 0) w z h g role e x a y m)
+          pub deep-other : (p row : List ℕ) → (role ≡ head-role → ⊥) → getD row 2 0 ≤ 1 → i ≡ getD row 0 0 → q ≡ getD row 1 0 → d ≡ getD row 3 0
+              → Ended (known-of k) row w → Reached sought 0 p w
+          unfolding known-of closers-of pick
+          deep-other p row y f e₀ e₁ e₃ m =
+              let c : 0 ≡ closers-of role = rw (ne-eqb role head-role y) in
+              let a = operands-counted (getD k 0 0) i q w h g role 0 e c (arguments-of role) refl refl in
+              let none : operands-at (getD k 0 0) i q w ≡ 0 = rw (e₀, e₁) (m .none f (λ x. z (e₃ ∙ x))) in
+              reached-ill sought p w (term-other text (known-of k) d i q w z h g role e x (arguments-of role) refl (a ∙ none))
+
+-- a row of operators, and what is behind it
+pub deep-row : (text k : List ℕ) (d i q first : ℕ) (w row p u : List ℕ) (r : ℕ) (p′ v : List ℕ) → Operators (known-of k) d i q w row
+    → Reached (term-at text (known-of k) (getD row 3 0) (getD row 0 0) (getD row 1 0) w) first p u
+    → Reached (returned text (known-of k) row (out (answered first (getD p 0 0) (getD p 1 0)) u)) r p′ v
+    → Reached (term-at text (known-of k) d i q w) r p′ v
+deep-row text k d i q first w row p u r p′ v o t h =
+    let n = o .n in
+    let stand = o .stand in
+    let behind = term-at text (known-of k) (getD row 3 0) (getD row 0 0) (getD row 1 0) w in
+    let deep : getD row 3 0 + n ≡ d = omega (arith, o .deep, stand .within) in
+    let entry : getD row 0 0 - n ≡ i = omega (arith, o .entry) in
+    let place : getD row 1 0 - n ≡ q = omega (arith, o .place) in
+    let same : returned text (known-of k) row behind ≡ term-at text (known-of k) d i q w =
+    returned-as text (known-of k) row n (stand .few) (stand .low) (stand .bits) behind
+    ∙ rw (deep, entry, place, o .deep, o .entry, o .place) (sym (stand .same text)) in
+    reached-as _ (term-at text (known-of k) d i q w) r p′ v (ap (λ (x : Out). returned text (known-of k) row x) (reached-out _ first p u t) ∙ same) h
 
 module _ (text k : List ℕ) (known : Known) (d i q : ℕ) (w : List ℕ) (r : ℕ) (p u : List ℕ) (e : known-of k ≡ known) (h : Reached (term-at text (known-of k) d i q w) r p u) where
   pub whole-ill : r ≡ 0 → out Ill u ≡ term-at text known d i q w
@@ -213,4 +474,4 @@ module _ (text k : List ℕ) (known : Known) (d i q : ℕ) (w : List ℕ) (r : �
   whole-sorted z = ap (λ (a : Answer). out a u) (sym (answered-sorted r (getD p 0 0) (getD p 1 0) z)) ∙ reached-out _ r p u h ∙ ap (λ (k : Known). term-at text k d i q w) e
 
 -- what the answers of a level hand to `search`
-pub ruleset deeper = (known-told, known-kept, known-tape, known-count, known-row, known-hidden, words-tape, words-kept, tell-ill, tell-sorted, reached-word, item-variable, item-function, leaf-told, named-told, arguments-few, closers-few, deep-open, deep-done, deep-many, deep-ill, deep-again, deep-none, deep-past, deep-full, deep-leaf, deep-args, deep-other, whole-ill, whole-sorted, needs)
+pub ruleset deeper = (known-told, known-kept, known-tape, known-count, known-row, known-hidden, words-tape, words-kept, tell-ill, tell-sorted, reached-word, item-variable, item-function, leaf-told, named-told, deep-open, deep-done, deep-many, deep-ill, deep-again, operator-prefix, operator-ill, operator-infix, back-open, back-entry, back-place, back-less, back-deeper, back-fewer, back-ill, back-end, back-again, row-backed, row-ended, row-less, onward-less, deep-none, deep-past, deep-full, deep-leaf, deep-args, deep-other, deep-row, whole-ill, whole-sorted, needs)

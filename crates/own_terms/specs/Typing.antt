@@ -1,9 +1,9 @@
 -- Typing in memory, as the code goes: the entries of a term from i on, and its nodes from place q on. A node is written behind its
 -- arguments' nodes, at the place kept for it in front of them.
-use Prim.Native.Nat.{ℕ, zero, suc, _+_, _*_, _<_, _≤_}
+use Prim.Native.Nat.{ℕ, zero, suc, _+_, _-_, _*_, _/_, _%_, _^_, _<_, _≤_}
 use mathlib.Core.Path.{_≡_}
 use mathlib.Core.Bool.{Bool, true}
-use mathlib.Core.List.{List, map}
+use mathlib.Core.List.{List, [], _∷_, map}
 use lib.Dec.{eqb, ltb}
 use lib.ListN.{length, getD, set, take, replicate}
 use Rattle.meaning.specs.Lists.{pick, before}
@@ -97,6 +97,76 @@ term-at text k (suc depth) i q w =
 
 abbrev pub args-at : List ℕ → Known → ℕ → ℕ → ℕ → ℕ → ℕ → ℕ → ℕ → ℕ → List ℕ → List ℕ → Out
 args-at text k depth head place closers left i q n sorts w = args-by k (term-at text k depth) (applied-at text k head place) closers left i q n sorts w
+
+-- ---- operators that stand one behind the other: their first operands are gone over, and they are typed from the last to the first
+
+-- the operator at i whose first operand came out so; a second one follows where it is infix, which the lowest bit of the word tells
+unfoldable pub operated : List ℕ → Known → ℕ → ℕ → ℕ → ℕ → Out → Out
+operated text k depth word i q o = further (args-by k (term-at text k depth) (applied-at text k i q) 0 (word % 2)) 0 no-sorts (o .answer) (o .memory)
+
+-- the n operators from i on, the first of which stands at the depth; what is behind them came out so
+unfoldable pub operated-row : List ℕ → Known → ℕ → ℕ → ℕ → ℕ → ℕ → Out → Out
+operated-row text k depth i q zero word o = o
+operated-row text k depth i q (suc n) word o = operated-row text k depth i q n (word / 2) (operated text k (depth - n - 1) word (i + n) (q + n) o)
+
+-- how many operands the operator at i has, if there is room for its node at q; 0 where none stands
+unfoldable pub operands-at : ℕ → ℕ → ℕ → List ℕ → ℕ
+operands-at t i q w =
+    let role = role-at (part w 0 t) i in
+    pick (ltb i t) (pick (ltb q (length w)) (pick (eqb (closers-of role) 0) (arguments-of role) 0) 0) 0
+
+-- n operators stand from i on, and a word of n bits behind its highest one tells which are infix: typed so, they are the term
+pub record Row (k : Known) (depth i q : ℕ) (w : List ℕ) (n word : ℕ) : Type 0 where
+  pub within : n ≤ depth
+  pub few : n ≤ 63
+  pub low : 2 ^ n ≤ word
+  pub bits : word < 2 ^ (n + 1)
+  pub entry : i + n < 2 ^ 64
+  pub place : q + n < 2 ^ 64
+  pub same : (text : List ℕ) → term-at text k depth i q w ≡ operated-row text k depth i q n word (term-at text k (depth - n) (i + n) (q + n) w)
+
+-- how many bits the word has behind its highest one
+unfoldable pub halvings : ℕ → ℕ → ℕ
+halvings zero word = 0
+halvings (suc most) word = pick (ltb 1 word) (halvings most (word / 2) + 1) 0
+
+abbrev pub operators-in : List ℕ → ℕ
+operators-in row = halvings 64 (getD row 2 0)
+
+-- a row is kept as four words: the entry and the place behind it, the word that tells which are infix, and the depth there; what is behind it came out so
+unfoldable pub returned : List ℕ → Known → List ℕ → Out → Out
+returned text k row o =
+    let n = operators-in row in
+    operated-row text k (getD row 3 0 + n) (getD row 0 0 - n) (getD row 1 0 - n) n (getD row 2 0) o
+
+-- so many operators are left of it
+pub record Backed (row : List ℕ) : Type 0 where
+  pub left : ℕ
+  pub few : left ≤ 63
+  pub low : 2 ^ left ≤ getD row 2 0
+  pub bits : getD row 2 0 < 2 ^ (left + 1)
+  pub entry : left ≤ getD row 0 0
+  pub place : left ≤ getD row 1 0
+  pub depth : getD row 3 0 + left < 2 ^ 64
+
+-- at its last operator; and without that one
+unfoldable pub stepped : List ℕ → List ℕ
+stepped row = (getD row 0 0 - 1) ∷ (getD row 1 0 - 1) ∷ getD row 2 0 ∷ getD row 3 0 ∷ []
+
+unfoldable pub shortened : List ℕ → List ℕ
+shortened row = getD row 0 0 ∷ getD row 1 0 ∷ (getD row 2 0 / 2) ∷ (getD row 3 0 + 1) ∷ []
+
+-- where no operator is in the row, none is behind it
+pub record Ended (k : Known) (row w : List ℕ) : Type 0 where
+  pub none : getD row 2 0 ≤ 1 → (getD row 3 0 ≡ 0 → ⊥) → operands-at (k .tape) (getD row 0 0) (getD row 1 0) w ≡ 0
+
+pub record Operators (k : Known) (depth i q : ℕ) (w row : List ℕ) : Type 0 where
+  pub n : ℕ
+  pub stand : Row k depth i q w n (getD row 2 0)
+  pub entry : getD row 0 0 ≡ i + n
+  pub place : getD row 1 0 ≡ q + n
+  pub deep : getD row 3 0 ≡ depth - n
+  pub ended : Ended k row w
 
 -- ---- what a level of a term is given and gives back: words
 

@@ -15,10 +15,13 @@ use own_finding::find::find_function;
 use own_finding::find::find_variable;
 use tape::roles;
 ghost use mathlib.Core.Path.{_≡_};
-ghost use Prim.Native.Nat.{_+_, _≤_, _<_};
+ghost use Prim.Native.Nat.{_+_, _-_, _^_, _≤_, _<_};
 ghost use lib.ListN.{length, getD};
 ghost use Rattle.text_names.specs.Joint.{joint};
-ghost use Rattle.own_terms.specs.Typing.{out, settled, variable-at, function-row, alone-at, applied-at, no-sorts, args-at, term-at, known-of, Words, Told, Reached, item-at};
+ghost use Rattle.own_terms.specs.Typing.{out, settled, variable-at, function-row, alone-at, applied-at, no-sorts, args-at, term-at, operated, returned, Backed, stepped, shortened, operands-at, Operators, Ended, known-of, Words, answered, Told, Reached, item-at};
+
+// So many operators are gone over at once at the most: behind its highest bit a word tells of each whether it is infix, and a term of 64 nodes has no more.
+const ROW: usize = 63;
 
 // The node at q is of the item of a row, with n arguments.
 fn settle(
@@ -142,25 +145,26 @@ fn tell(a: Answer, places: &mut [usize; 2]) -> usize
     sort as usize + 1
 }
 
-// The name at i: a variable if it stands alone, or else a function of the first n sorts; its node is written at q. The one call of `type_applied`
-// is compiled into it, so that it is too large to be compiled into a level, whatever `alone` is there.
+// The name at the row: a variable if it stands alone, or else a function of the first n sorts; its node is written at the row's place. The one call
+// of `type_applied` is compiled into it, so that it is too large to be compiled into a level, whatever `alone` is there.
 fn type_item(
     library: &&[u8],
     text: &&[u8],
     work: &mut [u32],
     k: &[usize; 5],
     places: &mut [usize; 2],
-    i: usize,
-    q: usize,
+    row: &[usize; 4],
     alone: bool,
     sorts: &[u32; 9],
     n: usize,
 ) -> usize
     requires { ⌜ (getD (now k) 0 0 ≤ length (now work)) × Words (now k) × (n ≤ 9) ⌝ }
-    ensures { λ r. ⌜ Reached (item-at (joint (now (now (library .entry))) (now (now (text .entry)))) (known-of (now (k .entry))) alone i q n (now (sorts .entry)) (getD (now (places .entry)) 0 0) (getD (now (places .entry)) 1 0) (now (work .entry))) r (now (places .exit)) (now (work .exit)) ⌝ }
+    ensures { λ r. ⌜ Reached (item-at (joint (now (now (library .entry))) (now (now (text .entry)))) (known-of (now (k .entry))) alone (getD (now (row .entry)) 0 0) (getD (now (row .entry)) 1 0) n (now (sorts .entry)) (getD (now (places .entry)) 0 0) (getD (now (places .entry)) 1 0) (now (work .entry))) r (now (places .exit)) (now (work .exit)) ⌝ }
 {
     let known = known_of(k);
     let count = known.count;
+    let i = row[0];
+    let q = row[1];
     let next = places[0];
     let free = places[1];
     let v = variable_row(*library, *text, work, known, i, alone);
@@ -172,80 +176,200 @@ fn type_item(
     tell(a, places)
 }
 
-// The name at the place, alone.
+// The name at the row, alone.
 fn type_leaf(
     library: &&[u8],
     text: &&[u8],
     work: &mut [u32],
     k: &[usize; 5],
     places: &mut [usize; 2],
+    row: &[usize; 4],
+    sorts: &[u32; 9],
 ) -> usize
-    requires { ⌜ (getD (now k) 0 0 ≤ length (now work)) × Words (now k) × (getD (now places) 0 0 < getD (now k) 0 0) × (getD (now places) 1 0 < length (now work)) ⌝ }
-    ensures { λ r. ⌜ Reached (alone-at (joint (now (now (library .entry))) (now (now (text .entry)))) (known-of (now (k .entry))) (getD (now (places .entry)) 0 0) (getD (now (places .entry)) 1 0) (now (work .entry))) r (now (places .exit)) (now (work .exit)) ⌝ }
+    requires { ⌜ (getD (now k) 0 0 ≤ length (now work)) × Words (now k) × (getD (now row) 0 0 < getD (now k) 0 0) × (getD (now row) 1 0 < length (now work)) × (now sorts ≡ no-sorts) ⌝ }
+    ensures { λ r. ⌜ Reached (alone-at (joint (now (now (library .entry))) (now (now (text .entry)))) (known-of (now (k .entry))) (getD (now (row .entry)) 0 0) (getD (now (row .entry)) 1 0) (now (work .entry))) r (now (places .exit)) (now (work .exit)) ⌝ }
 {
-    let none = [0; 9];
-    let i = places[0];
-    let q = places[1];
+    let i = row[0];
+    let q = row[1];
     *places = [i + 1, q + 1];
-    type_item(library, text, work, k, places, i, q, true, &none, 0)
+    type_item(library, text, work, k, places, row, true, sorts, 0)
 }
 
-// The term at the place, down to a depth; its nodes are written from the second place on.
-fn type_deep(
-    library: &&[u8],
-    text: &&[u8],
-    work: &mut [u32],
-    k: &[usize; 5],
-    places: &mut [usize; 2],
-    depth: usize,
-) -> usize
-    requires { ⌜ (getD (now k) 0 0 ≤ length (now work)) × Words (now k) ⌝ }
-    ensures { λ r. ⌜ Reached (term-at (joint (now (now (library .entry))) (now (now (text .entry)))) (known-of (now (k .entry))) depth (getD (now (places .entry)) 0 0) (getD (now (places .entry)) 1 0) (now (work .entry))) r (now (places .exit)) (now (work .exit)) ⌝ }
-{
-    if depth == 0 {
-        return 0;
-    }
-    let t = k[0];
-    let i = places[0];
-    let q = places[1];
-    if i < t {
-        if q < work.len() {
-            let role = role_at(&work[0..t], i);
-            if role == roles::ALONE {
-                return type_leaf(library, text, work, k, places);
-            }
-            let a = arguments_of(role);
-            if a == 0 {
-                return 0;
-            }
-            let c = closers_of(role);
-            return type_args(library, text, work, k, places, depth - 1, c, a);
-        }
-        return 0;
-    }
-    0
-}
-
-// The name at i with arguments of the first n sorts. Apart, as `type_argument`: what a call is lent is then not kept beside the other's.
+// The name at the row with arguments of the first n sorts.
 fn type_named(
     library: &&[u8],
     text: &&[u8],
     work: &mut [u32],
     k: &[usize; 5],
     places: &mut [usize; 2],
-    i: usize,
-    q: usize,
+    row: &[usize; 4],
     sorts: &[u32; 9],
     n: usize,
 ) -> usize
     requires { ⌜ (getD (now k) 0 0 ≤ length (now work)) × Words (now k) × (n ≤ 9) ⌝ }
-    ensures { λ r. ⌜ Reached (applied-at (joint (now (now (library .entry))) (now (now (text .entry)))) (known-of (now (k .entry))) i q n (now (sorts .entry)) (getD (now (places .entry)) 0 0) (getD (now (places .entry)) 1 0) (now (work .entry))) r (now (places .exit)) (now (work .exit)) ⌝ }
+    ensures { λ r. ⌜ Reached (applied-at (joint (now (now (library .entry))) (now (now (text .entry)))) (known-of (now (k .entry))) (getD (now (row .entry)) 0 0) (getD (now (row .entry)) 1 0) n (now (sorts .entry)) (getD (now (places .entry)) 0 0) (getD (now (places .entry)) 1 0) (now (work .entry))) r (now (places .exit)) (now (work .exit)) ⌝ }
 {
-    type_item(library, text, work, k, places, i, q, false, sorts, n)
+    type_item(library, text, work, k, places, row, false, sorts, n)
 }
 
-// The next argument.
-fn type_argument(
+// How many operands the operator at i has, if there is room for its node at q; 0 where none stands there.
+fn operands_at(work: &[u32], t: usize, i: usize, q: usize) -> usize
+    requires { ⌜ t ≤ length (now work) ⌝ }
+    ensures { λ r. ⌜ r ≡ operands-at t i q (now (work .entry)) ⌝ }
+{
+    if i < t {
+        if q < work.len() {
+            let role = role_at(&work[0..t], i);
+            if closers_of(role) == 0 {
+                return arguments_of(role);
+            }
+            return 0;
+        }
+        return 0;
+    }
+    0
+}
+
+// The operators that stand one behind the other from i on, as far as the depth, the room and a word go: the entry and the place behind them, a
+// word that tells which are infix, of the last one in its lowest bit, and the depth there. It is kept, as the tape is not read again: nodes may have
+// been written there. All that a level keeps of its row is in this one array, which is lent, so that no frame has any of it twice.
+fn operators_from(work: &[u32], k: &[usize; 5], i: usize, q: usize, depth: usize) -> [usize; 4]
+    requires { ⌜ getD (now k) 0 0 ≤ length (now work) ⌝ }
+    ensures { λ r. ⌜ Operators (known-of (now (k .entry))) depth i q (now (work .entry)) r ⌝ }
+{
+    let t = k[0];
+    let mut n = 0;
+    let mut word = 1;
+    while n < depth {
+        if n == ROW {
+            return [i + n, q + n, word, depth - n];
+        }
+        let a = operands_at(work, t, i + n, q + n);
+        if a == 0 {
+            return [i + n, q + n, word, depth - n];
+        }
+        word = word * 2 + (a - 1);
+        n += 1;
+    }
+    [i + n, q + n, word, depth - n]
+}
+
+// The operator at the row, whose first operand is typed, and whose second follows if it is infix.
+fn type_operator(
+    library: &&[u8],
+    text: &&[u8],
+    work: &mut [u32],
+    k: &[usize; 5],
+    places: &mut [usize; 2],
+    row: &[usize; 4],
+    sorts: &mut [u32; 9],
+    first: usize,
+) -> usize
+    requires { ⌜ (getD (now k) 0 0 ≤ length (now work)) × Words (now k) × (first ≡ 0 → ⊥) × (first ≤ 4294967296) ⌝ }
+    ensures { λ r. ⌜ Reached (operated (joint (now (now (library .entry))) (now (now (text .entry)))) (known-of (now (k .entry))) (getD (now (row .entry)) 3 0) (getD (now (row .entry)) 2 0) (getD (now (row .entry)) 0 0) (getD (now (row .entry)) 1 0) (out (answered first (getD (now (places .entry)) 0 0) (getD (now (places .entry)) 1 0)) (now (work .entry)))) r (now (places .exit)) (now (work .exit)) ⌝ }
+{
+    *sorts = [0; 9];
+    sorts[0] = (first - 1) as u32;
+    if row[2] % 2 == 0 {
+        return type_named(library, text, work, k, places, row, sorts, 1);
+    }
+    let second = type_deep(library, text, work, k, places, row[3]);
+    if second == 0 {
+        return 0;
+    }
+    sorts[1] = (second - 1) as u32;
+    type_named(library, text, work, k, places, row, sorts, 2)
+}
+
+// The row at its last operator.
+fn step_back(row: &mut [usize; 4])
+    requires { ⌜ (0 < getD (now row) 0 0) × (0 < getD (now row) 1 0) ⌝ }
+    ensures { λ r. ⌜ now (row .exit) ≡ stepped (now (row .entry)) ⌝ }
+{
+    let i = row[0];
+    let q = row[1];
+    let word = row[2];
+    let depth = row[3];
+    *row = [i - 1, q - 1, word, depth];
+}
+
+// The row without its last operator, which is typed.
+fn shorten(row: &mut [usize; 4])
+    requires { ⌜ getD (now row) 3 0 + 1 < 2 ^ 64 ⌝ }
+    ensures { λ r. ⌜ now (row .exit) ≡ shortened (now (row .entry)) ⌝ }
+{
+    let i = row[0];
+    let q = row[1];
+    let word = row[2];
+    let depth = row[3];
+    *row = [i, q, word / 2, depth + 1];
+}
+
+// The operators of the row, from the last one to the first; the term behind them is typed.
+fn type_back(
+    library: &&[u8],
+    text: &&[u8],
+    work: &mut [u32],
+    k: &[usize; 5],
+    places: &mut [usize; 2],
+    row: &mut [usize; 4],
+    sorts: &mut [u32; 9],
+    first: usize,
+) -> usize
+    requires { ⌜ (getD (now k) 0 0 ≤ length (now work)) × Words (now k) × (first ≤ 4294967296) × Backed (now row) ⌝ }
+    ensures { λ r. ⌜ Reached (returned (joint (now (now (library .entry))) (now (now (text .entry)))) (known-of (now (k .entry))) (now (row .entry)) (out (answered first (getD (now (places .entry)) 0 0) (getD (now (places .entry)) 1 0)) (now (work .entry)))) r (now (places .exit)) (now (work .exit)) ⌝ }
+{
+    let mut sort = first;
+    while 1 < row[2] {
+        if sort == 0 {
+            return 0;
+        }
+        step_back(row);
+        sort = type_operator(library, text, work, k, places, row, sorts, sort);
+        shorten(row);
+    }
+    sort
+}
+
+// The name at the row with the arguments in its brackets. Where the tape ends is read at each turn: no level keeps it.
+fn type_args(
+    library: &&[u8],
+    text: &&[u8],
+    work: &mut [u32],
+    k: &[usize; 5],
+    places: &mut [usize; 2],
+    row: &[usize; 4],
+    sorts: &mut [u32; 9],
+) -> usize
+    requires { ⌜ (getD (now k) 0 0 ≤ length (now work)) × Words (now k) × (getD (now row) 0 0 < getD (now k) 0 0) × (getD (now row) 1 0 < length (now work)) × (getD (now row) 3 0 ≡ 0 → ⊥) × (now sorts ≡ no-sorts) ⌝ }
+    ensures { λ r. ⌜ Reached (args-at (joint (now (now (library .entry))) (now (now (text .entry)))) (known-of (now (k .entry))) (getD (now (row .entry)) 3 0 - 1) (getD (now (row .entry)) 0 0) (getD (now (row .entry)) 1 0) 1 9 (getD (now (row .entry)) 0 0 + 1) (getD (now (row .entry)) 1 0 + 1) 0 no-sorts (now (work .entry))) r (now (places .exit)) (now (work .exit)) ⌝ }
+{
+    let head = row[0];
+    let place = row[1];
+    *places = [head + 1, place + 1];
+    let mut count = 0;
+    loop {
+        let t = k[0];
+        let at = places[0];
+        if ends_at(&work[0..t], 1, 9 - count, at) {
+            let free = places[1];
+            *places = [behind(at, 1), free];
+            return type_named(library, text, work, k, places, row, sorts, count);
+        }
+        if count == 9 {
+            return 0;
+        }
+        let sort = type_deep(library, text, work, k, places, row[3] - 1);
+        if sort == 0 {
+            return 0;
+        }
+        sorts[count] = (sort - 1) as u32;
+        count += 1;
+    }
+}
+
+// The term behind as many operators as a word tells of. Apart, so that what its call is lent is not kept beside what the others are.
+fn type_onward(
     library: &&[u8],
     text: &&[u8],
     work: &mut [u32],
@@ -259,45 +383,65 @@ fn type_argument(
     type_deep(library, text, work, k, places, depth)
 }
 
-// The arguments of the name at the place, at most `left` and closed by so many entries. Where the tape ends is read at each turn: no level keeps it.
-fn type_args(
+// The term behind the row. One with an operator in front may be there only if the row has some: all that a word tells of.
+fn type_primary(
+    library: &&[u8],
+    text: &&[u8],
+    work: &mut [u32],
+    k: &[usize; 5],
+    places: &mut [usize; 2],
+    row: &[usize; 4],
+    sorts: &mut [u32; 9],
+) -> usize
+    requires { ⌜ (getD (now k) 0 0 ≤ length (now work)) × Words (now k) × (now sorts ≡ no-sorts) × Ended (known-of (now k)) (now row) (now work) ⌝ }
+    ensures { λ r. ⌜ Reached (term-at (joint (now (now (library .entry))) (now (now (text .entry)))) (known-of (now (k .entry))) (getD (now (row .entry)) 3 0) (getD (now (row .entry)) 0 0) (getD (now (row .entry)) 1 0) (now (work .entry))) r (now (places .exit)) (now (work .exit)) ⌝ }
+{
+    let depth = row[3];
+    if depth == 0 {
+        return 0;
+    }
+    let t = k[0];
+    let i = row[0];
+    let q = row[1];
+    if i < t {
+        if q < work.len() {
+            let role = role_at(&work[0..t], i);
+            if role == roles::ALONE {
+                return type_leaf(library, text, work, k, places, row, sorts);
+            }
+            if role == roles::HEAD {
+                return type_args(library, text, work, k, places, row, sorts);
+            }
+            if 1 < row[2] {
+                *places = [i, q];
+                return type_onward(library, text, work, k, places, depth);
+            }
+            return 0;
+        }
+        return 0;
+    }
+    0
+}
+
+// The term at the place, down to a depth; its nodes are written from the second place on. An operator stands before its first operand, so a loop
+// goes over a row of them and another one back: a level is a pair of brackets or a second operand. The sorts are lent to both, so that it has them once.
+fn type_deep(
     library: &&[u8],
     text: &&[u8],
     work: &mut [u32],
     k: &[usize; 5],
     places: &mut [usize; 2],
     depth: usize,
-    closers: usize,
-    left: usize,
 ) -> usize
-    requires { ⌜ (getD (now k) 0 0 ≤ length (now work)) × Words (now k) × (getD (now places) 0 0 < getD (now k) 0 0) × (getD (now places) 1 0 < length (now work)) × (closers ≤ 1) × (left ≤ 9) ⌝ }
-    ensures { λ r. ⌜ Reached (args-at (joint (now (now (library .entry))) (now (now (text .entry)))) (known-of (now (k .entry))) depth (getD (now (places .entry)) 0 0) (getD (now (places .entry)) 1 0) closers left ((getD (now (places .entry)) 0 0) + 1) ((getD (now (places .entry)) 1 0) + 1) 0 no-sorts (now (work .entry))) r (now (places .exit)) (now (work .exit)) ⌝ }
+    requires { ⌜ (getD (now k) 0 0 ≤ length (now work)) × Words (now k) ⌝ }
+    ensures { λ r. ⌜ Reached (term-at (joint (now (now (library .entry))) (now (now (text .entry)))) (known-of (now (k .entry))) depth (getD (now (places .entry)) 0 0) (getD (now (places .entry)) 1 0) (now (work .entry))) r (now (places .exit)) (now (work .exit)) ⌝ }
 {
-    let head = places[0];
-    let place = places[1];
-    *places = [head + 1, place + 1];
-    let mut rest = left;
-    let mut count = 0;
-    let mut known = [0; 9];
-    loop {
-        let t = k[0];
-        let at = places[0];
-        if ends_at(&work[0..t], closers, rest, at) {
-            let free = places[1];
-            *places = [behind(at, closers), free];
-            return type_named(library, text, work, k, places, head, place, &known, count);
-        }
-        if rest == 0 {
-            return 0;
-        }
-        let sort = type_argument(library, text, work, k, places, depth);
-        if sort == 0 {
-            return 0;
-        }
-        known[count] = (sort - 1) as u32;
-        count += 1;
-        rest -= 1;
-    }
+    let i = places[0];
+    let q = places[1];
+    let mut row = operators_from(work, k, i, q, depth);
+    let mut sorts = [0; 9];
+    let first = type_primary(library, text, work, k, places, &row, &mut sorts);
+    type_back(library, text, work, k, places, &mut row, &mut sorts, first)
 }
 
 // The term at i, down to a depth; its nodes are written from q on.

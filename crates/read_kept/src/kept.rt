@@ -3,14 +3,13 @@ use meaning::numbers;
 use read_steps::Place;
 use read_steps::Reading;
 use read_steps::steps::begins_term;
-use read_steps::steps::expect;
 use read_steps::steps::next_is;
 use read_steps::steps::refuse;
 use read_steps::steps::unexpected;
 use types::Token;
 ghost use mathlib.Core.Path.{_≡_};
 ghost use Rattle.meaning.specs.Grammar.{is, begins-term};
-ghost use Rattle.read_steps.specs.Model.{expect, refuse, unexpected};
+ghost use Rattle.read_steps.specs.Model.{refuse, unexpected};
 ghost use Rattle.read_steps.specs.Steps.{still, next-passes, entries-of};
 ghost use Rattle.read_kept.specs.Kept.{kept};
 
@@ -72,15 +71,6 @@ pub fn entries_of(state: &[usize; 6]) -> usize
         return state[5];
     }
     0
-}
-
-// A token of this kind, passed over.
-pub fn pass(text: &&[u8], state: &mut [usize; 6], kind: u8)
-    ensures { λ r. ⌜ kept (now (state .exit)) ≡ still (expect (now (now (text .entry))) kind) (kept (now (state .entry))) ⌝ }
-{
-    let at = kept(state);
-    let next = expect(*text, at, kind);
-    keep(state, next);
 }
 
 // Refused: more than there may be.

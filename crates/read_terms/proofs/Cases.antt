@@ -1,13 +1,14 @@
 -- The cases of terms, one for each way through the code: f, q and u come of callees.
-use mathlib.Core.Path.{_≡_, refl, sym, _∙_}
+use mathlib.Core.Path.{_≡_, refl, sym, ap, _∙_}
 use mathlib.Core.Bool.{Bool, true, false}
-use mathlib.Core.List.{List, []}
+use mathlib.Core.List.{List}
 use Prim.Native.Nat.{ℕ, zero, suc, _+_, _-_, _<_, _≤_}
 use native.Mathlib.Numerals.{sub-one, add-one}
 use native.Mathlib.Omega.{arith}
+use lib.Dec.{eqb}
 use lib.ListN.{length, getD, set, length-set}
 use borrow.Author.Needs.{needs}
-use borrow.Author.Tests.{le-ltb, lt-ltb}
+use borrow.Author.Tests.{ne-eqb, eqb-true, le-ltb, lt-ltb}
 use Rattle.meaning.specs.Lists.{pick}
 use Rattle.meaning.specs.Grammar.{is, begins-term}
 use Rattle.read_steps.specs.declared.Place.{Place}
@@ -16,8 +17,8 @@ use Rattle.read_steps.specs.declared.Reading.the-variants.{Done, Refused}
 use Rattle.tape.specs.Tape.{close-role, prefix-role}
 use Rattle.read_steps.specs.Model.{Out, out, place, Writer, onward, _>>_, stay, refuse, unexpected, if-next, step, mark, as-entry, pushed, inserted, with-entries, expect, separated, many, term-name, term-operator, primary-by, prefixed, joins, operand, operands, term-by, in-brackets, primary, term}
 use Rattle.read_steps.specs.Steps.{still, next-passes, entries-of}
-use Rattle.read_terms.specs.Parts.{operator-in, operands-from, applied}
-use Rattle.read_steps.proofs.Laws.{onward-then, then, then-still, quietly, stays, next-yes, next-no, refuse-quiet, expect-quiet}
+use Rattle.read_terms.specs.Parts.{token-alone, token-in, arguments-end, operands-from, named}
+use Rattle.read_steps.proofs.Laws.{onward-then, then, quietly, stays, next-yes, next-no, refuse-quiet, unexpected-quiet, step-quiet}
 use Rattle.read_steps.proofs.Cases.{refused-onward}
 use Rattle.read_steps.proofs.Lists.{Comes, separated-again}
 use Rattle.read_kept.proofs.Cases.{kept-onward}
@@ -63,44 +64,68 @@ module _ (r : Reading) (p : Place) (e : r ≡ Done p) (start w : ℕ) (t : List 
   unfolding onward inserted pick
   inserted-out h = rw (e, le-ltb (p .entries) (length t) h)
 
--- in brackets
-pub bracketed : (s : List ℕ) (r a q c : Reading) (t u : List ℕ) (w : Writer) → a ≡ still (expect s 40) r → out q u ≡ onward a t w → c ≡ still (expect s 41) q → out c u ≡ onward r t (in-brackets s w)
-unfolding in-brackets
-bracketed s r a q c t u w g h k =
-    then-still r a t (out c u) (expect s 40) (w >> expect s 41) (expect-quiet s 40) g
-    (then a q t u (out c u) w (expect s 41) h (quietly q c u (expect s 41) (expect-quiet s 41) k))
+-- ---- single tokens
 
--- an operator: b says whether it stands between two operands; the answer a is what the words say, q
+-- the next token: b says whether it stands between two operands; the answer a is what the words say, q
 module _ (a q : Reading) (e : a ≡ q) (s : List ℕ) (n : ℕ) (b : Bool) (m v : Reading) (t u : List ℕ) where
-  pub operator-between : b ≡ true → out m u ≡ onward a t (joins s n) → v ≡ m → out v u ≡ onward q t (operator-in s n b)
-  unfolding operator-in pick
-  operator-between y g h = rw y (kept-onward a q e (joins s n) m v t u g h)
+  pub token-between : b ≡ true → out m u ≡ onward a t (joins s n) → v ≡ m → out v u ≡ onward q t (token-in s n b)
+  unfolding token-in pick
+  token-between y g h = rw y (kept-onward a q e (joins s n) m v t u g h)
 
-  pub operator-before : b ≡ false → out m u ≡ onward a t (prefixed s) → v ≡ m → out v u ≡ onward q t (operator-in s n b)
-  unfolding operator-in pick
-  operator-before y g h = rw y (kept-onward a q e (prefixed s) m v t u g h)
+  pub token-else : b ≡ false → out m u ≡ onward a t (token-alone s) → v ≡ m → out v u ≡ onward q t (token-in s n b)
+  unfolding token-in pick
+  token-else y g h = rw y (kept-onward a q e (token-alone s) m v t u g h)
 
-pub operator-none : (s : List ℕ) (n : ℕ) (b c : Bool) (r : Reading) (t : List ℕ) → b ≡ false → c ≡ next-passes (is 5) r → c ≡ false
-    → out r t ≡ onward r t (operator-in s n b)
-unfolding operator-in prefixed pick
-operator-none s n b c r t y e z =
-    rw y (next-no (is 5) (term-operator s 1 (as-entry prefix-role)) stay r c e t (out r t) z (stays r t))
+module _ (s : List ℕ) (r : Reading) (t : List ℕ) (b : Bool) where
+  -- a prefix operator
+  module _ (e : b ≡ next-passes (is 5) r) where
+    pub prefix-passed : (o : Out) → b ≡ true → o ≡ onward r t (token-in s 0 false) → o ≡ onward r t (prefixed s)
+    unfolding token-in token-alone pick
+    prefix-passed o y h = h ∙ sym (next-yes (is 5) (prefixed s) (step s) r b e t (onward r t (prefixed s)) y refl)
 
--- a comma that is next is passed over
-passed-over : (s : List ℕ) (k : ℕ) (b : Bool) (r a : Reading) → b ≡ next-passes (is k) r → b ≡ true → a ≡ still (expect s k) r → a ≡ still (step s) r
-unfolding still onward expect if-next next-passes pick
-passed-over s k b (Refused n q) a e y h = h
-passed-over s k b (Done p) a e y h = go (is k (p .token .kind)) (sym e ∙ y) h
-  where
-    go : (c : Bool) → c ≡ true → a ≡ pick c (step s p []) (unexpected p []) .answer → a ≡ step s p [] .answer
-    go c z h = rw z at h
+    pub prefix-none : b ≡ false → out r t ≡ onward r t (prefixed s)
+    unfolding prefixed
+    prefix-none y = next-no (is 5) (term-operator s 1 (as-entry prefix-role)) stay r b e t (out r t) y (stays r t)
 
+  -- any other token, of kind k
+  module _ (k : ℕ) (z : k ≡ 5 → ⊥) (e : b ≡ next-passes (is k) r) where
+    stepped : (o : Out) → b ≡ true → o ≡ onward r t (token-in s 0 false) → o ≡ onward r t (step s)
+    unfolding onward next-passes token-in token-alone pick
+    stepped o y h = go r e h
+      where
+        go : (r : Reading) → b ≡ next-passes (is k) r → o ≡ onward r t (token-in s 0 false) → o ≡ onward r t (step s)
+        go (Refused m q) e h = h
+        go (Done p) e h =
+            let other : eqb (p .token .kind) 5 ≡ false = ne-eqb (p .token .kind) 5 λ f. z (sym (eqb-true (p .token .kind) k (sym e ∙ y)) ∙ f) in
+            h ∙ sym (next-no (is 5) (prefixed s) (step s) (Done p) false (sym other) t (step s p t) refl refl)
+
+    expected : (o : Out) → b ≡ true → o ≡ onward r t (token-in s 0 false) → o ≡ onward r t (expect s k)
+    unfolding expect
+    expected o y h = next-yes (is k) (step s) unexpected r b e t o y (stepped o y h)
+
+-- the bracket that closes
+module _ (s : List ℕ) (r : Reading) (t : List ℕ) (b : Bool) (e : b ≡ next-passes (is 41) r) where
+  pub end-passed : (o : Out) → b ≡ true → o ≡ onward r t (token-in s 0 false) → o ≡ onward r t (expect s 41)
+  end-passed o y h = expected s r t b 41 (λ z. omega (arith, z)) e o y h
+
+  pub end-other : (q : Reading) → b ≡ false → q ≡ still unexpected r → out q t ≡ onward r t (expect s 41)
+  unfolding expect
+  end-other q y h = next-no (is 41) (step s) unexpected r b e t (out q t) y (quietly r q t unexpected unexpected-quiet h)
+
+-- what comes of a step leaves the tape
+stepped-quietly : (s : List ℕ) (r q : Reading) (t u : List ℕ) → out q u ≡ onward r t (step s) → out q u ≡ out (still (step s) r) t
+stepped-quietly s r q t u h = h ∙ sym (quietly r (still (step s) r) t (step s) (step-quiet s) refl)
+
+-- a comma that is next is passed over: a and x come of it
 pub arguments-again : (w : Writer) (r₀ : Reading) (t₀ : List ℕ) (s : List ℕ) (l : ℕ) (begins : ℕ → Bool) (item : Writer) (r : Reading) (t : List ℕ)
     → Comes w (separated s l 44 begins item) r₀ t₀ r t → 0 < l → (q : Reading) (u : List ℕ) → out q u ≡ onward r t item
-    → (b : Bool) → b ≡ next-passes (is 44) q → (a : Reading) → b ≡ true → a ≡ still (expect s 44) q → length u ≡ length t
-    → Comes w (separated s (l - 1) 44 begins item) r₀ t₀ a u
-arguments-again w r₀ t₀ s l begins item r t v z q u h b e a y g k =
-    separated-again w r₀ t₀ s l begins item r t 44 v z q u h b e a y (passed-over s 44 b q a e y g) k
+    → (b : Bool) → b ≡ next-passes (is 44) q → (a : Reading) (x : List ℕ) → b ≡ true → out a x ≡ onward q u (token-in s 0 false) → length u ≡ length t
+    → Comes w (separated s (l - 1) 44 begins item) r₀ t₀ a x
+arguments-again w r₀ t₀ s l begins item r t v z q u h b e a x y g k =
+    rw (ap (λ (o : Out). o .tape) same) (separated-again w r₀ t₀ s l begins item r t 44 v z q u h b e a y (ap (λ (o : Out). o .answer) same) k)
+  where
+    same : out a x ≡ out (still (step s) q) u
+    same = stepped-quietly s q a u x (stepped s q u b 44 (λ z. omega (arith, z)) e (out a x) y g)
 
 -- ---- terms
 
@@ -112,9 +137,9 @@ remembers-entries (Done p) t o n f e h = rw e at h
 
 module _ (s : List ℕ) (d n : ℕ) (r q : Reading) (t u : List ℕ) where
   -- q and u come of the prefix operator
-  pub term-read : (o : Out) → n ≡ entries-of r → out q u ≡ onward r t (operator-in s n false)
+  pub term-read : (o : Out) → n ≡ entries-of r → out q u ≡ onward r t (prefixed s)
       → o ≡ onward q u (operands-from s n d) → o ≡ onward r t (term s d)
-  unfolding term term-by operator-in operands-from pick
+  unfolding term term-by operands-from
   term-read o e g h =
       let rest : ℕ → Writer = λ m. operands s m (primary s d) in
       remembers-entries r t o n (λ m. prefixed s >> (primary s d >> rest m)) e
@@ -124,9 +149,9 @@ module _ (s : List ℕ) (d n : ℕ) (r q : Reading) (t u : List ℕ) where
   module _ (l : ℕ) (w : Writer) (r₀ : Reading) (t₀ : List ℕ) (b : Bool) (c : Comes w (primary s d >> many s l (is 5) (operand s n (primary s d))) r₀ t₀ r t)
       (h : out q u ≡ onward r t (primary s d)) (e : b ≡ next-passes (is 5) q) where
     -- a and x come of the operator
-    pub operands-again : (a : Reading) (x : List ℕ) → b ≡ true → (l ≡ 0 → ⊥) → out a x ≡ onward q u (operator-in s n true) → length u ≡ length t
+    pub operands-again : (a : Reading) (x : List ℕ) → b ≡ true → (l ≡ 0 → ⊥) → out a x ≡ onward q u (token-in s n true) → length u ≡ length t
         → length x ≡ length u → Comes w (primary s d >> many s (l - 1) (is 5) (operand s n (primary s d))) r₀ t₀ a x
-    unfolding many operand operator-in pick
+    unfolding many operand token-in pick
     operands-again a x y z g i j = record { sized = j ∙ (i ∙ c .sized); comes = c .comes ∙ sym (go l z) }
       where
         go : (l : ℕ) → (l ≡ 0 → ⊥)
@@ -167,14 +192,14 @@ module _ (s : List ℕ) (d n : ℕ) (r q : Reading) (t u : List ℕ) where
 -- what begins at an open bracket, where d more may be open: arguments, or a bracketed term
 arguments-in : List ℕ → ℕ → Writer
 arguments-in s zero = refuse 4
-arguments-in s (suc d) = applied s d
+arguments-in s (suc d) = in-brackets s (separated s 8 44 begins-term (term s d)) >> mark close-role
 
 bracketed-in : List ℕ → ℕ → Writer
 bracketed-in s zero = refuse 4
 bracketed-in s (suc d) = in-brackets s (term s d)
 
 primary-any : (s : List ℕ) (d : ℕ) → primary s d ≡ primary-by s (arguments-in s d) (bracketed-in s d)
-unfolding primary term arguments-in applied bracketed-in
+unfolding primary term arguments-in bracketed-in
 primary-any s zero = refl
 primary-any s (suc d) = refl
 
@@ -188,13 +213,27 @@ module _ (s : List ℕ) (d : ℕ) (r : Reading) (t : List ℕ) (b : Bool) (e : b
   unfolding bracketed-in
   primary-deep q y z h = primary-bracket (out q t) y (rw z (quietly r q t (refuse 4) (refuse-quiet 4) h))
 
-  pub primary-inner : (a q c : Reading) (u : List ℕ) → b ≡ true → (d ≡ 0 → ⊥) → a ≡ still (expect s 40) r → out q u ≡ onward a t (term s (d - 1)) → c ≡ still (expect s 41) q → out c u ≡ onward r t (primary s d)
-  unfolding bracketed-in
-  primary-inner a q c u y z g h k = primary-bracket (out c u) y (go d z h)
+  -- a and v come of the bracket, q and u of the term in it
+  pub primary-inner : (a q : Reading) (v u : List ℕ) (o : Out) → b ≡ true → (d ≡ 0 → ⊥) → out a v ≡ onward r t (token-in s 0 false)
+      → out q u ≡ onward a v (term s (d - 1)) → o ≡ onward q u (expect s 41) → o ≡ onward r t (primary s d)
+  unfolding bracketed-in in-brackets
+  primary-inner a q v u o y z g h k = primary-bracket o y (go d z h)
     where
-      go : (d : ℕ) → (d ≡ 0 → ⊥) → out q u ≡ onward a t (term s (d - 1)) → out c u ≡ onward r t (bracketed-in s d)
+      go : (d : ℕ) → (d ≡ 0 → ⊥) → out q u ≡ onward a v (term s (d - 1)) → o ≡ onward r t (bracketed-in s d)
       go zero z h = absurd (z refl)
-      go (suc d) z h = bracketed s r a q c t u (term s d) g (rw sub-one at h) k
+      go (suc d) z h =
+          then r a t v o (expect s 40) (term s d >> expect s 41) (expected s r t b 40 (λ z. omega (arith, z)) e (out a v) y g)
+          (then a q v u o (term s d) (expect s 41) (rw sub-one at h) k)
+
+  pub primary-name : (o : Out) → b ≡ false → (d ≡ 0 → ⊥) → o ≡ onward r t (named s (d - 1)) → o ≡ onward r t (primary s d)
+  unfolding primary-by named arguments-in
+  primary-name o n z h = go d z h
+    where
+      go : (d : ℕ) → (d ≡ 0 → ⊥) → o ≡ onward r t (named s (d - 1)) → o ≡ onward r t (primary s d)
+      go zero z h = absurd (z refl)
+      go (suc d) z h =
+          rw (primary-any s (suc d))
+          (next-no (is 40) (bracketed-in s (suc d)) (named s d) r b e t o n (rw sub-one at h))
 
   -- a name: f and v come of it
   module _ (n : b ≡ false) (f : Reading) (v : List ℕ) (h : out f v ≡ onward r t (term-name s)) (c : Bool) (k : c ≡ next-passes (is 40) f) where
@@ -214,22 +253,28 @@ module _ (s : List ℕ) (d : ℕ) (r : Reading) (t : List ℕ) (b : Bool) (e : b
         primary-named (out q v)
         (next-yes (is 40) (arguments-in s d) stay f c k v (out q v) y (rw z (quietly f q v (refuse 4) (refuse-quiet 4) g)))
 
-    pub primary-applied : (o : Out) → c ≡ true → (d ≡ 0 → ⊥) → o ≡ onward f v (applied s (d - 1)) → o ≡ onward r t (primary s d)
-    unfolding arguments-in
-    primary-applied o y z w = primary-named o (next-yes (is 40) (arguments-in s d) stay f c k v o y (go d z w))
-      where
-        go : (d : ℕ) → (d ≡ 0 → ⊥) → o ≡ onward f v (applied s (d - 1)) → o ≡ onward f v (arguments-in s d)
-        go zero z w = absurd (z refl)
-        go (suc d) z w = rw sub-one at w
+-- a name, and its arguments: f and v come of the name
+module _ (s : List ℕ) (d : ℕ) (r f : Reading) (t v : List ℕ) (h : out f v ≡ onward r t (term-name s)) (c : Bool) (k : c ≡ next-passes (is 40) f) where
+  pub named-alone : c ≡ false → out f v ≡ onward r t (named s d)
+  unfolding named arguments-in
+  named-alone y =
+      let applied = arguments-in s (suc d) in
+      then r f t v (out f v) (term-name s) (if-next (is 40) applied stay) h (next-no (is 40) applied stay f c k v (out f v) y (stays f v))
 
--- the arguments of a name: q and u come of those within the brackets
-pub applied-read : (s : List ℕ) (d : ℕ) (r a q i : Reading) (t u : List ℕ) (o : Out) → a ≡ still (expect s 40) r
-    → out q u ≡ onward a t (separated s 8 44 begins-term (term s d)) → i ≡ still (expect s 41) q → o ≡ onward i u (mark 22)
-    → o ≡ onward r t (applied s d)
-unfolding applied
-applied-read s d r a q i t u o g h j m =
-    let items = separated s 8 44 begins-term (term s d) in
-    then r i t u o (in-brackets s items) (mark close-role) (bracketed s r a q i t u items g h j) m
+  -- a and u come of the open bracket, q and x of the arguments
+  pub named-applied : (a q : Reading) (u x : List ℕ) (o : Out) → c ≡ true → out a u ≡ onward f v (token-in s 0 false)
+      → out q x ≡ onward a u (separated s 8 44 begins-term (term s d)) → o ≡ onward q x (arguments-end s) → o ≡ onward r t (named s d)
+  unfolding named arguments-in arguments-end in-brackets
+  named-applied a q u x o y g p m =
+      let items = separated s 8 44 begins-term (term s d) in
+      let applied = arguments-in s (suc d) in
+      let i : Out = onward q x (expect s 41) in
+      then r f t v o (term-name s) (if-next (is 40) applied stay) h
+      (next-yes (is 40) applied stay f c k v o y
+      (then f (i .answer) v (i .tape) o (in-brackets s items) (mark close-role)
+      (then f a v u i (expect s 40) (items >> expect s 41) (expected s f v c 40 (λ z. omega (arith, z)) k (out a u) y g)
+      (then a q u x i items (expect s 41) p refl))
+      (m ∙ onward-then q x (expect s 41) (mark close-role))))
 
 -- where no bracket may be open
 pub flat-deep : (s : List ℕ) (r : Reading) (t : List ℕ) (b : Bool) (q : Reading) → b ≡ next-passes (is 40) r → b ≡ true → q ≡ still (refuse 4) r

@@ -8,7 +8,6 @@ use read_kept::kept::keep;
 use read_kept::kept::kept;
 use read_kept::kept::not_here;
 use read_kept::kept::over;
-use read_kept::kept::pass;
 use read_kept::kept::words;
 use read_kept::nodes::close;
 use read_kept::nodes::counted;
@@ -29,18 +28,18 @@ ghost use Rattle.meaning.specs.Names.{byte};
 ghost use Rattle.meaning.specs.Grammar.{begins-term};
 ghost use Prim.Native.Nat.{_-_, _≤_};
 ghost use lib.ListN.{length};
-ghost use Rattle.read_steps.specs.Model.{out, onward, pushed, inserted, prefixed, joins, separated, term, primary};
+ghost use Rattle.read_steps.specs.Model.{out, onward, pushed, inserted, expect, prefixed, joins, separated, term, primary};
 ghost use Rattle.read_kept.specs.Kept.{kept};
-ghost use Rattle.read_terms.specs.Parts.{operator-in, operands-from, applied};
+ghost use Rattle.read_terms.specs.Parts.{token-alone, token-in, arguments-end, operands-from, named};
 
-// The entry of a prefix operator, if one is next.
-fn read_prefix(text: &[u8], tape: &mut [u32], at: Reading) -> Reading
-    ensures { λ r. ⌜ out r (now (tape .exit)) ≡ onward at (now (tape .entry)) (prefixed (now (text .entry))) ⌝ }
+// The next token, an operator as a prefix one and any other without an entry.
+fn read_token(text: &[u8], tape: &mut [u32], at: Reading) -> Reading
+    ensures { λ r. ⌜ out r (now (tape .exit)) ≡ onward at (now (tape .entry)) (token-alone (now (text .entry))) ⌝ }
 {
     if next_is(at, text_tokens::OPERATOR) {
         return read_operator(text, tape, counted(at), forms::PREFIX, roles::PREFIX);
     }
-    at
+    step(text, at)
 }
 
 // A word at i, and those from there on moved up by one, as far as `end`.
@@ -97,16 +96,11 @@ fn join(text: &[u8], tape: &mut [u32], at: Reading, start: usize) -> Reading
     unexpected(at)
 }
 
-// The operator that is next, as an infix one that joins the entries from `start` on, or as a prefix one, if it is there. One function for both, so
-// that what it takes on the stack is in no level of a term.
-fn pass_operator(
-    text: &&[u8],
-    tape: &mut [u32],
-    state: &mut [usize; 6],
-    start: usize,
-    between: bool,
-)
-    ensures { λ r. ⌜ out (kept (now (state .exit))) (now (tape .exit)) ≡ onward (kept (now (state .entry))) (now (tape .entry)) (operator-in (now (now (text .entry))) start between) ⌝ }
+// The next token: between two operands an operator, which joins the entries from `start` on, and else what `read_token` reads. One function for
+// operators, brackets and commas: no call says which of these is next, so that each is too large to be compiled into its caller, and what it takes on
+// the stack is in no level of a term.
+fn pass_token(text: &&[u8], tape: &mut [u32], state: &mut [usize; 6], start: usize, between: bool)
+    ensures { λ r. ⌜ out (kept (now (state .exit))) (now (tape .exit)) ≡ onward (kept (now (state .entry))) (now (tape .entry)) (token-in (now (now (text .entry))) start between) ⌝ }
 {
     if between {
         let left = kept(state);
@@ -114,12 +108,38 @@ fn pass_operator(
         keep(state, joined);
         return;
     }
+    let at = kept(state);
+    let next = read_token(*text, tape, at);
+    keep(state, next);
+}
+
+// The entry of a prefix operator, if one is next.
+fn pass_prefix(text: &&[u8], tape: &mut [u32], state: &mut [usize; 6])
+    ensures { λ r. ⌜ out (kept (now (state .exit))) (now (tape .exit)) ≡ onward (kept (now (state .entry))) (now (tape .entry)) (prefixed (now (now (text .entry)))) ⌝ }
+{
     if follows(state, text_tokens::OPERATOR) {
-        let at = kept(state);
-        let next = read_prefix(*text, tape, at);
-        keep(state, next);
+        pass_token(text, tape, state, 0, false);
         return;
     }
+}
+
+// The bracket that closes.
+fn pass_end(text: &&[u8], tape: &mut [u32], state: &mut [usize; 6])
+    ensures { λ r. ⌜ out (kept (now (state .exit))) (now (tape .exit)) ≡ onward (kept (now (state .entry))) (now (tape .entry)) (expect (now (now (text .entry))) (byte ")")) ⌝ }
+{
+    if follows(state, b')') {
+        pass_token(text, tape, state, 0, false);
+        return;
+    }
+    not_here(state);
+}
+
+// The bracket that closes arguments, and the entry of their end.
+fn end_arguments(text: &&[u8], tape: &mut [u32], state: &mut [usize; 6])
+    ensures { λ r. ⌜ out (kept (now (state .exit))) (now (tape .exit)) ≡ onward (kept (now (state .entry))) (now (tape .entry)) (arguments-end (now (now (text .entry)))) ⌝ }
+{
+    pass_end(text, tape, state);
+    close(tape, state);
 }
 
 // A name alone, as no bracket may be open. It is apart from the primaries that may have some, so that a name is read in no level's frame.
@@ -142,8 +162,15 @@ fn read_deep(text: &&[u8], tape: &mut [u32], state: &mut [usize; 6], depth: usiz
     ensures { λ r. ⌜ out (kept (now (state .exit))) (now (tape .exit)) ≡ onward (kept (now (state .entry))) (now (tape .entry)) (term (now (now (text .entry))) depth) ⌝ }
 {
     let start = entries_of(state);
-    pass_operator(text, tape, state, start, false);
+    pass_prefix(text, tape, state);
     read_operands(text, tape, state, start, depth);
+}
+
+// A term inside brackets: one function for both kinds of them, so that what `read_deep` is lent does not stand twice in a level.
+fn read_inside(text: &&[u8], tape: &mut [u32], state: &mut [usize; 6], depth: usize)
+    ensures { λ r. ⌜ out (kept (now (state .exit))) (now (tape .exit)) ≡ onward (kept (now (state .entry))) (now (tape .entry)) (term (now (now (text .entry))) depth) ⌝ }
+{
+    read_deep(text, tape, state, depth);
 }
 
 // A primary, and operators, each with the primary that it joins to the entries from `start` on.
@@ -158,7 +185,7 @@ fn read_operands(text: &&[u8], tape: &mut [u32], state: &mut [usize; 6], start: 
                 over(state);
                 return;
             }
-            pass_operator(text, tape, state, start, true);
+            pass_token(text, tape, state, start, true);
             left -= 1;
         } else {
             return;
@@ -175,26 +202,25 @@ fn read_primary(text: &&[u8], tape: &mut [u32], state: &mut [usize; 6], depth: u
         return;
     }
     if follows(state, b'(') {
-        pass(text, state, b'(');
-        read_deep(text, tape, state, depth - 1);
-        pass(text, state, b')');
+        pass_token(text, tape, state, 0, false);
+        read_inside(text, tape, state, depth - 1);
+        pass_end(text, tape, state);
         return;
     }
-    pass_name(text, tape, state);
-    if follows(state, b'(') {
-        read_applied(text, tape, state, depth - 1);
-        return;
-    }
+    read_named(text, tape, state, depth - 1);
 }
 
-// The arguments of a name, in their brackets.
-fn read_applied(text: &&[u8], tape: &mut [u32], state: &mut [usize; 6], depth: usize)
-    ensures { λ r. ⌜ out (kept (now (state .exit))) (now (tape .exit)) ≡ onward (kept (now (state .entry))) (now (tape .entry)) (applied (now (now (text .entry))) depth) ⌝ }
+// A name, with its arguments if it has some.
+fn read_named(text: &&[u8], tape: &mut [u32], state: &mut [usize; 6], depth: usize)
+    ensures { λ r. ⌜ out (kept (now (state .exit))) (now (tape .exit)) ≡ onward (kept (now (state .entry))) (now (tape .entry)) (named (now (now (text .entry))) depth) ⌝ }
 {
-    pass(text, state, b'(');
-    read_arguments(text, tape, state, depth, numbers::ARGUMENT_LIMIT);
-    pass(text, state, b')');
-    close(tape, state);
+    pass_name(text, tape, state);
+    if follows(state, b'(') {
+        pass_token(text, tape, state, 0, false);
+        read_arguments(text, tape, state, depth, numbers::ARGUMENT_LIMIT);
+        end_arguments(text, tape, state);
+        return;
+    }
 }
 
 // Arguments, of which `left` more may come.
@@ -203,9 +229,9 @@ fn read_arguments(text: &&[u8], tape: &mut [u32], state: &mut [usize; 6], depth:
 {
     let mut rest = left;
     while 0 < rest {
-        read_deep(text, tape, state, depth);
+        read_inside(text, tape, state, depth);
         if follows(state, b',') {
-            pass(text, state, b',');
+            pass_token(text, tape, state, 0, false);
             rest -= 1;
         } else {
             return;

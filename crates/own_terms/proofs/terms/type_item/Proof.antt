@@ -9,6 +9,8 @@ type-item-spec =
     tie.close
     (tie.spec
     (λ c κs. search deeper)  -- known-of-requires
+    (λ c. search deeper)  -- element-copy-out-i
+    (λ c. search deeper)  -- element-copy-out-q
     (λ c. search deeper)  -- element-copy-out-next
     (λ c. search deeper)  -- element-copy-out-free
     (λ c κs. search deeper)  -- variable-row-requires
