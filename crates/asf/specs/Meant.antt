@@ -31,8 +31,7 @@ use Rattle.form.specs.declared.Culprit.{Culprit}
 use Rattle.form.specs.Memory.{part}
 use Rattle.form.specs.Verdicts.{culprit-of}
 use Rattle.form_layout.specs.Layout.{tape-end}
-use Rattle.modules.specs.declared.Heads.{Heads}
-use Rattle.modules.specs.Modules.{HeadsOf, declared}
+use Rattle.modules.specs.Modules.{HeadsOf, declared, Heads}
 use Rattle.modules.specs.ModuleLaws.{heads-number, declared-names}
 use Rattle.modules.specs.Members.{member-found, member-absent}
 use Rattle.modules.specs.ReachedLaws.{found-name, names-number}
@@ -151,14 +150,14 @@ module _ (x : Reading) (text : List ℕ) (t : ℕ) (w : List ℕ) (spoken : Spok
       number-so : k ≡ before (same asked) (module-names all)
       number-so = e ∙ asked-number asked (declared text (part w 0 t) h) ∙ ap (before (same asked)) (declared-names text (part w 0 t) t all h (spoken-told .spells))
 
-      pub asked-found : k < h .count → Found asked x text t w h k
-      asked-found l = record { spoken = spoken; heads = heads; number = number-so; there = omega (arith, l, count-so) }
+      pub asked-found : (count : ℕ) → count ≡ h .count → k < count → Found asked x text t w h k
+      asked-found count c l = record { spoken = spoken; heads = heads; number = number-so; there = omega (arith, c, l, count-so) }
 
-      pub absent-answered : (o : List ℕ) (r : Answer) → h .count ≤ k → r ≡ told (refusal asked-absent 0 asked (lone (short-or-blank asked)) 0)
-          → Answered asked x o r o
+      pub absent-answered : (o : List ℕ) (r : Answer) (count : ℕ) → count ≡ h .count → count ≤ k
+          → r ≡ told (refusal asked-absent 0 asked (lone (short-or-blank asked)) 0) → Answered asked x o r o
       unfolding of-read of-ended normalise pick
-      absent-answered o r l q =
-          let none : member asked (module-names all) ≡ false = member-absent asked (module-names all) (omega (arith, l, count-so, number-so)) in
+      absent-answered o r count c l q =
+          let none : member asked (module-names all) ≡ false = member-absent asked (module-names all) (omega (arith, c, l, count-so, number-so)) in
           let ended : normalise asked all ≡ refused-at asked-absent 0 asked (lone (short-or-blank asked)) = rw none in
           refusal-answered asked x o r asked-absent 0 asked (lone (short-or-blank asked)) 0
           (ap (of-read asked) (spoken .read-so) ∙ ap (of-ended asked) ended) q

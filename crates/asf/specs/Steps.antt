@@ -15,8 +15,7 @@ use Rattle.meaning.specs.Reached.{module-names}
 use Rattle.tape.specs.Tape.{entries, flat-module, flat-modules}
 use Rattle.form.specs.Memory.{part}
 use Rattle.form_layout.specs.Layout.{tape-end}
-use Rattle.modules.specs.declared.Heads.{Heads}
-use Rattle.modules.specs.Modules.{HeadsOf}
+use Rattle.modules.specs.Modules.{HeadsOf, Heads}
 
 -- the t entries in front of the memory say what was read, x; a place is one of both texts
 pub record Spoken (x : Reading) (text : List ℕ) (t : ℕ) (w : List ℕ) : Type 0 where

@@ -12,6 +12,7 @@ pub use memory::memory_size;
 use module_heads::find_heads;
 use modules::Heads;
 use modules::find_asked;
+use modules::module_count;
 use modules::name_of_module;
 use read_both::Both;
 use read_both::read_both;
@@ -24,6 +25,7 @@ ghost use Rattle.meaning.specs.Contract.{call};
 ghost use Rattle.text_names.specs.Joint.{joint};
 ghost use Rattle.answer.specs.Answers.{returned, told-call};
 ghost use Rattle.answer_listing.specs.Answered.{Answered};
+ghost use Rattle.modules.specs.Modules.{heads-in};
 ghost use Rattle.asf.specs.Steps.{Spoken, Found};
 
 // The answer for module k of a tape of t entries.
@@ -33,11 +35,11 @@ fn module_answer(
     text: &[u8],
     work: &mut [u32],
     t: usize,
-    h: Heads,
+    h: &Heads,
     k: u32,
     out: &mut [u8],
 ) -> Answer
-    requires { ⌜ Found (now asked) (read-texts (two-texts (now library) (now text))) (joint (now library) (now text)) t (now work) h k ⌝ }
+    requires { ⌜ Found (now asked) (read-texts (two-texts (now library) (now text))) (joint (now library) (now text)) t (now work) (heads-in (now h)) k ⌝ }
     ensures { λ r. ⌜ Answered (now (asked .entry)) (read-texts (two-texts (now (library .entry)) (now (text .entry)))) (now (out .entry)) r (now (out .exit)) ⌝ }
 {
     let name = name_of_module(&work[0..t], h, k);
@@ -74,13 +76,14 @@ fn asked_answer(
     requires { ⌜ Spoken (read-texts (two-texts (now library) (now text))) (joint (now library) (now text)) t (now work) ⌝ }
     ensures { λ r. ⌜ Answered (now (asked .entry)) (read-texts (two-texts (now (library .entry)) (now (text .entry)))) (now (out .entry)) r (now (out .exit)) ⌝ }
 {
-    let h = find_heads(&work[0..t], t as u32);
-    let k = find_asked(library, text, &work[0..t], h, asked);
-    let count = h.count;
+    let mut h = [0; 66];
+    find_heads(&work[0..t], t as u32, &mut h);
+    let k = find_asked(library, text, &work[0..t], &h, asked);
+    let count = module_count(&h);
     if count <= k {
         return absent(asked);
     }
-    module_answer(asked, library, text, work, t, h, k, out)
+    module_answer(asked, library, text, work, t, &h, k, out)
 }
 
 // The answer where there is enough working memory.

@@ -14,8 +14,7 @@ use Rattle.form_rows.specs.Entries.{word-at, name-at}
 use Rattle.answer.specs.declared.Name as Held
 use Rattle.answer.specs.Answers.{held}
 use Rattle.ask_decision.specs.Decide.{names-read, module-called}
-use Rattle.modules.specs.declared.Heads.{Heads}
-use Rattle.modules.specs.Modules.{HeadsOf, declared}
+use Rattle.modules.specs.Modules.{HeadsOf, declared, Heads}
 use Rattle.modules.specs.ModuleLaws.{Spells, heads-number, declared-names, names-by-number}
 use Rattle.modules.specs.ReachedLaws.{names-number}
 use Rattle.ask_names.specs.Steps.{Spoken}
@@ -37,14 +36,16 @@ module _ (t : Texts) (text tape : List ℕ) (spoken : Spoken (read-texts t) text
   unfolding module-called names-read
   names-so = ap (λ (x : Reading). getD (names-read x) k []) (spoken .read-so)
 
-  pub name-absent : h .count ≤ k → r ≡ held [] → r ≡ held (module-called t k)
-  name-absent l e =
-      let few : length (module-names all) ≤ k = omega (arith, l, count-so (read-texts t) text tape spoken h heads) in
+  pub name-absent : (count : ℕ) → count ≡ h .count → count ≤ k → r ≡ held [] → r ≡ held (module-called t k)
+  name-absent count c l e =
+      let few : length (module-names all) ≤ k = omega (arith, c, l, count-so (read-texts t) text tape spoken h heads) in
       e ∙ ap held (sym (names-so ∙ List·getD-eq-default (module-names all) [] few))
 
-  pub name-there : (w : ℕ) → k < h .count → w ≡ word-at tape (getD (h .places) k 0) → r ≡ held (name-of text w) → r ≡ held (module-called t k)
+  pub name-there : (w count : ℕ) → count ≡ h .count → k < count → w ≡ word-at tape (getD (h .places) k 0) → r ≡ held (name-of text w)
+      → r ≡ held (module-called t k)
   unfolding declared
-  name-there w l e f =
+  name-there w count c below e f =
+      let l : k < h .count = omega (arith, c, below) in
       let places = take (h .count) (h .places) in
       let in-it : length places ≡ h .count = length-take-le (h .count) (h .places) (omega (arith, heads .few, heads .size)) in
       let named-so : getD (module-names all) k [] ≡ name-at text tape (getD (h .places) k 0) =

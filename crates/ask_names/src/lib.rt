@@ -5,6 +5,7 @@ use answer::name_in;
 use form_layout::tape_end;
 use memory::memory_size;
 use module_heads::find_heads;
+use modules::module_count;
 use modules::name_of_module;
 use read_both::Both;
 use read_both::read_both;
@@ -24,12 +25,13 @@ fn name_read(library: &[u8], text: &[u8], tape: &[u32], k: u32) -> Name
     requires { ⌜ Spoken (read-texts (two-texts (now library) (now text))) (joint (now library) (now text)) (now tape) ⌝ }
     ensures { λ r. ⌜ r ≡ held (module-called (two-texts (now (library .entry)) (now (text .entry))) k) ⌝ }
 {
-    let h = find_heads(tape, tape.len() as u32);
-    let count = h.count;
+    let mut h = [0; 66];
+    find_heads(tape, tape.len() as u32, &mut h);
+    let count = module_count(&h);
     if count <= k {
         return blank();
     }
-    name_in(library, text, name_of_module(tape, h, k))
+    name_in(library, text, name_of_module(tape, &h, k))
 }
 
 // The name of module k where there is enough working memory; blank where the texts are not read.

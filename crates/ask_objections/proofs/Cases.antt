@@ -14,8 +14,7 @@ use Rattle.text_names.specs.Word.{name-of, no-name}
 use Rattle.form_rows.specs.Entries.{role-at, word-at}
 use Rattle.ask_decision.specs.Decide.{objection}
 use Rattle.ask_alike.specs.Alike.{same-entry, entries-from, section-role, run-size}
-use Rattle.modules.specs.declared.Heads.{Heads}
-use Rattle.modules.specs.Modules.{names-module, declared, picked, named-in}
+use Rattle.modules.specs.Modules.{names-module, declared, picked, named-in, Heads}
 use Rattle.modules.proofs.Cases.{picked-none, picked-other, picked-here}
 use Rattle.ask_objections.specs.declared.Objection.{Objection}
 use Rattle.ask_objections.specs.declared.Objection.the-variants.{Nothing, Against}

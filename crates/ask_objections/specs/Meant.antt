@@ -14,7 +14,7 @@ use Rattle.ask_decision.specs.Same.{same-module}
 use Rattle.ask_decision.specs.Decide.{Why, otherwise, itself-changed, shown-changed, alike, name-changed, names-changed}
 use Rattle.ask_tape.specs.Compared.{modules-compared, parameters-compared, exports-compared, imports-compared}
 use Rattle.ask_alike.specs.Alike.{same-entry}
-use Rattle.modules.specs.declared.Heads.{Heads}
+use Rattle.modules.specs.Modules.{Heads}
 use Rattle.modules.specs.ModuleLaws.{Spells}
 use Rattle.ask_objections.specs.Objections.{module-entries, otherwise-at, itself-at, section-at, shown-at, used-alike, name-objection, names-at, objection-at}
 use Rattle.ask_objections.specs.Spelled.{PlacedIn, module-spelled, name-spelled, parameters-spelled, exports-spelled, imports-spelled, names-spelled, stands-as}

@@ -15,8 +15,7 @@ use Rattle.ask_decision.specs.Reasons.{reached-otherwise, asked-changed, parame
 use Rattle.ask_decision.specs.Decide as Meaning
 use Rattle.ask_decision.specs.Decide.{why, objection}
 use Rattle.ask_alike.specs.Alike.{same-entry, entries-from, the-parameters, the-exports, the-imports, run-size}
-use Rattle.modules.specs.declared.Heads.{Heads}
-use Rattle.modules.specs.Modules.{declared, named-in}
+use Rattle.modules.specs.Modules.{declared, named-in, Heads}
 use Rattle.ask_objections.specs.declared.Why.{Why}
 use Rattle.ask_objections.specs.declared.Objection.{Objection}
 use Rattle.ask_objections.specs.declared.Objection.the-variants.{Nothing, Against}

@@ -20,8 +20,7 @@ use Rattle.ask_tape.specs.Told.{head-ends, exports-end, imports-end}
 use Rattle.form_rows.specs.Entries.{name-at}
 use Rattle.ask_alike.specs.Alike.{entries-from, between, declaring, section-role, run-size, the-parameters, the-exports, the-imports}
 use Rattle.ask_alike.specs.AlikeLaws.{entries-part, first-entries, last-entries, OfSection, BehindSection, run-length}
-use Rattle.modules.specs.declared.Heads.{Heads}
-use Rattle.modules.specs.Modules.{declared, named-in}
+use Rattle.modules.specs.Modules.{declared, named-in, Heads}
 use Rattle.form_walks.specs.Lists.{each-append}
 use Rattle.modules.specs.ModuleLaws.{Spells, heads-number, declared-names, begin, end}
 use Rattle.modules.specs.Members.{member-found, member-absent, member-early, member-late}

@@ -9,6 +9,7 @@ use form_rows::entries::name_at;
 use form_rows::entries::role_at;
 use modules::Heads;
 use modules::find_number;
+use modules::module_count;
 use modules::name_of_module;
 use modules::names_module;
 use modules::place_at;
@@ -21,7 +22,7 @@ ghost use Rattle.meaning.specs.Names.{same};
 ghost use Rattle.text_names.specs.Word.{name-of};
 ghost use Rattle.text_names.specs.Joint.{joint};
 ghost use Rattle.ask_alike.specs.Alike.{same-entry};
-ghost use Rattle.modules.specs.Modules.{declared};
+ghost use Rattle.modules.specs.Modules.{declared, heads-in};
 ghost use Rattle.ask_objections.specs.declared.Objection.the-variants.{Against};
 ghost use Rattle.ask_objections.specs.Objections.{told, module-entries, otherwise-at, itself-at, body-start, section-start, section-entries, shown-at, standing, used-alike, names-at, objection-at};
 
@@ -56,15 +57,15 @@ fn otherwise(
     library: &[u8],
     text: &[u8],
     tape: &[u32],
-    h: Heads,
+    h: &Heads,
     behind: &[u8],
     other: &[u8],
     more: &[u32],
-    g: Heads,
+    g: &Heads,
     k: u32,
     n: u32,
 ) -> Objection
-    ensures { λ r. ⌜ told (joint (now (library .entry)) (now (text .entry))) (joint (now (behind .entry)) (now (other .entry))) r ≡ otherwise-at (joint (now (library .entry)) (now (text .entry))) (now (tape .entry)) h (joint (now (behind .entry)) (now (other .entry))) (now (more .entry)) g k n ⌝ }
+    ensures { λ r. ⌜ told (joint (now (library .entry)) (now (text .entry))) (joint (now (behind .entry)) (now (other .entry))) r ≡ otherwise-at (joint (now (library .entry)) (now (text .entry))) (now (tape .entry)) (heads-in (now (h .entry))) (joint (now (behind .entry)) (now (other .entry))) (now (more .entry)) (heads-in (now (g .entry))) k n ⌝ }
 {
     let w = name_of_module(tape, h, k);
     let v = name_of_module(more, g, n);
@@ -86,15 +87,15 @@ pub fn same_module(
     library: &[u8],
     text: &[u8],
     tape: &[u32],
-    h: Heads,
+    h: &Heads,
     behind: &[u8],
     other: &[u8],
     more: &[u32],
-    g: Heads,
+    g: &Heads,
     k: u32,
     n: u32,
 ) -> bool
-    ensures { λ r. ⌜ r ≡ agree same-entry (module-entries (joint (now (library .entry)) (now (text .entry))) (now (tape .entry)) h k) (module-entries (joint (now (behind .entry)) (now (other .entry))) (now (more .entry)) g n) ⌝ }
+    ensures { λ r. ⌜ r ≡ agree same-entry (module-entries (joint (now (library .entry)) (now (text .entry))) (now (tape .entry)) (heads-in (now (h .entry))) k) (module-entries (joint (now (behind .entry)) (now (other .entry))) (now (more .entry)) (heads-in (now (g .entry))) n) ⌝ }
 {
     let i = place_at(h, k as usize);
     let end = place_at(h, k as usize + 1);
@@ -109,15 +110,15 @@ fn itself(
     library: &[u8],
     text: &[u8],
     tape: &[u32],
-    h: Heads,
+    h: &Heads,
     behind: &[u8],
     other: &[u8],
     more: &[u32],
-    g: Heads,
+    g: &Heads,
     k: u32,
     n: u32,
 ) -> Objection
-    ensures { λ r. ⌜ told (joint (now (library .entry)) (now (text .entry))) (joint (now (behind .entry)) (now (other .entry))) r ≡ itself-at (joint (now (library .entry)) (now (text .entry))) (now (tape .entry)) h (joint (now (behind .entry)) (now (other .entry))) (now (more .entry)) g (now (asked .entry)) k n ⌝ }
+    ensures { λ r. ⌜ told (joint (now (library .entry)) (now (text .entry))) (joint (now (behind .entry)) (now (other .entry))) r ≡ itself-at (joint (now (library .entry)) (now (text .entry))) (now (tape .entry)) (heads-in (now (h .entry))) (joint (now (behind .entry)) (now (other .entry))) (now (more .entry)) (heads-in (now (g .entry))) (now (asked .entry)) k n ⌝ }
 {
     let w = name_of_module(tape, h, k);
     if is_called(library, text, w, asked) {
@@ -132,8 +133,8 @@ fn itself(
 // ---- its sections: 0 is that of the parameters, 1 of the exports, 2 of the imports
 
 // The place behind the head of module k, where it has one.
-fn body_start(h: Heads, k: u32) -> u32
-    ensures { λ r. ⌜ r ≡ body-start h k ⌝ }
+fn body_start(h: &Heads, k: u32) -> u32
+    ensures { λ r. ⌜ r ≡ body-start (heads-in (now (h .entry))) k ⌝ }
 {
     let i = place_at(h, k as usize);
     if i < place_at(h, k as usize + 1) {
@@ -143,8 +144,8 @@ fn body_start(h: Heads, k: u32) -> u32
 }
 
 // Where the section of module k begins.
-fn section_start(tape: &[u32], h: Heads, k: u32, section: u32) -> u32
-    ensures { λ r. ⌜ r ≡ section-start (now (tape .entry)) h k section ⌝ }
+fn section_start(tape: &[u32], h: &Heads, k: u32, section: u32) -> u32
+    ensures { λ r. ⌜ r ≡ section-start (now (tape .entry)) (heads-in (now (h .entry))) k section ⌝ }
 {
     let end = place_at(h, k as usize + 1);
     let mut i = body_start(h, k);
@@ -162,16 +163,16 @@ fn same_there(
     library: &[u8],
     text: &[u8],
     tape: &[u32],
-    h: Heads,
+    h: &Heads,
     behind: &[u8],
     other: &[u8],
     more: &[u32],
-    g: Heads,
+    g: &Heads,
     k: u32,
     n: u32,
     section: u32,
 ) -> bool
-    ensures { λ r. ⌜ r ≡ agree same-entry (section-entries (joint (now (library .entry)) (now (text .entry))) (now (tape .entry)) h k section) (section-entries (joint (now (behind .entry)) (now (other .entry))) (now (more .entry)) g n section) ⌝ }
+    ensures { λ r. ⌜ r ≡ agree same-entry (section-entries (joint (now (library .entry)) (now (text .entry))) (now (tape .entry)) (heads-in (now (h .entry))) k section) (section-entries (joint (now (behind .entry)) (now (other .entry))) (now (more .entry)) (heads-in (now (g .entry))) n section) ⌝ }
 {
     let i = section_start(tape, h, k, section);
     let j = section_start(more, g, n, section);
@@ -197,15 +198,15 @@ fn shown(
     library: &[u8],
     text: &[u8],
     tape: &[u32],
-    h: Heads,
+    h: &Heads,
     behind: &[u8],
     other: &[u8],
     more: &[u32],
-    g: Heads,
+    g: &Heads,
     k: u32,
     n: u32,
 ) -> Objection
-    ensures { λ r. ⌜ told (joint (now (library .entry)) (now (text .entry))) (joint (now (behind .entry)) (now (other .entry))) r ≡ shown-at (joint (now (library .entry)) (now (text .entry))) (now (tape .entry)) h (joint (now (behind .entry)) (now (other .entry))) (now (more .entry)) g k n ⌝ }
+    ensures { λ r. ⌜ told (joint (now (library .entry)) (now (text .entry))) (joint (now (behind .entry)) (now (other .entry))) r ≡ shown-at (joint (now (library .entry)) (now (text .entry))) (now (tape .entry)) (heads-in (now (h .entry))) (joint (now (behind .entry)) (now (other .entry))) (now (more .entry)) (heads-in (now (g .entry))) k n ⌝ }
 {
     let by = name_of_module(tape, h, k);
     if same_there(
@@ -266,11 +267,11 @@ fn find_across(
     behind: &[u8],
     other: &[u8],
     more: &[u32],
-    g: Heads,
+    g: &Heads,
 ) -> u32
-    ensures { λ r. ⌜ r ≡ before (same (name-of (joint (now (library .entry)) (now (text .entry))) w)) (declared (joint (now (behind .entry)) (now (other .entry))) (now (more .entry)) g) ⌝ }
+    ensures { λ r. ⌜ r ≡ before (same (name-of (joint (now (library .entry)) (now (text .entry))) w)) (declared (joint (now (behind .entry)) (now (other .entry))) (now (more .entry)) (heads-in (now (g .entry)))) ⌝ }
 {
-    let count = g.count;
+    let count = module_count(g);
     let mut k = 0;
     while k < count {
         let v = name_of_module(more, g, k);
@@ -283,10 +284,10 @@ fn find_across(
 }
 
 // How the module with number p stands to module k: 0 where there is none, 1 where it stands too late, 2 where it stands before.
-fn standing(h: Heads, k: u32, p: u32) -> u32
-    ensures { λ r. ⌜ r ≡ standing (h .count) k p ⌝ }
+fn standing(h: &Heads, k: u32, p: u32) -> u32
+    ensures { λ r. ⌜ r ≡ standing ((heads-in (now (h .entry))) .count) k p ⌝ }
 {
-    let count = h.count;
+    let count = module_count(h);
     if count <= p {
         return 0;
     }
@@ -301,16 +302,16 @@ fn used_alike(
     library: &[u8],
     text: &[u8],
     tape: &[u32],
-    h: Heads,
+    h: &Heads,
     behind: &[u8],
     other: &[u8],
     more: &[u32],
-    g: Heads,
+    g: &Heads,
     k: u32,
     n: u32,
     w: u32,
 ) -> bool
-    ensures { λ r. ⌜ r ≡ used-alike (joint (now (library .entry)) (now (text .entry))) (now (tape .entry)) h (joint (now (behind .entry)) (now (other .entry))) (now (more .entry)) g k n (name-of (joint (now (library .entry)) (now (text .entry))) w) ⌝ }
+    ensures { λ r. ⌜ r ≡ used-alike (joint (now (library .entry)) (now (text .entry))) (now (tape .entry)) (heads-in (now (h .entry))) (joint (now (behind .entry)) (now (other .entry))) (now (more .entry)) (heads-in (now (g .entry))) k n (name-of (joint (now (library .entry)) (now (text .entry))) w) ⌝ }
 {
     let p = find_number(library, text, tape, h, w);
     let q = find_across(library, text, w, behind, other, more, g);
@@ -322,15 +323,15 @@ fn names(
     library: &[u8],
     text: &[u8],
     tape: &[u32],
-    h: Heads,
+    h: &Heads,
     behind: &[u8],
     other: &[u8],
     more: &[u32],
-    g: Heads,
+    g: &Heads,
     k: u32,
     n: u32,
 ) -> Objection
-    ensures { λ r. ⌜ told (joint (now (library .entry)) (now (text .entry))) (joint (now (behind .entry)) (now (other .entry))) r ≡ names-at (joint (now (library .entry)) (now (text .entry))) (now (tape .entry)) h (joint (now (behind .entry)) (now (other .entry))) (now (more .entry)) g k n ⌝ }
+    ensures { λ r. ⌜ told (joint (now (library .entry)) (now (text .entry))) (joint (now (behind .entry)) (now (other .entry))) r ≡ names-at (joint (now (library .entry)) (now (text .entry))) (now (tape .entry)) (heads-in (now (h .entry))) (joint (now (behind .entry)) (now (other .entry))) (now (more .entry)) (heads-in (now (g .entry))) k n ⌝ }
 {
     let by = name_of_module(tape, h, k);
     let mut j = place_at(h, k as usize);
@@ -363,16 +364,16 @@ pub fn objection_in(
     library: &[u8],
     text: &[u8],
     tape: &[u32],
-    h: Heads,
+    h: &Heads,
     behind: &[u8],
     other: &[u8],
     more: &[u32],
-    g: Heads,
+    g: &Heads,
     pass: u32,
     k: u32,
     n: u32,
 ) -> Objection
-    ensures { λ r. ⌜ told (joint (now (library .entry)) (now (text .entry))) (joint (now (behind .entry)) (now (other .entry))) r ≡ objection-at (joint (now (library .entry)) (now (text .entry))) (now (tape .entry)) h (joint (now (behind .entry)) (now (other .entry))) (now (more .entry)) g (now (asked .entry)) pass k n ⌝ }
+    ensures { λ r. ⌜ told (joint (now (library .entry)) (now (text .entry))) (joint (now (behind .entry)) (now (other .entry))) r ≡ objection-at (joint (now (library .entry)) (now (text .entry))) (now (tape .entry)) (heads-in (now (h .entry))) (joint (now (behind .entry)) (now (other .entry))) (now (more .entry)) (heads-in (now (g .entry))) (now (asked .entry)) pass k n ⌝ }
 {
     if pass == 0 {
         return otherwise(library, text, tape, h, behind, other, more, g, k, n);

@@ -15,7 +15,7 @@ use Rattle.meaning.specs.Names.{Name}
 use Rattle.module_set.specs.ModuleSet.{holds, nothing, added}
 use Rattle.text_names.specs.Word.{name-of, no-name}
 use Rattle.form_rows.specs.Entries.{word-at}
-use Rattle.modules.specs.declared.Heads.{Heads}
+use Rattle.modules.specs.Modules.{Heads}
 use Rattle.ask_decision.specs.Decide.{Why, why}
 use Rattle.ask_decision.specs.Reasons.{reached-otherwise}
 use Rattle.ask_objections.specs.declared.Objection.{Objection}

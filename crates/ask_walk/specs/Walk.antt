@@ -7,7 +7,7 @@ use mathlib.Core.List.{List, [], _∷_}
 use Rattle.meaning.specs.Lists.{pick, agree, or-else}
 use Rattle.meaning.specs.Names.{Name}
 use Rattle.module_set.specs.ModuleSet.{added}
-use Rattle.modules.specs.declared.Heads.{Heads}
+use Rattle.modules.specs.Modules.{Heads}
 use Rattle.ask_alike.specs.Alike.{same-entry}
 use Rattle.ask_decision.specs.Reasons.{reached-otherwise}
 use Rattle.ask_decision.specs.Decide.{Why, why}

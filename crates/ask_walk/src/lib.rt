@@ -6,6 +6,7 @@ use ask_objections::Why;
 use ask_objections::objection_in;
 use ask_objections::same_module;
 use modules::Heads;
+use modules::module_count;
 use modules::name_of_module;
 ghost use mathlib.Core.Path.{_≡_};
 ghost use Prim.Native.Nat.{_+_, _-_, _<_};
@@ -13,6 +14,7 @@ ghost use Rattle.text_names.specs.Joint.{joint};
 ghost use Rattle.module_set.specs.ModuleSet.{holds, nothing};
 ghost use Rattle.ask_objections.specs.declared.Objection.the-variants.{Against};
 ghost use Rattle.ask_objections.specs.Objections.{told};
+ghost use Rattle.modules.specs.Modules.{heads-in};
 ghost use Rattle.ask_walk.specs.Walk.{next-member, same-at, with-unless, with-all, in-pairs-at, against-at, changed-at};
 
 // The first module of the set from number i on; `end` if there is none below it.
@@ -55,19 +57,19 @@ fn in_pairs(
     library: &[u8],
     text: &[u8],
     tape: &[u32],
-    h: Heads,
+    h: &Heads,
     behind: &[u8],
     other: &[u8],
     more: &[u32],
-    g: Heads,
+    g: &Heads,
     set: u64,
     new_set: u64,
     pass: u32,
 ) -> Objection
-    ensures { λ r. ⌜ told (joint (now (library .entry)) (now (text .entry))) (joint (now (behind .entry)) (now (other .entry))) r ≡ in-pairs-at (joint (now (library .entry)) (now (text .entry))) (now (tape .entry)) h (joint (now (behind .entry)) (now (other .entry))) (now (more .entry)) g (now (asked .entry)) (holds set) (holds «new_set») pass ⌝ }
+    ensures { λ r. ⌜ told (joint (now (library .entry)) (now (text .entry))) (joint (now (behind .entry)) (now (other .entry))) r ≡ in-pairs-at (joint (now (library .entry)) (now (text .entry))) (now (tape .entry)) (heads-in (now (h .entry))) (joint (now (behind .entry)) (now (other .entry))) (now (more .entry)) (heads-in (now (g .entry))) (now (asked .entry)) (holds set) (holds «new_set») pass ⌝ }
 {
-    let count = h.count;
-    let new_count = g.count;
+    let count = module_count(h);
+    let new_count = module_count(g);
     let mut i = next_member(set, 0, count);
     let mut j = next_member(new_set, 0, new_count);
     while i < count {
@@ -107,15 +109,15 @@ pub fn against(
     library: &[u8],
     text: &[u8],
     tape: &[u32],
-    h: Heads,
+    h: &Heads,
     behind: &[u8],
     other: &[u8],
     more: &[u32],
-    g: Heads,
+    g: &Heads,
     set: u64,
     new_set: u64,
 ) -> Objection
-    ensures { λ r. ⌜ told (joint (now (library .entry)) (now (text .entry))) (joint (now (behind .entry)) (now (other .entry))) r ≡ against-at (joint (now (library .entry)) (now (text .entry))) (now (tape .entry)) h (joint (now (behind .entry)) (now (other .entry))) (now (more .entry)) g (now (asked .entry)) (holds set) (holds «new_set») ⌝ }
+    ensures { λ r. ⌜ told (joint (now (library .entry)) (now (text .entry))) (joint (now (behind .entry)) (now (other .entry))) r ≡ against-at (joint (now (library .entry)) (now (text .entry))) (now (tape .entry)) (heads-in (now (h .entry))) (joint (now (behind .entry)) (now (other .entry))) (now (more .entry)) (heads-in (now (g .entry))) (now (asked .entry)) (holds set) (holds «new_set») ⌝ }
 {
     let mut pass = 0;
     while pass < 4 {
@@ -147,16 +149,16 @@ fn with_changed(
     library: &[u8],
     text: &[u8],
     tape: &[u32],
-    h: Heads,
+    h: &Heads,
     behind: &[u8],
     other: &[u8],
     more: &[u32],
-    g: Heads,
+    g: &Heads,
     i: u32,
     j: u32,
     set: u64,
 ) -> u64
-    ensures { λ r. ⌜ holds r ≡ with-unless (same-at (joint (now (library .entry)) (now (text .entry))) (now (tape .entry)) h (joint (now (behind .entry)) (now (other .entry))) (now (more .entry)) g i j) j (holds set) ⌝ }
+    ensures { λ r. ⌜ holds r ≡ with-unless (same-at (joint (now (library .entry)) (now (text .entry))) (now (tape .entry)) (heads-in (now (h .entry))) (joint (now (behind .entry)) (now (other .entry))) (now (more .entry)) (heads-in (now (g .entry))) i j) j (holds set) ⌝ }
 {
     if same_module(library, text, tape, h, behind, other, more, g, i, j) {
         return set;
@@ -169,18 +171,18 @@ pub fn changed_set(
     library: &[u8],
     text: &[u8],
     tape: &[u32],
-    h: Heads,
+    h: &Heads,
     behind: &[u8],
     other: &[u8],
     more: &[u32],
-    g: Heads,
+    g: &Heads,
     set: u64,
     new_set: u64,
 ) -> u64
-    ensures { λ r. ⌜ holds r ≡ with-all nothing (changed-at (joint (now (library .entry)) (now (text .entry))) (now (tape .entry)) h (joint (now (behind .entry)) (now (other .entry))) (now (more .entry)) g (holds set) (holds «new_set»)) ⌝ }
+    ensures { λ r. ⌜ holds r ≡ with-all nothing (changed-at (joint (now (library .entry)) (now (text .entry))) (now (tape .entry)) (heads-in (now (h .entry))) (joint (now (behind .entry)) (now (other .entry))) (now (more .entry)) (heads-in (now (g .entry))) (holds set) (holds «new_set»)) ⌝ }
 {
-    let count = h.count;
-    let new_count = g.count;
+    let count = module_count(h);
+    let new_count = module_count(g);
     let mut all = module_set::empty();
     let mut i = next_member(set, 0, count);
     let mut j = next_member(new_set, 0, new_count);

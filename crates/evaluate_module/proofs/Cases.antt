@@ -28,8 +28,7 @@ use Rattle.form.specs.Verdicts.{culprit-of, told}
 use Rattle.form.specs.Forms.{Stands}
 use Rattle.form.specs.Blocks.{MadeThere}
 use Rattle.form_layout.specs.Layout.{joining-block, tape-end}
-use Rattle.modules.specs.declared.Heads.{Heads}
-use Rattle.modules.specs.Modules.{declared, named-in}
+use Rattle.modules.specs.Modules.{declared, named-in, Heads}
 use Rattle.own_repeats.specs.Scans.{walked}
 use Rattle.own_repeats.specs.Once.{once-at}
 use Rattle.unite.specs.United.{empty-in}

@@ -20,8 +20,7 @@ use Rattle.form.specs.Memory.{part, Kept}
 use Rattle.form.specs.Blocks.{Makes, MadeIn}
 use Rattle.form.specs.Verdicts.{culprit-of}
 use Rattle.form_layout.specs.Layout.{joining-block, second-block, tape-end, Laid}
-use Rattle.modules.specs.declared.Heads.{Heads}
-use Rattle.modules.specs.Modules.{declared}
+use Rattle.modules.specs.Modules.{declared, Heads}
 use Rattle.unite_checks.specs.Made.{makes-as, refused-outcome, refused-makes, done-outcome, then-stops, then-goes-on}
 use Rattle.own_completing.specs.declared.Totals.{Totals}
 use Rattle.own_completing.specs.Room.{TotalsRight, StillRight, TotalsMeant}

@@ -11,7 +11,7 @@ use Rattle.meaning.specs.Checks.{Culprit, Check, Outcome, fine, stop, _>>=_, _>
 use Rattle.meaning.specs.Evaluate.{Evaluated, named-by, names-right, declared-once, imported, joined-own, evaluate}
 use Rattle.meaning.specs.Reached.{module-names}
 use Rattle.tape.specs.Tape.{flat-module}
-use Rattle.modules.specs.declared.Heads.{Heads}
+use Rattle.modules.specs.Modules.{Heads}
 use Rattle.modules.specs.Meant.{Earlier, names-told}
 use Rattle.own_declarations.specs.ItemLaws.{few-inputs}
 use Rattle.own_declarations.specs.OnceLaws.{once-by-places}

@@ -10,7 +10,7 @@ use Rattle.meaning.specs.Syntax.{Module}
 use Rattle.invariants.specs.Limits.{Limited}
 use Rattle.tape.specs.Tape.{flat-module, flat-modules}
 use Rattle.form_rows.specs.Entries.{role-at}
-use Rattle.modules.specs.declared.Heads.{Heads}
+use Rattle.modules.specs.Modules.{Heads}
 use Rattle.modules.specs.ModuleLaws.{heads-number, begin, end}
 use Rattle.modules.specs.ModuleLaws.{Spells as Says}
 use Rattle.modules.specs.ReachedLaws.{drop-some}

@@ -22,8 +22,7 @@ use Rattle.form.specs.Forms.{Stands, equation-size, slot-size}
 use Rattle.form.specs.Blocks.{Makes, MadeIn, MadeThere}
 use Rattle.form.specs.Verdicts.{culprit-of}
 use Rattle.form_layout.specs.Layout.{joining-block, second-block, kept-start, table-start, Laid}
-use Rattle.modules.specs.declared.Heads.{Heads}
-use Rattle.modules.specs.Modules.{declared}
+use Rattle.modules.specs.Modules.{declared, Heads}
 use Rattle.modules.specs.ModuleLaws.{declared-names}
 use Rattle.modules.specs.ReachedLaws.{names-distinct, names-number, name-by-number, drop-some}
 use Rattle.unite_checks.specs.Made.{refused-outcome, done-outcome, then-stops, then-goes-on}

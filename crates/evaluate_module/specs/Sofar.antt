@@ -14,8 +14,7 @@ use Rattle.form_rows.specs.Rows.{row-size}
 use Rattle.form.specs.Memory.{part}
 use Rattle.form.specs.Forms.{equation-size, slot-size}
 use Rattle.form_layout.specs.Layout.{tape-end, kept-start, Laid}
-use Rattle.modules.specs.declared.Heads.{Heads}
-use Rattle.modules.specs.Modules.{declared}
+use Rattle.modules.specs.Modules.{declared, Heads}
 use Rattle.modules.specs.ModuleLaws.{Spells}
 use Rattle.own_completing.specs.Room.{TotalsRight, TotalsMeant}
 use Rattle.own_equations.specs.Seen.{SeenAmong}

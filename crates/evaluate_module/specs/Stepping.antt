@@ -10,7 +10,7 @@ use Rattle.meaning.specs.Checks.{Outcome, fine, stop}
 use Rattle.meaning.specs.Evaluate.{Evaluated, evaluate}
 use Rattle.meaning.specs.Reached.{total-of, module-names}
 use Rattle.form.specs.Verdicts.{culprit-of}
-use Rattle.modules.specs.declared.Heads.{Heads}
+use Rattle.modules.specs.Modules.{Heads}
 use Rattle.modules.specs.Meant.{Earlier}
 use Rattle.evaluate_states.specs.declared.State.{State}
 use Rattle.evaluate_module.specs.declared.evaluate.Stepped.{Stepped}

@@ -12,8 +12,7 @@ use Rattle.form.specs.declared.Made.{Made}
 use Rattle.form.specs.Memory.{part, Kept}
 use Rattle.form.specs.Blocks.{Makes, MadeIn}
 use Rattle.form_layout.specs.Layout.{joining-block, second-block}
-use Rattle.modules.specs.declared.Heads.{Heads}
-use Rattle.modules.specs.Modules.{declared, named-in}
+use Rattle.modules.specs.Modules.{declared, named-in, Heads}
 use Rattle.own_repeats.specs.Scans.{walked}
 use Rattle.own_repeats.specs.Once.{once-at}
 use Rattle.imports.specs.Clausal.{Ground}

@@ -12,6 +12,7 @@ ghost use Prim.Native.Nat.{_<_};
 ghost use Rattle.text_names.specs.Joint.{joint};
 ghost use Rattle.evaluate_module.specs.Sofar.{Ready};
 ghost use Rattle.evaluate_module.specs.Stepping.{Stepping};
+ghost use Rattle.modules.specs.Modules.{heads-in};
 ghost use Rattle.evaluate_module.specs.Next.{LastRoom, LastStepping};
 
 // How a module's evaluation ends: its normal form is kept, or it is refused with the number and the culprit.
@@ -26,14 +27,14 @@ fn made(
     text: &[u8],
     work: &mut [u32],
     t: usize,
-    h: Heads,
+    h: &Heads,
     k: u32,
     from: u32,
     end: u32,
     s: State,
 ) -> Stepped
-    requires { ⌜ LastRoom t (now work) h k from end s ⌝ }
-    ensures { λ r. ⌜ LastStepping (joint (now (library .entry)) (now (text .entry))) t (now (work .entry)) h k s r (now (work .exit)) ⌝ }
+    requires { ⌜ LastRoom t (now work) (heads-in (now h)) k from end s ⌝ }
+    ensures { λ r. ⌜ LastStepping (joint (now (library .entry)) (now (text .entry))) t (now (work .entry)) (heads-in (now (h .entry))) k s r (now (work .exit)) ⌝ }
 {
     let totals = s.totals;
     match completed(library, text, work, t, h, k, from, end, totals) {
@@ -48,13 +49,13 @@ pub fn evaluate(
     text: &[u8],
     work: &mut [u32],
     t: usize,
-    h: Heads,
+    h: &Heads,
     k: u32,
     s: State,
 ) -> Stepped
-    requires { ⌜ k < h .count ⌝ }
-    requires { ⌜ Ready t (now work) h k s ⌝ }
-    ensures { λ r. ⌜ Stepping (joint (now (library .entry)) (now (text .entry))) t (now (work .entry)) h k s r (now (work .exit)) ⌝ }
+    requires { ⌜ k < (heads-in (now h)) .count ⌝ }
+    requires { ⌜ Ready t (now work) (heads-in (now h)) k s ⌝ }
+    ensures { λ r. ⌜ Stepping (joint (now (library .entry)) (now (text .entry))) t (now (work .entry)) (heads-in (now (h .entry))) k s r (now (work .exit)) ⌝ }
 {
     let from = place_at(h, k as usize);
     let end = place_at(h, k as usize + 1);

@@ -16,6 +16,7 @@ ghost use lib.ListN.{length};
 ghost use Rattle.text_names.specs.Joint.{joint};
 ghost use Rattle.form.specs.Verdicts.{told};
 ghost use Rattle.evaluate_module.specs.Steps.{first-checks, ImportedRoom, Imported};
+ghost use Rattle.modules.specs.Modules.{heads-in};
 ghost use Rattle.evaluate_module.specs.Completes.{CompletedRoom, CompletedAll};
 
 // Steps 1 and 2 for module k, whose entries stand from `from` up to `end`: 7, 8, 9.
@@ -23,12 +24,12 @@ pub fn first_checks(
     library: &[u8],
     text: &[u8],
     tape: &[u32],
-    h: Heads,
+    h: &Heads,
     k: u32,
     from: u32,
     end: u32,
 ) -> Verdict
-    ensures { λ r. ⌜ told (joint (now (library .entry)) (now (text .entry))) r ≡ first-checks (joint (now (library .entry)) (now (text .entry))) (now (tape .entry)) h k from end ⌝ }
+    ensures { λ r. ⌜ told (joint (now (library .entry)) (now (text .entry))) r ≡ first-checks (joint (now (library .entry)) (now (text .entry))) (now (tape .entry)) (heads-in (now (h .entry))) k from end ⌝ }
 {
     match names_right(library, text, tape, h, k) {
         Verdict::Stop(n, w) => Verdict::Stop(n, w),
@@ -42,12 +43,12 @@ pub fn imported(
     text: &[u8],
     work: &mut [u32],
     t: usize,
-    h: Heads,
+    h: &Heads,
     from: u32,
     end: u32,
 ) -> Made
-    requires { ⌜ ImportedRoom (now work) t h from end ⌝ }
-    ensures { λ r. ⌜ Imported (joint (now (library .entry)) (now (text .entry))) t (now (work .entry)) h from end r (now (work .exit)) ⌝ }
+    requires { ⌜ ImportedRoom (now work) t (heads-in (now h)) from end ⌝ }
+    ensures { λ r. ⌜ Imported (joint (now (library .entry)) (now (text .entry))) t (now (work .entry)) (heads-in (now (h .entry))) from end r (now (work .exit)) ⌝ }
 {
     let i = next_with(&work[0..t], roles::IMPORT, from as usize, end as usize);
     let b = joining_block();
@@ -70,14 +71,14 @@ pub fn completed(
     text: &[u8],
     work: &mut [u32],
     t: usize,
-    h: Heads,
+    h: &Heads,
     k: u32,
     from: u32,
     end: u32,
     totals: Totals,
 ) -> Made
-    requires { ⌜ CompletedRoom (now work) t h from end totals ⌝ }
-    ensures { λ r. ⌜ CompletedAll (joint (now (library .entry)) (now (text .entry))) t (now (work .entry)) h k from end totals r (now (work .exit)) ⌝ }
+    requires { ⌜ CompletedRoom (now work) t (heads-in (now h)) from end totals ⌝ }
+    ensures { λ r. ⌜ CompletedAll (joint (now (library .entry)) (now (text .entry))) t (now (work .entry)) (heads-in (now (h .entry))) k from end totals r (now (work .exit)) ⌝ }
 {
     match imported(library, text, work, t, h, from, end) {
         Made::Refused(n, w) => Made::Refused(n, w),

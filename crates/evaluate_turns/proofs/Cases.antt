@@ -9,8 +9,7 @@ use Rattle.form.specs.Memory.{part}
 use Rattle.form.specs.Forms.{form-size}
 use Rattle.form_layout.specs.Layout.{kept-start, table-start}
 use Rattle.module_set.specs.ModuleSet.{holds}
-use Rattle.modules.specs.declared.Heads.{Heads}
-use Rattle.modules.specs.Modules.{reached-set}
+use Rattle.modules.specs.Modules.{reached-set, Heads}
 use Rattle.form_keeping.specs.Keeping.{Cleared}
 use Rattle.evaluate_states.specs.declared.State.{State}
 use Rattle.evaluate_states.specs.States.{first-state}
@@ -28,16 +27,16 @@ module _ (text : List ℕ) (t : ℕ) (w : List ℕ) (h : Heads) where
   pub given-table : (table rows : ℕ) → Given text t w h → table ≡ table-start → rows ≤ 65 * form-size → table + rows ≤ length w
   given-table table rows g e l = omega (arith, e, l, table-there w (g .size))
 
-  pub asked-there : (k set : ℕ) → Given text t w h → holds set ≡ reached-set text (part w 0 t) h k → k < h .count → Asked h set k
-  asked-there k set g q l = asked-so text (part w 0 t) h k set q (g .told .spells .begun .few) l
+  pub asked-there : (k set count : ℕ) → Given text t w h → holds set ≡ reached-set text (part w 0 t) h k → count ≡ h .count → k < count → Asked h set k
+  asked-there k set count g q e l = asked-so text (part w 0 t) h k set q (g .told .spells .begun .few) (omega (arith, e, l))
 
   module _ (w′ : List ℕ) (table kept : ℕ) (g : Given text t w h) (e : table ≡ table-start) (f : kept ≡ kept-start) (c : Cleared table 65 kept w w′) where
     cleared : Cleared table-start 65 kept-start w w′
     cleared = subst₂ (λ (a b : ℕ). Cleared a 65 b w w′) e f c
 
     module _ (k set : ℕ) (q : holds set ≡ reached-set text (part w 0 t) h k) where
-      pub reached-none : h .count ≤ k → AllTurned text t w h k (Normalised 0 64) w′
-      reached-none l = none-turned text t w w′ h g cleared k set q l
+      pub reached-none : (count : ℕ) → count ≡ h .count → count ≤ k → AllTurned text t w h k (Normalised 0 64) w′
+      reached-none count n l = none-turned text t w w′ h g cleared k set q (omega (arith, n, l))
 
       pub reached-turned : (s : State) (r : Ended) (w″ : List ℕ) → s ≡ first-state → Turned text t w′ h set 0 0 s r w″ → AllTurned text t w h k r w″
       reached-turned s r w″ z x = all-turned text t w w′ h g cleared k set q r w″ (subst (λ (a : State). Turned text t w′ h set 0 0 a r w″) z x)

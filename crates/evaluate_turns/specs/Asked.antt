@@ -11,8 +11,7 @@ use Rattle.meaning.specs.Lists.{pick}
 use Rattle.meaning.specs.Names.{Name}
 use Rattle.meaning.specs.Syntax.{Module}
 use Rattle.module_set.specs.ModuleSet.{holds, nothing, added, either}
-use Rattle.modules.specs.declared.Heads.{Heads}
-use Rattle.modules.specs.Modules.{declared, named-in, named-set, turned, gathered, reached-set}
+use Rattle.modules.specs.Modules.{declared, named-in, named-set, turned, gathered, reached-set, Heads}
 use Rattle.modules.specs.ReachedLaws.{named-below, chosen}
 
 -- module k is in the set, and none behind it

@@ -18,8 +18,7 @@ use Rattle.form.specs.Forms.{Stands, form-size}
 use Rattle.form.specs.FormLaws.{tape-same}
 use Rattle.form_layout.specs.Layout.{tape-end, kept-start, table-start, memory-laid}
 use Rattle.module_set.specs.ModuleSet.{holds}
-use Rattle.modules.specs.declared.Heads.{Heads}
-use Rattle.modules.specs.Modules.{declared, reached-set}
+use Rattle.modules.specs.Modules.{declared, reached-set, Heads}
 use Rattle.modules.specs.ModuleLaws.{heads-number}
 use Rattle.modules.specs.ReachedLaws.{chosen}
 use Rattle.modules.specs.Meant.{none-earlier, reached-modules}

@@ -13,8 +13,7 @@ use Rattle.meaning.specs.Reached.{module-names}
 use Rattle.laws.specs.Distinct.{Fresh}
 use Rattle.tape.specs.Tape.{flat-module, flat-modules, spelled, entries}
 use Rattle.form_rows.specs.Entries.{name-at}
-use Rattle.modules.specs.declared.Heads.{Heads}
-use Rattle.modules.specs.Modules.{names-of, declared}
+use Rattle.modules.specs.Modules.{names-of, declared, Heads}
 use Rattle.modules.specs.ModuleLaws.{Spells, heads-number, declared-names}
 use Rattle.modules.specs.ReachedLaws.{names-distinct, names-number, name-by-number, drop-some}
 use Rattle.evaluate_module.specs.Heads.{split, begins-there, ends-there}

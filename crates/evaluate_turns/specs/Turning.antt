@@ -22,7 +22,7 @@ use Rattle.form.specs.Memory.{part}
 use Rattle.form.specs.Forms.{Stands}
 use Rattle.form.specs.Verdicts.{culprit-of}
 use Rattle.module_set.specs.ModuleSet.{holds}
-use Rattle.modules.specs.declared.Heads.{Heads}
+use Rattle.modules.specs.Modules.{Heads}
 use Rattle.modules.specs.ModuleLaws.{heads-number}
 use Rattle.modules.specs.ReachedLaws.{names-number, name-by-number, drop-some, chosen}
 use Rattle.modules.specs.Meant.{Earlier, one-earlier}

@@ -18,7 +18,7 @@ use Rattle.form.specs.Memory.{part}
 use Rattle.form.specs.Verdicts.{culprit-of}
 use Rattle.form_layout.specs.Layout.{tape-end}
 use Rattle.module_set.specs.ModuleSet.{holds}
-use Rattle.modules.specs.declared.Heads.{Heads}
+use Rattle.modules.specs.Modules.{Heads}
 use Rattle.modules.specs.ReachedLaws.{chosen}
 use Rattle.modules.specs.Meant.{Earlier}
 use Rattle.form_keeping.specs.Environment.{LastStands}

@@ -8,11 +8,13 @@ use form_keeping::clear_forms;
 use form_layout::kept_start;
 use form_layout::table_start;
 use modules::Heads;
+use modules::module_count;
 use modules::name_of_module;
 use modules::reached;
 ghost use Prim.Native.Nat.{_<_, _≤_};
 ghost use Rattle.text_names.specs.Joint.{joint};
 ghost use Rattle.evaluate_turns.specs.Asked.{Asked};
+ghost use Rattle.modules.specs.Modules.{heads-in};
 ghost use Rattle.evaluate_turns.specs.Turns.{Resumed, Given, Turned, AskedTurned, AllTurned};
 
 // How a call ends: each normal form is kept, that of the latest module for number `last`; or the refusal's number with the word of the module
@@ -37,15 +39,15 @@ fn evaluate_asked(
     text: &[u8],
     work: &mut [u32],
     t: usize,
-    h: Heads,
+    h: &Heads,
     k: u32,
     count: u32,
     s: State,
 ) -> Ended
-    requires { ⌜ Resumed (joint (now library) (now text)) t (now work) h k s ⌝ }
-    requires { ⌜ k < h .count ⌝ }
+    requires { ⌜ Resumed (joint (now library) (now text)) t (now work) (heads-in (now h)) k s ⌝ }
+    requires { ⌜ k < (heads-in (now h)) .count ⌝ }
     requires { ⌜ count ≤ k ⌝ }
-    ensures { λ r. ⌜ AskedTurned (joint (now (library .entry)) (now (text .entry))) t (now (work .entry)) h k count s r (now (work .exit)) ⌝ }
+    ensures { λ r. ⌜ AskedTurned (joint (now (library .entry)) (now (text .entry))) t (now (work .entry)) (heads-in (now (h .entry))) k count s r (now (work .exit)) ⌝ }
 {
     let module = name_of_module(&work[0..t], h, k);
     let count = count + 1;
@@ -66,14 +68,14 @@ fn evaluate_set(
     text: &[u8],
     work: &mut [u32],
     t: usize,
-    h: Heads,
+    h: &Heads,
     set: u64,
     k: u32,
     first: State,
 ) -> Ended
-    requires { ⌜ Resumed (joint (now library) (now text)) t (now work) h 0 first ⌝ }
-    requires { ⌜ Asked h set k ⌝ }
-    ensures { λ r. ⌜ Turned (joint (now (library .entry)) (now (text .entry))) t (now (work .entry)) h set 0 0 first r (now (work .exit)) ⌝ }
+    requires { ⌜ Resumed (joint (now library) (now text)) t (now work) (heads-in (now h)) 0 first ⌝ }
+    requires { ⌜ Asked (heads-in (now h)) set k ⌝ }
+    ensures { λ r. ⌜ Turned (joint (now (library .entry)) (now (text .entry))) t (now (work .entry)) (heads-in (now (h .entry))) set 0 0 first r (now (work .exit)) ⌝ }
 {
     let mut i: u32 = 0;
     let mut count: u32 = 0;
@@ -109,17 +111,17 @@ pub fn evaluate_reached(
     text: &[u8],
     work: &mut [u32],
     t: usize,
-    h: Heads,
+    h: &Heads,
     k: u32,
 ) -> Ended
-    requires { ⌜ Given (joint (now library) (now text)) t (now work) h ⌝ }
-    ensures { λ r. ⌜ AllTurned (joint (now (library .entry)) (now (text .entry))) t (now (work .entry)) h k r (now (work .exit)) ⌝ }
+    requires { ⌜ Given (joint (now library) (now text)) t (now work) (heads-in (now h)) ⌝ }
+    ensures { λ r. ⌜ AllTurned (joint (now (library .entry)) (now (text .entry))) t (now (work .entry)) (heads-in (now (h .entry))) k r (now (work .exit)) ⌝ }
 {
     let set = reached(library, text, &work[0..t], h, k);
     let table = table_start();
     let kept = kept_start();
     clear_forms(work, table, 65, kept);
-    if k < h.count {
+    if k < module_count(h) {
         let s = first_state();
         return evaluate_set(library, text, work, t, h, set, k, s);
     }

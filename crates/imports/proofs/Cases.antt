@@ -18,8 +18,7 @@ use Rattle.form.specs.declared.Block.{Block}
 use Rattle.form.specs.Forms.{form-size}
 use Rattle.form_layout.specs.Layout.{first-block, second-block, table-start}
 use Rattle.form_keeping.specs.Keeping.{form-at}
-use Rattle.modules.specs.declared.Heads.{Heads}
-use Rattle.modules.specs.Modules.{declared}
+use Rattle.modules.specs.Modules.{declared, Heads}
 use Rattle.form_keeping.specs.Environment.{kept-form, number-of}
 use Rattle.imports.specs.Spelling.{runs, run-end}
 use Rattle.imports.specs.Clausal.{turn-block, starts-clause, bound-at, clause-renames, clause-binds}

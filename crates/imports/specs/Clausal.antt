@@ -31,8 +31,7 @@ use Rattle.form.specs.Blocks.{BlockLaid, Outside, Fits, Makes, MadeThere, MadeI
 use Rattle.form.specs.Verdicts.{culprit-of}
 use Rattle.form_frames.specs.Changes.{onward, wider, tape-kept}
 use Rattle.clause_pairs.specs.Pairs.{pairs-at}
-use Rattle.modules.specs.declared.Heads.{Heads}
-use Rattle.modules.specs.Modules.{declared}
+use Rattle.modules.specs.Modules.{declared, Heads}
 use Rattle.modules.specs.Modules.{names-of as names-of-places}
 use Rattle.own_declarations.specs.Spelled.{Spells, spells-front, spells-behind}
 use Rattle.form_layout.specs.Layout.{block-at, joining-block, first-block, second-block, kept-start, table-start, tape-end, Laid}

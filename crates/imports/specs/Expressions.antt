@@ -28,8 +28,7 @@ use Rattle.form.specs.FormLaws.{kept-all}
 use Rattle.form.specs.Blocks.{Makes, MadeThere, MadeIn}
 use Rattle.form.specs.Verdicts.{culprit-of}
 use Rattle.form_frames.specs.Changes.{onward, wider, tape-kept, still-stands}
-use Rattle.modules.specs.declared.Heads.{Heads}
-use Rattle.modules.specs.Modules.{declared}
+use Rattle.modules.specs.Modules.{declared, Heads}
 use Rattle.form_layout.specs.Layout.{block-at, joining-block, first-block, second-block, kept-start, table-start, Laid}
 use Rattle.unite_checks.specs.Made.{makes-as, refused-outcome, refused-makes, done-outcome, then-stops, then-goes-on}
 use Rattle.unite_checks.specs.Steps.{BlockRoom, JoinRoom, JoinedForm}

@@ -13,7 +13,7 @@ ghost use lib.ListN.{length};
 ghost use Rattle.text_names.specs.Joint.{joint};
 ghost use Rattle.form_rows.specs.Entries.{name-at};
 ghost use Rattle.form.specs.Memory.{part};
-ghost use Rattle.modules.specs.Modules.{declared};
+ghost use Rattle.modules.specs.Modules.{declared, heads-in};
 ghost use Rattle.form_keeping.specs.Environment.{kept-form, number-of};
 ghost use Rattle.imports.specs.Spelling.{runs, run-end};
 
@@ -45,9 +45,9 @@ pub fn run_end(tape: &[u32], least: u32, i: u32) -> u32
 }
 
 // The normal form of the module that is named at i.
-pub fn named_form(library: &[u8], text: &[u8], work: &[u32], t: usize, h: Heads, i: usize) -> Form
+pub fn named_form(library: &[u8], text: &[u8], work: &[u32], t: usize, h: &Heads, i: usize) -> Form
     requires { ⌜ t ≤ length (now work) ⌝ }
-    ensures { λ r. ⌜ r ≡ kept-form (now (work .entry)) (number-of (declared (joint (now (library .entry)) (now (text .entry))) (part (now (work .entry)) 0 t) h) (name-at (joint (now (library .entry)) (now (text .entry))) (part (now (work .entry)) 0 t) i)) ⌝ }
+    ensures { λ r. ⌜ r ≡ kept-form (now (work .entry)) (number-of (declared (joint (now (library .entry)) (now (text .entry))) (part (now (work .entry)) 0 t) (heads-in (now (h .entry)))) (name-at (joint (now (library .entry)) (now (text .entry))) (part (now (work .entry)) 0 t) i)) ⌝ }
 {
     let w = name_at(&work[0..t], i);
     let k = find_number(library, text, &work[0..t], h, w);

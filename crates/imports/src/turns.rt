@@ -17,6 +17,7 @@ ghost use mathlib.Core.Bool.{not};
 ghost use Prim.Native.Nat.{_+_, _≤_, _<_};
 ghost use lib.ListN.{length};
 ghost use Rattle.text_names.specs.Joint.{joint};
+ghost use Rattle.modules.specs.Modules.{heads-in};
 ghost use Rattle.imports.specs.Clausal.{ClauseRoom, BoundAt, ClauseMade, turn-block, ClausesRoom, ClausesMade, starts-clause};
 
 // The binding whose parameter stands at i, and its actual module at `last`.
@@ -25,14 +26,14 @@ fn bind_at(
     text: &[u8],
     work: &mut [u32],
     t: usize,
-    h: Heads,
+    h: &Heads,
     i: u32,
     last: u32,
     g: Form,
     b: Block,
 ) -> Made
-    requires { ⌜ ClauseRoom (now work) t h i g b ⌝ }
-    ensures { λ r. ⌜ BoundAt (joint (now (library .entry)) (now (text .entry))) t (now (work .entry)) h i last g b r (now (work .exit)) ⌝ }
+    requires { ⌜ ClauseRoom (now work) t (heads-in (now h)) i g b ⌝ }
+    ensures { λ r. ⌜ BoundAt (joint (now (library .entry)) (now (text .entry))) t (now (work .entry)) (heads-in (now (h .entry))) i last g b r (now (work .exit)) ⌝ }
 {
     let p = name_at(&work[0..t], i as usize);
     let actual = named_form(library, text, work, t, h, last as usize);
@@ -45,20 +46,30 @@ fn clause_at(
     text: &[u8],
     work: &mut [u32],
     t: usize,
-    h: Heads,
+    h: &Heads,
     i: u32,
     end: u32,
     g: Form,
     b: Block,
 ) -> Made
-    requires { ⌜ ClauseRoom (now work) t h i g b ⌝ }
+    requires { ⌜ ClauseRoom (now work) t (heads-in (now h)) i g b ⌝ }
     requires { ⌜ 1 ≤ end ⌝ }
-    ensures { λ r. ⌜ ClauseMade (joint (now (library .entry)) (now (text .entry))) t (now (work .entry)) h i end g b r (now (work .exit)) ⌝ }
+    ensures { λ r. ⌜ ClauseMade (joint (now (library .entry)) (now (text .entry))) t (now (work .entry)) (heads-in (now (h .entry))) i end g b r (now (work .exit)) ⌝ }
 {
     if role_at(&work[0..t], i as usize) == roles::RENAMING {
         return rename(library, text, work, t, i + 1, g, b);
     }
     bind_at(library, text, work, t, h, i, end - 1, g, b)
+}
+
+// The block whose turn it is.
+fn turn_block(first: bool) -> Block
+    ensures { λ r. ⌜ r ≡ turn-block first ⌝ }
+{
+    if first {
+        return first_block();
+    }
+    second_block()
 }
 
 // The clause at i, whose end is `end`, in the block whose turn it is.
@@ -67,21 +78,17 @@ fn clause_turn(
     text: &[u8],
     work: &mut [u32],
     t: usize,
-    h: Heads,
+    h: &Heads,
     i: u32,
     end: u32,
     g: Form,
     first: bool,
 ) -> Made
-    requires { ⌜ ClausesRoom (now work) t h i g first ⌝ }
+    requires { ⌜ ClausesRoom (now work) t (heads-in (now h)) i g first ⌝ }
     requires { ⌜ 1 ≤ end ⌝ }
-    ensures { λ r. ⌜ ClauseMade (joint (now (library .entry)) (now (text .entry))) t (now (work .entry)) h i end g (turn-block first) r (now (work .exit)) ⌝ }
+    ensures { λ r. ⌜ ClauseMade (joint (now (library .entry)) (now (text .entry))) t (now (work .entry)) (heads-in (now (h .entry))) i end g (turn-block first) r (now (work .exit)) ⌝ }
 {
-    if first {
-        let b = first_block();
-        return clause_at(library, text, work, t, h, i, end, g, b);
-    }
-    let b = second_block();
+    let b = turn_block(first);
     clause_at(library, text, work, t, h, i, end, g, b)
 }
 
@@ -111,14 +118,14 @@ pub fn clauses_from(
     text: &[u8],
     work: &mut [u32],
     t: usize,
-    h: Heads,
+    h: &Heads,
     left: u32,
     i: u32,
     g: Form,
     first: bool,
 ) -> Made
-    requires { ⌜ ClausesRoom (now work) t h i g first ⌝ }
-    ensures { λ r. ⌜ ClausesMade (joint (now (library .entry)) (now (text .entry))) t (now (work .entry)) h left i g r (now (work .exit)) ⌝ }
+    requires { ⌜ ClausesRoom (now work) t (heads-in (now h)) i g first ⌝ }
+    ensures { λ r. ⌜ ClausesMade (joint (now (library .entry)) (now (text .entry))) t (now (work .entry)) (heads-in (now (h .entry))) left i g r (now (work .exit)) ⌝ }
 {
     let mut n = left;
     let mut at = i;

@@ -7,19 +7,19 @@ use native.Mathlib.Omega.{arith}
 use native.Mathlib.Numerals.{add-one}
 use borrow.Author.Needs.{needs}
 use lib.ListN.{length, set, take, length-set}
-use lib.Seq.{take-suc-set, take-set-le, take-take, take-all, take-append-le, length-take-le, getD-set-same}
+use lib.Seq.{take-suc-set, take-set-le, take-take, take-all, take-append-le, length-take-le, getD-take, getD-set-same, getD-set-other}
 use Rattle.meaning.specs.Lists.{pick}
 use Rattle.form_rows.specs.Entries.{role-at}
-use Rattle.modules.specs.Modules.{is-module, places-from, HeadsOf}
+use Rattle.modules.specs.Modules.{is-module, places-from, HeadsOf, heads-in}
 
 -- the first `count` places are the heads before j
 pub record Begun (tape : List ℕ) (n : ℕ) (places : List ℕ) (count j : ℕ) : Type 0 where
-  pub size : length places ≡ 65
+  pub size : length places ≡ 66
   pub few : count ≤ 64
   pub within : j ≤ n
   pub so-far : take count places ++ places-from tape j (n - j) ≡ places-from tape 0 n
 
-pub begun-none : (tape : List ℕ) (n : ℕ) (places : List ℕ) → length places ≡ 65 → Begun tape n places 0 0
+pub begun-none : (tape : List ℕ) (n : ℕ) (places : List ℕ) → length places ≡ 66 → Begun tape n places 0 0
 begun-none tape n places l =
     let z : n - 0 ≡ n = omega arith in
     record { size = l; few = omega arith; within = omega arith; so-far = rw z }
@@ -53,33 +53,42 @@ module _ (tape : List ℕ) (n : ℕ) (places : List ℕ) (count j : ℕ) (h : Be
           rw (first, append-assoc) (ap (λ (l : List ℕ). take count places ++ l) step ∙ h .so-far);
     }
 
-  pub begun-full : 64 ≤ count → (places′ : List ℕ) → places′ ≡ set places 64 n → HeadsOf tape n (record { places = places′; count = 64 })
-  begun-full k places′ g =
-      let c : count ≡ 64 = omega (arith, h .few) in
-      let room : 64 < length places = omega (arith, h .size) in
-      let long : 64 ≤ length (take 64 places) = rw (length-take-le 64 places (omega arith)) (omega arith) in
-      record {
-        few = omega arith;
-        size = ap length g ∙ simp length-set (h .size);
-        begun =
-            rw (g, take-set-le 64 places 64 n (omega arith))
-            (sym (ap (take 64) (sym (rw c at h .so-far)) ∙ take-append-le 64 (take 64 places) _ long ∙ take-take 64 64 places (omega arith)));
-        ended = rw g (getD-set-same places 64 n 0 room);
-      }
+  -- as many as there are, up to 64: where the last one ends is written behind them, and their number last
+  module _ (c : ℕ) (few : c ≤ 64) (all : take c places ≡ take 64 (places-from tape 0 n)) (words : List ℕ) (e : words ≡ set (set places c n) 65 c) where
+    ended-size : length (set places c n) ≡ 66
+    ended-size = simp length-set (h .size)
 
-  pub begun-all : n ≤ j → (places′ : List ℕ) → places′ ≡ set places count n → HeadsOf tape n (record { places = places′; count = count })
+    counted : heads-in words .count ≡ c
+    unfolding heads-in
+    counted = rw e (getD-set-same (set places c n) 65 c 0 (omega (arith, ended-size)))
+
+    begun-ended : HeadsOf tape n (heads-in words)
+    unfolding heads-in
+    begun-ended = record {
+      few = rw counted few;
+      size = length-take-le 65 words (rw (e, length-set (set places c n) 65 c, ended-size) (omega arith));
+      begun =
+          rw (counted, take-take c 65 words (omega arith), e, take-set-le c (set places c n) 65 c (omega arith), take-set-le c places c n (omega arith)) all;
+      ended =
+          rw (counted, getD-take 65 words c 0 (omega arith), e, getD-set-other (set places c n) 65 c c 0 (omega arith))
+          (getD-set-same places c n 0 (omega (arith, h .size)));
+    }
+
+  pub begun-full : 64 ≤ count → (words : List ℕ) → words ≡ set (set places 64 n) 65 64 → HeadsOf tape n (heads-in words)
+  begun-full k =
+      let c : count ≡ 64 = omega (arith, h .few) in
+      let room : 64 ≤ length places = omega (arith, h .size) in
+      let long : 64 ≤ length (take 64 places) = rw (length-take-le 64 places room) (omega arith) in
+      begun-ended 64 (omega arith)
+      (sym (ap (take 64) (sym (rw c at h .so-far)) ∙ take-append-le 64 (take 64 places) _ long ∙ take-take 64 64 places (omega arith)))
+
+  pub begun-all : n ≤ j → (words : List ℕ) → words ≡ set (set places count n) 65 count → HeadsOf tape n (heads-in words)
   unfolding places-from
-  begun-all l places′ g =
+  begun-all l =
       let z : n - j ≡ 0 = omega arith in
-      let room : count < length places = omega (arith, h .size, h .few) in
       let none : [] ≡ places-from tape j (n - j) = rw z in
       let all : take count places ≡ places-from tape 0 n = sym (append-nil (take count places)) ∙ ap (λ (l : List ℕ). take count places ++ l) none ∙ h .so-far in
-      let short : length (take count places) ≤ 64 = rw (length-take-le count places (omega arith)) (h .few) in
-      record {
-        few = h .few;
-        size = ap length g ∙ simp length-set (h .size);
-        begun = rw (g, take-set-le count places count n (omega arith), ← all) (sym (take-all 64 (take count places) short));
-        ended = rw g (getD-set-same places count n 0 room);
-      }
+      let short : length (take count places) ≤ 64 = rw (length-take-le count places (omega (arith, h .size, h .few))) (h .few) in
+      begun-ended count (h .few) (rw (← all) (sym (take-all 64 (take count places) short)))
 
 pub ruleset heads = (begun-none, begun-other, begun-head, begun-full, begun-all, needs)

@@ -3,7 +3,8 @@ use form_rows::entries::role_at;
 use modules::Heads;
 use tape::roles;
 ghost use mathlib.Core.Path.{_≡_};
-ghost use Rattle.modules.specs.Modules.{is-module, HeadsOf};
+ghost use lib.ListN.{length};
+ghost use Rattle.modules.specs.Modules.{is-module, HeadsOf, heads-in};
 
 fn is_module(role: u32) -> bool
     ensures { λ r. ⌜ r ≡ is-module role ⌝ }
@@ -12,26 +13,27 @@ fn is_module(role: u32) -> bool
 }
 
 // The heads of the modules among the first n entries, up to 64.
-pub fn find_heads(tape: &[u32], n: u32) -> Heads
-    ensures { λ r. ⌜ HeadsOf (now (tape .entry)) n r ⌝ }
+pub fn find_heads(tape: &[u32], n: u32, h: &mut Heads)
+    requires { ⌜ length (now h) ≡ 66 ⌝ }
+    ensures { λ _. ⌜ HeadsOf (now (tape .entry)) n (heads-in (now (h .exit))) ⌝ }
 {
-    let mut places = [0; 65];
     let mut count: u32 = 0;
     let mut j: u32 = 0;
     while j < n {
         if is_module(role_at(tape, j as usize)) {
             if count < 64 {
-                places[count as usize] = j;
+                h[count as usize] = j;
                 count += 1;
                 j += 1;
             } else {
-                places[64] = n;
-                return Heads { places, count: 64 };
+                h[64] = n;
+                h[65] = 64;
+                return;
             }
         } else {
             j += 1;
         }
     }
-    places[count as usize] = n;
-    Heads { places, count }
+    h[count as usize] = n;
+    h[65] = count;
 }

@@ -17,8 +17,7 @@ use Rattle.form.specs.declared.Culprit.{Culprit}
 use Rattle.form.specs.declared.Verdict.{Verdict}
 use Rattle.form.specs.declared.Verdict.the-variants.{Fine, Stop}
 use Rattle.form.specs.Verdicts.{lone-of, told}
-use Rattle.modules.specs.declared.Heads.{Heads}
-use Rattle.modules.specs.Modules.{names-module, names-of, declared, picked, named-in}
+use Rattle.modules.specs.Modules.{names-module, names-of, declared, picked, named-in, Heads}
 use Rattle.modules.specs.Members.{member-found, member-absent, member-early, member-late}
 use Rattle.modules.proofs.Cases.{picked-none, picked-other, picked-here}
 use Rattle.module_names.specs.Right.{name-right, names-step}

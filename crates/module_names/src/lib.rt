@@ -6,6 +6,7 @@ use form_rows::entries::role_at;
 use meaning::numbers;
 use modules::Heads;
 use modules::find_number;
+use modules::module_count;
 use modules::names_module;
 use modules::place_at;
 ghost use mathlib.Core.Path.{_≡_};
@@ -14,14 +15,14 @@ ghost use Rattle.meaning.specs.Evaluate.{names-right};
 ghost use Rattle.text_names.specs.Word.{name-of};
 ghost use Rattle.text_names.specs.Joint.{joint};
 ghost use Rattle.form.specs.Verdicts.{told};
-ghost use Rattle.modules.specs.Modules.{declared, named-in};
+ghost use Rattle.modules.specs.Modules.{declared, named-in, heads-in};
 ghost use Rattle.module_names.specs.Right.{name-right};
 
 // Step 1 for the name w of module k: 7 where no module is called so, 8 where none before module k is.
-fn name_right(library: &[u8], text: &[u8], tape: &[u32], h: Heads, k: u32, w: u32) -> Verdict
-    ensures { λ r. ⌜ told (joint (now (library .entry)) (now (text .entry))) r ≡ name-right (declared (joint (now (library .entry)) (now (text .entry))) (now (tape .entry)) h) k (name-of (joint (now (library .entry)) (now (text .entry))) w) ⌝ }
+fn name_right(library: &[u8], text: &[u8], tape: &[u32], h: &Heads, k: u32, w: u32) -> Verdict
+    ensures { λ r. ⌜ told (joint (now (library .entry)) (now (text .entry))) r ≡ name-right (declared (joint (now (library .entry)) (now (text .entry))) (now (tape .entry)) (heads-in (now (h .entry)))) k (name-of (joint (now (library .entry)) (now (text .entry))) w) ⌝ }
 {
-    let count = h.count;
+    let count = module_count(h);
     let p = find_number(library, text, tape, h, w);
     if count <= p {
         return Verdict::Stop(numbers::NAMED_ABSENT, Culprit { name: w, actual: 0 });
@@ -33,8 +34,8 @@ fn name_right(library: &[u8], text: &[u8], tape: &[u32], h: Heads, k: u32, w: u3
 }
 
 // Step 1 for module k: the names of modules among its entries, in text order.
-pub fn names_right(library: &[u8], text: &[u8], tape: &[u32], h: Heads, k: u32) -> Verdict
-    ensures { λ r. ⌜ told (joint (now (library .entry)) (now (text .entry))) r ≡ names-right (declared (joint (now (library .entry)) (now (text .entry))) (now (tape .entry)) h) (take k (declared (joint (now (library .entry)) (now (text .entry))) (now (tape .entry)) h)) (named-in (joint (now (library .entry)) (now (text .entry))) (now (tape .entry)) h k) ⌝ }
+pub fn names_right(library: &[u8], text: &[u8], tape: &[u32], h: &Heads, k: u32) -> Verdict
+    ensures { λ r. ⌜ told (joint (now (library .entry)) (now (text .entry))) r ≡ names-right (declared (joint (now (library .entry)) (now (text .entry))) (now (tape .entry)) (heads-in (now (h .entry)))) (take k (declared (joint (now (library .entry)) (now (text .entry))) (now (tape .entry)) (heads-in (now (h .entry))))) (named-in (joint (now (library .entry)) (now (text .entry))) (now (tape .entry)) (heads-in (now (h .entry))) k) ⌝ }
 {
     let mut j = place_at(h, k as usize);
     let end = place_at(h, k as usize + 1);

@@ -8,19 +8,29 @@ use native.Mathlib.Numerals.{add-one}
 use borrow.Author.Needs.{needs}
 use borrow.Author.Tests.{lt-ltb, le-ltb}
 use lib.Dec.{ltb}
-use lib.ListN.{length, getD, List·getD-eq-default}
+use lib.ListN.{length, getD, take, length-take, List·getD-eq-default}
+use lib.Seq.{getD-take}
 use Rattle.meaning.specs.Lists.{pick, before}
 use Rattle.meaning.specs.Names.{Name, same}
 use Rattle.text_names.specs.Word.{name-of}
 use Rattle.form_rows.specs.Entries.{role-at, word-at, name-at}
 use Rattle.module_set.specs.ModuleSet.{holds, nothing, added, either}
-use Rattle.modules.specs.declared.Heads.{Heads}
-use Rattle.modules.specs.Modules.{names-module, names-of, declared, picked, named-in, with-named, named-set, turned, gathered, reached-set}
+use Rattle.modules.specs.Modules.{names-module, names-of, declared, picked, named-in, with-named, named-set, turned, gathered, reached-set, Heads, heads-in}
 
 -- ---- heads
 
-pub past-places : (l : List ℕ) (k : ℕ) → length l ≡ 65 → 65 ≤ k → 0 ≡ getD l k 0
-past-places l k e h = sym (List·getD-eq-default l 0 (omega arith))
+module _ (h : List ℕ) (k : ℕ) where
+  pub place-there : k < 65 → (r : ℕ) → r ≡ getD h k 0 → r ≡ getD (heads-in h .places) k 0
+  unfolding heads-in
+  place-there l r e = e ∙ sym (getD-take 65 h k 0 l)
+
+  pub past-places : 65 ≤ k → 0 ≡ getD (heads-in h .places) k 0
+  unfolding heads-in
+  past-places l = sym (List·getD-eq-default (take 65 h) 0 (rw (length-take 65 h) (omega arith)))
+
+pub count-there : (h : List ℕ) (r : ℕ) → r ≡ getD h 65 0 → r ≡ heads-in h .count
+unfolding heads-in
+count-there h r e = e
 
 pub module-name : (tape : List ℕ) (h : Heads) (k p r : ℕ) → p ≡ getD (h .places) k 0 → r ≡ word-at tape p → r ≡ word-at tape (getD (h .places) k 0)
 module-name tape h k p r e f = f ∙ ap (word-at tape) e
@@ -170,7 +180,7 @@ module _ (text tape : List ℕ) (h : Heads) (k : ℕ) where
       let reach = gathered (named-set text tape h) in
       g ∙ ap (reach (holds s) 0) c ∙ ap (λ (t : ℕ → Bool). reach t 0 (h .count)) (f ∙ ap (added k) e)
 
-pub ruleset heads = (past-places, module-name, needs)
+pub ruleset heads = (place-there, past-places, count-there, module-name, needs)
 
 pub ruleset numbers = (seek-start, seek-none, seek-here, seek-on, with-early, with-late, needs)
 

@@ -16,8 +16,7 @@ use Rattle.meaning.specs.Evaluate.{named-by, too-late, names-right}
 use Rattle.meaning.specs.Reached.{reached, module-names}
 use Rattle.laws.specs.Distinct.{Fresh}
 use Rattle.module_set.specs.ModuleSet.{nothing, added}
-use Rattle.modules.specs.declared.Heads.{Heads}
-use Rattle.modules.specs.Modules.{declared, named-in, named-set, gathered, reached-set}
+use Rattle.modules.specs.Modules.{declared, named-in, named-set, gathered, reached-set, Heads}
 use Rattle.modules.specs.ModuleLaws.{Spells, heads-number, declared-names, named-modules}
 use Rattle.modules.specs.ReachedLaws.{names-distinct, names-number, named-below, named-member, member-append, drop-some, or-false, or-other, chosen, Naming, reached-numbers}
 

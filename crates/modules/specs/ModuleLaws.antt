@@ -16,8 +16,7 @@ use Rattle.tape.specs.Tape.{Entry, flat-module, flat-modules, spelled, entries}
 use Rattle.form_rows.specs.Entries.{role-at, name-at}
 use Rattle.form_walks.specs.Lists.{each-append}
 use Rattle.form_walks.specs.Flat.{names-with}
-use Rattle.modules.specs.declared.Heads.{Heads}
-use Rattle.modules.specs.Modules.{is-module, names-module, places-from, HeadsOf, names-of, declared, picked, named-in}
+use Rattle.modules.specs.Modules.{is-module, names-module, places-from, HeadsOf, names-of, declared, picked, named-in, Heads}
 use Rattle.modules.specs.Roles.{no-head-body, head-names, named-names}
 
 -- ---- parts of lists

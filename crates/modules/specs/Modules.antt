@@ -11,7 +11,15 @@ use Rattle.meaning.specs.Numbers.{module-limit}
 use Rattle.tape.specs.Tape.{module-role, import-role, actual-role}
 use Rattle.form_rows.specs.Entries.{role-at, name-at}
 use Rattle.module_set.specs.ModuleSet.{nothing, added, either}
-use Rattle.modules.specs.declared.Heads.{Heads}
+
+-- where the modules begin, behind them where the last one ends, and how many they are
+pub record Heads : Type 0 where
+  pub places : List ℕ
+  pub count : ℕ
+
+-- of words: the last of them is the count
+unfoldable pub heads-in : List ℕ → Heads
+heads-in h = record { places = take 65 h; count = getD h 65 0 }
 
 unfoldable pub is-module : ℕ → Bool
 is-module r = eqb r module-role

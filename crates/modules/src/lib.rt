@@ -12,13 +12,11 @@ ghost use Rattle.text_names.specs.Word.{name-of};
 ghost use Rattle.text_names.specs.Joint.{joint};
 ghost use Rattle.form_rows.specs.Entries.{word-at};
 ghost use Rattle.module_set.specs.ModuleSet.{holds};
-ghost use Rattle.modules.specs.Modules.{names-module, declared, with-named, named-set, turned, gathered, reached-set};
+ghost use Rattle.modules.specs.Modules.{names-module, declared, with-named, named-set, turned, gathered, reached-set, heads-in};
 
-// The places on the tape where the modules begin, in text order, and behind them where the last one ends.
-pub struct Heads {
-    pub places: [u32; 65],
-    pub count: u32,
-}
+// The places on the tape where the modules begin, in text order, and behind them where the last one ends; the last word is how many modules there are.
+// They are lent, so that no call has a copy on the stack.
+pub type Heads = [u32; 66];
 
 // Is the name at an entry with the role that of a module which an import or a binding uses?
 pub fn names_module(role: u32) -> bool
@@ -31,28 +29,34 @@ pub fn names_module(role: u32) -> bool
 }
 
 // Where module k begins; 0 past the last place.
-pub fn place_at(h: Heads, k: usize) -> u32
-    ensures { λ r. ⌜ r ≡ getD (h .places) k 0 ⌝ }
+pub fn place_at(h: &Heads, k: usize) -> u32
+    ensures { λ r. ⌜ r ≡ getD ((heads-in (now (h .entry))) .places) k 0 ⌝ }
 {
-    let places = h.places;
     if k < 65 {
-        return places[k];
+        return h[k];
     }
     0
 }
 
+// How many modules there are.
+pub fn module_count(h: &Heads) -> u32
+    ensures { λ r. ⌜ r ≡ heads-in (now (h .entry)) .count ⌝ }
+{
+    h[65]
+}
+
 // The word of the name of module k.
-pub fn name_of_module(tape: &[u32], h: Heads, k: u32) -> u32
-    ensures { λ r. ⌜ r ≡ word-at (now (tape .entry)) (getD (h .places) k 0) ⌝ }
+pub fn name_of_module(tape: &[u32], h: &Heads, k: u32) -> u32
+    ensures { λ r. ⌜ r ≡ word-at (now (tape .entry)) (getD ((heads-in (now (h .entry))) .places) k 0) ⌝ }
 {
     name_at(tape, place_at(h, k as usize) as usize)
 }
 
 // The number of the module called w; the number of modules if there is none.
-pub fn find_number(library: &[u8], text: &[u8], tape: &[u32], h: Heads, w: u32) -> u32
-    ensures { λ r. ⌜ r ≡ before (same (name-of (joint (now (library .entry)) (now (text .entry))) w)) (declared (joint (now (library .entry)) (now (text .entry))) (now (tape .entry)) h) ⌝ }
+pub fn find_number(library: &[u8], text: &[u8], tape: &[u32], h: &Heads, w: u32) -> u32
+    ensures { λ r. ⌜ r ≡ before (same (name-of (joint (now (library .entry)) (now (text .entry))) w)) (declared (joint (now (library .entry)) (now (text .entry))) (now (tape .entry)) (heads-in (now (h .entry)))) ⌝ }
 {
-    let count = h.count;
+    let count = module_count(h);
     let mut k = 0;
     while k < count {
         if text_names::joint::same_name(library, text, w, name_of_module(tape, h, k)) {
@@ -64,10 +68,10 @@ pub fn find_number(library: &[u8], text: &[u8], tape: &[u32], h: Heads, w: u32) 
 }
 
 // The number of the module with the asked name; the number of modules if there is none.
-pub fn find_asked(library: &[u8], text: &[u8], tape: &[u32], h: Heads, asked: &[u8]) -> u32
-    ensures { λ r. ⌜ r ≡ before (λ (w : Name). same w (now (asked .entry))) (declared (joint (now (library .entry)) (now (text .entry))) (now (tape .entry)) h) ⌝ }
+pub fn find_asked(library: &[u8], text: &[u8], tape: &[u32], h: &Heads, asked: &[u8]) -> u32
+    ensures { λ r. ⌜ r ≡ before (λ (w : Name). same w (now (asked .entry))) (declared (joint (now (library .entry)) (now (text .entry))) (now (tape .entry)) (heads-in (now (h .entry)))) ⌝ }
 {
-    let count = h.count;
+    let count = module_count(h);
     let mut k = 0;
     while k < count {
         if text_names::joint::is_called(library, text, name_of_module(tape, h, k), asked) {
@@ -79,8 +83,8 @@ pub fn find_asked(library: &[u8], text: &[u8], tape: &[u32], h: Heads, asked: &[
 }
 
 // The set with the module called w, if it stands before module k.
-fn with_name(library: &[u8], text: &[u8], tape: &[u32], h: Heads, k: u32, set: u64, w: u32) -> u64
-    ensures { λ r. ⌜ holds r ≡ with-named (declared (joint (now (library .entry)) (now (text .entry))) (now (tape .entry)) h) k (holds set) (name-of (joint (now (library .entry)) (now (text .entry))) w ∷ []) ⌝ }
+fn with_name(library: &[u8], text: &[u8], tape: &[u32], h: &Heads, k: u32, set: u64, w: u32) -> u64
+    ensures { λ r. ⌜ holds r ≡ with-named (declared (joint (now (library .entry)) (now (text .entry))) (now (tape .entry)) (heads-in (now (h .entry)))) k (holds set) (name-of (joint (now (library .entry)) (now (text .entry))) w ∷ []) ⌝ }
 {
     let p = find_number(library, text, tape, h, w);
     if p < k {
@@ -90,8 +94,8 @@ fn with_name(library: &[u8], text: &[u8], tape: &[u32], h: Heads, k: u32, set: u
 }
 
 // The modules before module k that it names.
-pub fn named_set(library: &[u8], text: &[u8], tape: &[u32], h: Heads, k: u32) -> u64
-    ensures { λ r. ⌜ holds r ≡ named-set (joint (now (library .entry)) (now (text .entry))) (now (tape .entry)) h k ⌝ }
+pub fn named_set(library: &[u8], text: &[u8], tape: &[u32], h: &Heads, k: u32) -> u64
+    ensures { λ r. ⌜ holds r ≡ named-set (joint (now (library .entry)) (now (text .entry))) (now (tape .entry)) (heads-in (now (h .entry))) k ⌝ }
 {
     let mut j = place_at(h, k as usize);
     let end = place_at(h, k as usize + 1);
@@ -108,8 +112,8 @@ pub fn named_set(library: &[u8], text: &[u8], tape: &[u32], h: Heads, k: u32) ->
 }
 
 // The set, with the modules that module k names where module k is in it.
-fn turned(library: &[u8], text: &[u8], tape: &[u32], h: Heads, k: u32, set: u64) -> u64
-    ensures { λ r. ⌜ holds r ≡ turned (named-set (joint (now (library .entry)) (now (text .entry))) (now (tape .entry)) h) (holds set) k ⌝ }
+fn turned(library: &[u8], text: &[u8], tape: &[u32], h: &Heads, k: u32, set: u64) -> u64
+    ensures { λ r. ⌜ holds r ≡ turned (named-set (joint (now (library .entry)) (now (text .entry))) (now (tape .entry)) (heads-in (now (h .entry)))) (holds set) k ⌝ }
 {
     if module_set::has(set, k) {
         return module_set::joined(set, named_set(library, text, tape, h, k));
@@ -118,8 +122,8 @@ fn turned(library: &[u8], text: &[u8], tape: &[u32], h: Heads, k: u32, set: u64)
 }
 
 // The set, and the modules that those of its modules reach which are below n: the latest first.
-fn gathered(library: &[u8], text: &[u8], tape: &[u32], h: Heads, n: u32, set: u64) -> u64
-    ensures { λ r. ⌜ holds r ≡ gathered (named-set (joint (now (library .entry)) (now (text .entry))) (now (tape .entry)) h) (holds set) 0 n ⌝ }
+fn gathered(library: &[u8], text: &[u8], tape: &[u32], h: &Heads, n: u32, set: u64) -> u64
+    ensures { λ r. ⌜ holds r ≡ gathered (named-set (joint (now (library .entry)) (now (text .entry))) (now (tape .entry)) (heads-in (now (h .entry)))) (holds set) 0 n ⌝ }
 {
     let mut all = set;
     let mut k = n;
@@ -131,10 +135,10 @@ fn gathered(library: &[u8], text: &[u8], tape: &[u32], h: Heads, n: u32, set: u6
 }
 
 // Module k, and the modules that it reaches.
-pub fn reached(library: &[u8], text: &[u8], tape: &[u32], h: Heads, k: u32) -> u64
-    ensures { λ r. ⌜ holds r ≡ reached-set (joint (now (library .entry)) (now (text .entry))) (now (tape .entry)) h k ⌝ }
+pub fn reached(library: &[u8], text: &[u8], tape: &[u32], h: &Heads, k: u32) -> u64
+    ensures { λ r. ⌜ holds r ≡ reached-set (joint (now (library .entry)) (now (text .entry))) (now (tape .entry)) (heads-in (now (h .entry))) k ⌝ }
 {
-    let count = h.count;
+    let count = module_count(h);
     gathered(
         library,
         text,

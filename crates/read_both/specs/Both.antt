@@ -25,7 +25,7 @@ moved by n t = map (shifted by) (take n t) ++ drop n t
 
 -- the words of the names at the first `count` places
 pub record WordsOf (tape places : List ℕ) (count : ℕ) (words : List ℕ) : Type 0 where
-  pub size : length words ≡ 64
+  pub room : count ≤ length words
   pub so : take count words ≡ map (word-at tape) (take count places)
 
 -- n entries of the library stand on the tape, and both texts are read as the customer's is behind the library's modules

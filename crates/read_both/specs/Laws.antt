@@ -32,8 +32,7 @@ use Rattle.read_steps.specs.Model
 use Rattle.read_meaning.specs.Matches.{state}
 use Rattle.read_meaning.specs.Meant.{Says, Meant, done-meant, refused-meant}
 use Rattle.read_known.specs.Known.{named-so}
-use Rattle.modules.specs.declared.Heads.{Heads}
-use Rattle.modules.specs.Modules.{HeadsOf, declared}
+use Rattle.modules.specs.Modules.{HeadsOf, declared, Heads}
 use Rattle.modules.specs.ModuleLaws.{Spells, heads-number, declared-names, names-by-number}
 use Rattle.read_both.specs.Both.{shifted, moved, WordsOf, Stands, Said}
 use Rattle.read_both.specs.Joined.{all-in-library, all-in-text, flat-both}
@@ -94,9 +93,13 @@ module _ (library text : List ℕ) (n : ℕ) (t : List ℕ) (s : Stands library 
   unfolding text-size
   enough = omega (arith, part-size, s .within, s .short, s .room)
 
-  module _ (q : Entries.Reading) (u : List ℕ) (e : out q u ≡ Model.read text (64 - h .count) (named-so library (take (h .count - 0) (drop 0 ws))) part) where
+  module _ (count : ℕ) (c : count ≡ h .count) (q : Entries.Reading) (u : List ℕ)
+      (e : out q u ≡ Model.read text (64 - count) (named-so library (take (count - 0) (drop 0 ws))) part) where
     e-so : out q u ≡ Model.read text (64 - length ls) (module-names ls) part
-    e-so = e ∙ (λ i. Model.read text (64 - count-so i) (names-so i) part)
+    e-so =
+        e
+        ∙ (λ i. Model.read text (64 - c i) (named-so library (take (c i - 0) (drop 0 ws))) part)
+        ∙ (λ i. Model.read text (64 - count-so i) (names-so i) part)
 
     answer-so : Model.read text (64 - length ls) (module-names ls) part .answer ≡ q
     answer-so = sym (ap (λ (o : Out). o .answer) e-so)

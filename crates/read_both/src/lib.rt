@@ -1,11 +1,13 @@
 // Two texts on one tape: what the library says, its places moved by the length of the customer's text, and behind it what that text says.
 use module_heads::find_heads;
 use modules::Heads;
+use modules::module_count;
 use modules::name_of_module;
 use read_steps::Reading;
 ghost use mathlib.Core.Path.{_≡_};
 ghost use Prim.Native.Nat.{_≤_};
 ghost use lib.ListN.{length};
+ghost use Rattle.modules.specs.Modules.{heads-in};
 ghost use Rattle.read_both.specs.Both.{moved, WordsOf, Stands, Told};
 
 // What was read: so many entries; or a refusal, in the library or in the customer's text.
@@ -18,25 +20,19 @@ pub enum Both {
     },
 }
 
-// The words of modules' names.
-struct Words {
-    words: [u32; 64],
-}
-
-// The names' words of the modules at these heads.
-fn head_words(tape: &[u32], h: Heads) -> Words
-    requires { ⌜ h .count ≤ 64 ⌝ }
-    requires { ⌜ length (h .places) ≡ 65 ⌝ }
-    ensures { λ r. ⌜ WordsOf (now (tape .entry)) (h .places) (h .count) (r .words) ⌝ }
+// The words of the names of the modules at these heads, in place of where they begin.
+fn head_words(tape: &[u32], h: &mut Heads)
+    requires { ⌜ (heads-in (now h)) .count ≤ 64 ⌝ }
+    requires { ⌜ length ((heads-in (now h)) .places) ≡ 65 ⌝ }
+    ensures { λ _. ⌜ WordsOf (now (tape .entry)) ((heads-in (now (h .entry))) .places) ((heads-in (now (h .entry))) .count) (now (h .exit)) ⌝ }
 {
-    let count = h.count;
-    let mut words = [0; 64];
+    let count = module_count(h);
     let mut k: u32 = 0;
     while k < count {
-        words[k as usize] = name_of_module(tape, h, k);
+        let word = name_of_module(tape, h, k);
+        h[k as usize] = word;
         k += 1;
     }
-    Words { words }
 }
 
 // The first n entries, moved by so much.
@@ -56,18 +52,12 @@ fn read_customer(library: &[u8], text: &[u8], tape: &mut [u32], n: usize) -> Bot
     requires { ⌜ Stands (now library) (now text) n (now tape) ⌝ }
     ensures { λ r. ⌜ Told (now (library .entry)) (now (text .entry)) (now (tape .exit)) r ⌝ }
 {
-    let h = find_heads(tape, n as u32);
-    let w = head_words(tape, h);
-    let words = w.words;
-    let count = h.count as usize;
+    let mut h = [0; 66];
+    find_heads(tape, n as u32, &mut h);
+    let count = module_count(&h) as usize;
+    head_words(tape, &mut h);
     let end = tape.len();
-    match read::read(
-        text,
-        library,
-        &words[0..count],
-        64 - count,
-        &mut tape[n..end],
-    ) {
+    match read::read(text, library, &h[0..count], 64 - count, &mut tape[n..end]) {
         Reading::Refused { number, place } => Both::Refused {
             in_library: false,
             number,

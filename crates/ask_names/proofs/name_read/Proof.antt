@@ -10,6 +10,7 @@ name-read-spec =
     (tie.spec
     (λ c. search needs)  -- cast-find-heads
     (λ c κs. search needs)  -- find-heads-requires
+    (λ c κs. search needs)  -- module-count-requires
     (λ c κs. search needs)  -- blank-requires
     (λ c. search naming)  -- returns
     (λ c κs. search needs)  -- name-of-module-requires

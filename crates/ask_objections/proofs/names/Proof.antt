@@ -4,11 +4,12 @@ use Prim.Native.Nat.{_-_}
 use Rattle.text_names.specs.Joint.{joint}
 use borrow.Author.Needs.{needs}
 use Rattle.ask_objections.proofs.Cases.{Rest, names}
+use Rattle.modules.specs.Modules.{heads-in}
 use Rattle.ask_objections.proofs.names.Statement.{statement}
 use Rattle.ask_objections.proofs.names.Tie as tie
 
 abbrev Inv-loop : tie.InvT-loop
-Inv-loop library text tape h behind other more g k n by j₀ end j = Rest (joint library text) tape h (joint behind other) more g k n j end
+Inv-loop library text tape h behind other more g k n by j₀ end j = Rest (joint library text) tape (heads-in h) (joint behind other) more (heads-in g) k n j end
 
 abbrev μ-loop : tie.MeasureT-loop
 μ-loop library text tape h behind other more g k n by j₀ end j = end - j

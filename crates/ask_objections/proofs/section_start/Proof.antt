@@ -7,10 +7,10 @@ use Rattle.ask_objections.proofs.section_start.Statement.{statement}
 use Rattle.ask_objections.proofs.section_start.Tie as tie
 
 abbrev Inv-loop : tie.InvT-loop
-Inv-loop tape k section end i₀ s₀ i s = Sections tape i₀ end section i s
+Inv-loop tape h k section end i₀ s₀ i s = Sections tape i₀ end section i s
 
 abbrev μ-loop : tie.MeasureT-loop
-μ-loop tape k section end i₀ s₀ i s = section - s
+μ-loop tape h k section end i₀ s₀ i s = section - s
 
 pub section-start-spec : {M : Type 1} → statement M
 section-start-spec =

@@ -3,12 +3,13 @@ use Prim.Native.Nat.{_-_}
 use Rattle.text_names.specs.Joint.{joint}
 use Rattle.module_set.specs.ModuleSet.{holds}
 use Rattle.ask_walk.proofs.Walking.{passing, Passing}
+use Rattle.modules.specs.Modules.{heads-in}
 use Rattle.ask_walk.proofs.against.Statement.{statement}
 use Rattle.ask_walk.proofs.against.Tie as tie
 
 abbrev Inv-loop : tie.InvT-loop
 Inv-loop asked library text tape h behind other more g set new-set pass₀ pass =
-    Passing (joint library text) tape h (joint behind other) more g asked (holds set) (holds new-set) pass
+    Passing (joint library text) tape (heads-in h) (joint behind other) more (heads-in g) asked (holds set) (holds new-set) pass
 
 abbrev μ-loop : tie.MeasureT-loop
 μ-loop asked library text tape h behind other more g set new-set pass₀ pass = 4 - pass

@@ -5,11 +5,12 @@ use Rattle.text_names.specs.Joint.{joint}
 use Rattle.evaluate_turns.specs.Asked.{asked-within, before-asked}
 use Rattle.evaluate_turns.specs.Turning.{Going, going-kept, resumed-asked, few-asked}
 use Rattle.evaluate_turns.proofs.Cases.{cases}
+use Rattle.modules.specs.Modules.{heads-in}
 use Rattle.evaluate_turns.proofs.evaluate_set.Statement.{statement}
 use Rattle.evaluate_turns.proofs.evaluate_set.Tie as tie
 
 abbrev Inv-loop : tie.InvT-loop
-Inv-loop library text work₀ t h set k i₀ count₀ s₀ work i count s = Going (joint library text) t work₀ h set k s₀ i count s work
+Inv-loop library text work₀ t h set k i₀ count₀ s₀ work i count s = Going (joint library text) t work₀ (heads-in h) set k s₀ i count s work
 
 abbrev μ-loop : tie.MeasureT-loop
 μ-loop library text work₀ t h set k i₀ count₀ s₀ work i count s = k - i

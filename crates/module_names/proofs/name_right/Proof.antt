@@ -9,6 +9,7 @@ pub name-right-spec : {M : Type 1} → statement M
 name-right-spec =
     tie.close
     (tie.spec
+    (λ c κs. search needs)  -- module-count-requires
     (λ c κs. search needs)  -- find-number-requires
     (λ c. search numbers)  -- returns
     (λ c. search numbers)  -- returns-2

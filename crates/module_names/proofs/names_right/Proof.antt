@@ -7,15 +7,15 @@ use Rattle.form_rows.proofs.Auto.{on, done}
 use borrow.Author.Needs.{needs}
 use Rattle.meaning.specs.Evaluate.{names-right}
 use Rattle.text_names.specs.Joint.{joint}
-use Rattle.modules.specs.Modules.{names-module, declared, named-in, picked}
+use Rattle.modules.specs.Modules.{names-module, declared, named-in, picked, heads-in}
 use Rattle.module_names.proofs.Cases.{scans}
 use Rattle.module_names.proofs.names_right.Statement.{statement}
 use Rattle.module_names.proofs.names_right.Tie as tie
 
 abbrev Inv-loop : tie.InvT-loop
 Inv-loop library text tape h k j₀ end j =
-    names-right (declared (joint library text) tape h) (take k (declared (joint library text) tape h)) (named-in (joint library text) tape h k)
-    ≡ names-right (declared (joint library text) tape h) (take k (declared (joint library text) tape h)) (picked names-module (joint library text) tape j (end - j))
+    names-right (declared (joint library text) tape (heads-in h)) (take k (declared (joint library text) tape (heads-in h))) (named-in (joint library text) tape (heads-in h) k)
+    ≡ names-right (declared (joint library text) tape (heads-in h)) (take k (declared (joint library text) tape (heads-in h))) (picked names-module (joint library text) tape j (end - j))
 
 abbrev μ-loop : tie.MeasureT-loop
 μ-loop library text tape h k j₀ end j = end - j

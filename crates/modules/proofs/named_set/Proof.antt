@@ -6,14 +6,14 @@ use Rattle.text_names.specs.Joint.{joint}
 use Rattle.form_rows.proofs.Auto.{on, done}
 use borrow.Author.Needs.{needs}
 use Rattle.module_set.specs.ModuleSet.{holds}
-use Rattle.modules.specs.Modules.{names-module, declared, picked, with-named, named-set}
+use Rattle.modules.specs.Modules.{names-module, declared, picked, with-named, named-set, heads-in}
 use Rattle.modules.proofs.Cases.{scans}
 use Rattle.modules.proofs.named_set.Statement.{statement}
 use Rattle.modules.proofs.named_set.Tie as tie
 
 abbrev Inv-loop : tie.InvT-loop
 Inv-loop library text tape h k j₀ end set₀ j set =
-    named-set (joint library text) tape h k ≡ with-named (declared (joint library text) tape h) k (holds set) (picked names-module (joint library text) tape j (end - j))
+    named-set (joint library text) tape (heads-in h) k ≡ with-named (declared (joint library text) tape (heads-in h)) k (holds set) (picked names-module (joint library text) tape j (end - j))
 
 abbrev μ-loop : tie.MeasureT-loop
 μ-loop library text tape h k j₀ end set₀ j set = end - j

@@ -10,7 +10,7 @@ place-at-spec =
     tie.close
     (tie.spec
     (λ c. search needs)  -- mul-result
-    (λ c. search needs)  -- array-read-result
-    (λ c. search needs)  -- returns
+    (λ c. search needs)  -- element-copy-out-result
+    (λ c. search heads)  -- returns
     (λ c. search heads)  -- returns-2
     )

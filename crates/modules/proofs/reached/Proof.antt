@@ -9,6 +9,7 @@ pub reached-spec : {M : Type 1} → statement M
 reached-spec =
     tie.close
     (tie.spec
+    (λ c κs. search needs)  -- module-count-requires
     (λ c κs. search needs)  -- empty-requires
     (λ c κs. search needs)  -- with-requires
     (λ c κs. search needs)  -- gathered-requires

@@ -2,12 +2,13 @@
 -- Assumes nothing.
 use Prim.Native.Nat.{_-_}
 use borrow.Author.Needs.{needs}
-use Rattle.read_both.proofs.Cases.{cases, Moving}
+use Rattle.read_both.proofs.Cases.{cases, Changing}
+use Rattle.read_both.specs.Both.{shifted}
 use Rattle.read_both.proofs.move_entries.Statement.{statement}
 use Rattle.read_both.proofs.move_entries.Tie as tie
 
 abbrev Inv-loop : tie.InvT-loop
-Inv-loop tape₀ n by i₀ tape i = Moving by n tape₀ tape i
+Inv-loop tape₀ n by i₀ tape i = Changing (shifted by) n tape₀ tape i
 
 abbrev μ-loop : tie.MeasureT-loop
 μ-loop tape₀ n by i₀ tape i = n - i

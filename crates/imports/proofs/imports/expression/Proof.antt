@@ -8,7 +8,7 @@ pub expression-spec : {M : Type 1} → statement M
 expression-spec =
     tie.close
     (tie.spec
-    (λ c κs. search needs)  -- named-form-requires
+    (λ c κs. search needs)  -- imported-requires
     (λ c. search needs)  -- add-clauses-from
     (λ c κs. search (expression-room, needs))  -- clauses-from-requires
     (λ c. search needs)  -- same-length

@@ -8,12 +8,8 @@ pub clause-turn-spec : {M : Type 1} → statement M
 clause-turn-spec =
     tie.close
     (tie.spec
-    (λ c κs. search needs)  -- first-block-requires
+    (λ c κs. search needs)  -- turn-block-requires
     (λ c κs. search cases)  -- clause-at-requires
     (λ c. search needs)  -- same-length
     (λ c. search cases)  -- returns
-    (λ c κs. search needs)  -- second-block-requires
-    (λ c κs. search cases)  -- clause-at-requires-2
-    (λ c. search needs)  -- same-length-2
-    (λ c. search cases)  -- returns-2
     )

@@ -2,12 +2,13 @@
 use Rattle.text_names.specs.Joint.{joint}
 use Rattle.imports.specs.Clausal.{ClausesGoing, clauses-again}
 use Rattle.imports.proofs.Cases.{cases}
+use Rattle.modules.specs.Modules.{heads-in}
 use Rattle.imports.proofs.turns.clauses_from.Statement.{statement}
 use Rattle.imports.proofs.turns.clauses_from.Tie as tie
 
 abbrev Inv-loop : tie.InvT-loop
 Inv-loop library text work₀ t h left i first n₀ at₀ f₀ turn₀ work n at f turn =
-    ClausesGoing (joint library text) t work₀ h left i f₀ n at f turn work
+    ClausesGoing (joint library text) t work₀ (heads-in h) left i f₀ n at f turn work
 
 abbrev μ-loop : tie.MeasureT-loop
 μ-loop library text work₀ t h left i first n₀ at₀ f₀ turn₀ work n at f turn = n
