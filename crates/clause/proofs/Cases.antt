@@ -1,8 +1,9 @@
 -- The ways through a binding.
 use borrow.Author.Needs.{needs}
+use Rattle.clause.specs.Either.{note-step, binding-step, renaming-step, notes-binding, notes-renaming, right-binding, right-renaming, hidden-binding, hidden-renaming}
 use Rattle.clause.specs.Places.{own-step}
 use Rattle.clause.specs.OwnSteps.{keep-room, own-room, own-bound}
-use Rattle.clause.specs.VisibleSteps.{slots-room, actual-room, rows-bound, note-room, front-bound}
+use Rattle.clause.specs.VisibleSteps.{slots-room, actual-room, rows-bound, note-asked, front-bound}
 use Rattle.clause.specs.HiddenSteps.{own-hidden-room, actual-hidden-room, hidden-bound}
 use Rattle.clause.specs.WholeSteps.{hidden-step, check-step, bound-form}
 use Rattle.clause.specs.Outcomes.{pairs-stop, pairs-fine, mode-binds, mode-kind, tape-within, no-parameter, wrong-pairs, right-pairs}
@@ -13,11 +14,13 @@ pub ruleset own = (keep-room, own-room, own-bound, needs)
 
 pub ruleset rows = (own-step, slots-room, actual-room, rows-bound, needs)
 
-pub ruleset front = (note-room, front-bound, needs)
+pub ruleset front = (note-asked, front-bound, needs)
 
 pub ruleset hidden = (own-hidden-room, actual-hidden-room, hidden-bound, needs)
 
 pub ruleset whole = (hidden-step, check-step, bound-form, needs)
+
+pub ruleset either = (note-step, binding-step, renaming-step, notes-binding, notes-renaming, right-binding, right-renaming, hidden-binding, hidden-renaming, needs)
 
 -- ---- how it ends
 

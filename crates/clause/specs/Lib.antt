@@ -1,5 +1,6 @@
 pub mod Rooms
 pub mod Binding
+pub mod Either
 pub mod Places
 pub mod ActualNotes
 pub mod OwnSteps

@@ -36,6 +36,7 @@ use Rattle.unite_checks.specs.Made.{makes-as, refused-makes, stops, goes-on}
 use Rattle.unite_checks.specs.Steps.{Bound}
 use Rattle.clause.specs.Rooms.{binding-mode, Binds, BindRoom, StepRoom}
 use Rattle.clause.specs.Binding.{pairs-checked, bound-normal, BoundForm}
+use Rattle.clause.specs.Either.{ClauseRight}
 use Rattle.clause.specs.Places.{block-laid}
 use Rattle.clause.specs.WholeSteps.{table-meant}
 
@@ -150,7 +151,7 @@ module _ (text : List ℕ) (t : ℕ) (w : List ℕ) (p pairs : ℕ) (g actual : 
           (unpaired-meant text (part w 0 t) w m (n .visible) table ∙ (λ i. unpaired (formal-words i) (words i)))
 
     -- 22 to 27
-    pub wrong-pairs : (v : Verdict) (k : ℕ) (x : Culprit) → told text v ≡ pairs-checked text (part w 0 t) w m actual → v ≡ Stop k x
+    pub wrong-pairs : (v : Verdict) (k : ℕ) (x : Culprit) → ClauseRight text t w m g actual v → v ≡ Stop k x
         → Bound text t w p pairs g actual b (Refused k x) w
     unfolding told bound-to
     wrong-pairs v k x e h = record {
@@ -158,10 +159,10 @@ module _ (text : List ℕ) (t : ℕ) (w : List ℕ) (p pairs : ℕ) (g actual : 
       made-in = tt;
       made = λ n a s u.
           refused-makes text (part w 0 t) w k x (bind name rs n a)
-          (has-parameter n a s ∙ both-stop _ _ _ k (culprit-of text x) (sym (checked-meant n a s u) ∙ sym e ∙ ap (told text) h));
+          (has-parameter n a s ∙ both-stop _ _ _ k (culprit-of text x) (sym (checked-meant n a s u) ∙ sym (e .binds (binds .kind)) ∙ ap (told text) h));
     }
 
-    pub right-pairs : (v : Verdict) (z : Made) (w′ : List ℕ) → told text v ≡ pairs-checked text (part w 0 t) w m actual → v ≡ Fine
+    pub right-pairs : (v : Verdict) (z : Made) (w′ : List ℕ) → ClauseRight text t w m g actual v → v ≡ Fine
         → BoundForm text t w m g actual b z w′ → Bound text t w p pairs g actual b z w′
     unfolding told bound-to binding-mode
     right-pairs v z w′ e h x =
@@ -170,7 +171,7 @@ module _ (text : List ℕ) (t : ℕ) (w : List ℕ) (p pairs : ℕ) (g actual : 
           kept = x .kept;
           made-in = x .made-in;
           made = λ n a s u.
-              let all-fine = sym (checked-meant n a s u) ∙ sym e ∙ ap (told text) h in
+              let all-fine = sym (checked-meant n a s u) ∙ sym (e .binds (binds .kind)) ∙ ap (told text) h in
               let pass = then-fine _ _ tt all-fine in
               makes-as text (part w′ 0 t) w′ z (checked (bound-normal text t w (binding-mode p pairs g) n a)) (bind name rs n a)
               (has-parameter n a s ∙ goes-on _ _ (pass .0) ∙ goes-on _ _ (pass .1))

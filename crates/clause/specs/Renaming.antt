@@ -1,5 +1,6 @@
 -- From the room that a renaming or a union has to what the code asks for, and from what the code leaves to the meaning.
 use mathlib.Core.Path.{_≡_, refl, sym, ap, _∙_, subst}
+use mathlib.Core.Bool.{false}
 use mathlib.Core.Logic.{inl}
 use Prim.Native.Nat.{ℕ}
 use native.Mathlib.Omega.{arith}
@@ -17,24 +18,33 @@ use Rattle.form.specs.declared.Made.the-variants.{Refused}
 use Rattle.form.specs.declared.Verdict.{Verdict}
 use Rattle.form.specs.declared.Verdict.the-variants.{Fine, Stop}
 use Rattle.form.specs.Memory.{part}
-use Rattle.form.specs.Forms.{items-at, visible-at, Stands}
+use Rattle.form.specs.Forms.{visible-at, Stands}
 use Rattle.form.specs.FormLaws.{kept-all}
 use Rattle.form.specs.Blocks.{MadeThere}
 use Rattle.form.specs.Verdicts.{culprit-of, told}
 use Rattle.form_frames.specs.Changes.{onward}
 use Rattle.clause_translation.specs.declared.Mode.{Mode}
 use Rattle.clause_pairs.specs.Pairs.{pairs-at}
-use Rattle.unite.specs.Rooms.{UniteRoom}
-use Rattle.unite.specs.United.{empty-in, moved-onto, sorts, functions, United}
+use Rattle.unite_items.specs.Turns.{Room}
+use Rattle.unite.specs.Rooms.{SlotsRoom, UniteRoom}
+use Rattle.unite.specs.United.{empty-in, moved-onto, sorts, functions, SlotsUnited, VisibleUnited, United}
+use Rattle.unite.specs.Whole.{slots-room, visible-room, hidden-room, united}
 use Rattle.unite.specs.Standing.{empty-stands}
 use Rattle.unite.specs.Corollaries.{moved-by-renaming, united-as-is, united-stands}
 use Rattle.unite_checks.specs.Made.{makes-as, refused-makes, stops, goes-on}
 use Rattle.unite_checks.specs.Checked.{CheckRoom, CheckedForm}
 use Rattle.unite_checks.specs.Steps.{BlockRoom, MakeRoom, Renamed, RenamedForm, JoinRoom, JoinedForm}
+use Rattle.clause.specs.Either.{Renames, ClauseRight, NoteStep, NotesMade, HiddenStep, HiddenMade}
 
--- a mode without a table
-abbrev pub plain-mode : ℕ → ℕ → Mode
-plain-mode kind pairs = record { kind = kind; pairs = pairs; parameter = 0; visible = 0; count = 0 }
+-- the modes of a renaming and of a union
+abbrev renaming-mode : ℕ → Mode
+renaming-mode pairs = record { kind = 1; pairs = pairs; parameter = 0; visible = 0; count = 0 }
+
+pub rename-mode : (pairs : ℕ) → Renames (renaming-mode pairs)
+rename-mode pairs = record { kind = refl; table = refl; count = refl }
+
+abbrev as-it-is : Mode
+as-it-is = record { kind = 0; pairs = 0; parameter = 0; visible = 0; count = 0 }
 
 -- ---- room
 
@@ -52,8 +62,8 @@ onto-nothing size t g e b c h = record {
   there = subst (MadeThere b) (sym h) (nothing-there b);
 }
 
-unite-room : (size t kind pairs : ℕ) (g f : Form) (b : Block) → JoinRoom size t g f b → UniteRoom size t (plain-mode kind pairs) g f b
-unite-room size t kind pairs g f b c =
+unite-room : (size t : ℕ) (z : Mode) (g f : Form) (b : Block) → z .visible ≡ 0 → z .count ≡ 0 → JoinRoom size t g f b → UniteRoom size t z g f b
+unite-room size t z g f b at none c =
     let m = c .room in
     let x = c .fits in
     let y = c .there .fits in
@@ -65,7 +75,7 @@ unite-room size t kind pairs g f b c =
       laid = m .laid;
       inside = omega (arith, c .there, m);
       outside = c .outside;
-      mode = inl (omega arith);
+      mode = inl (omega (arith, at, none));
       parameters = omega (arith, x .parameters, y .parameters, m .names-room);
       visible = omega (arith, x .items, y .items, m .rows-room);
       hidden = omega (arith, x .items, y .items, m .hidden-room);
@@ -77,11 +87,8 @@ unite-room size t kind pairs g f b c =
       source-nodes = c .nodes;
     }
 
-pub make-unite : (size t kind pairs : ℕ) (g e : Form) (b : Block) → MakeRoom size t g b → e ≡ empty-in b → UniteRoom size t (plain-mode kind pairs) g e b
-make-unite size t kind pairs g e b c h = unite-room size t kind pairs g e b (onto-nothing size t g e b c h)
-
-pub join-unite : (size t : ℕ) (g f : Form) (b : Block) → JoinRoom size t g f b → UniteRoom size t (plain-mode 0 0) g f b
-join-unite size t g f b c = unite-room size t 0 0 g f b c
+pub join-unite : (size t : ℕ) (g f : Form) (b : Block) → JoinRoom size t g f b → UniteRoom size t as-it-is g f b
+join-unite size t g f b c = unite-room size t as-it-is g f b refl refl c
 
 -- what two forms that fit make together is checked in the block
 module _ (text : List ℕ) (t : ℕ) (w w₁ : List ℕ) (m : Mode) (g f u : Form) (b : Block) (x : United text t w m g f b u w₁) where
@@ -104,36 +111,65 @@ module _ (text : List ℕ) (t : ℕ) (w w₁ : List ℕ) (m : Mode) (g f u : For
         nodes = x .nodes;
       }
 
-  pub make-check : MakeRoom (length w) t g b → f ≡ empty-in b → CheckRoom (length w₁) t u b
-  make-check c h = join-check (onto-nothing (length w) t g f b c h)
-
 -- ---- renaming
 
-module _ (text : List ℕ) (t : ℕ) (w w₁ w₂ : List ℕ) (pairs : ℕ) (g e u : Form) (b : Block) (r : Made) (c : MakeRoom (length w) t g b) (h : e ≡ empty-in b)
-    (x : United text t w (plain-mode 1 pairs) g e b u w₁) (d : CheckedForm text t w₁ u b r w₂) where
-  pub renamed-made : RenamedForm text t w pairs g b r w₂
-  renamed-made =
-      let m = plain-mode 1 pairs in
-      let there = onto-nothing (length w) t g e b c h .there .fits in
-      let nothing = subst (λ (k : Form). Stands text (part w 0 t) w k empty) (sym h) (empty-stands text (part w 0 t) w b) in
-      record {
-        kept = onward (x .kept) (d .kept);
-        made-in = d .made-in;
-        made = λ n s.
-            makes-as text (part w₂ 0 t) w₂ r (checked (moved-onto (sorts text t w m) (functions text t w m) empty n))
-            (checked (move (renaming (pairs-at text (part w 0 t) pairs)) (λ f v. renaming (pairs-at text (part w 0 t) pairs) f) n))
-            (ap checked (sym (moved-by-renaming text (part w 0 t) w m n refl)))
-            (d .made _ (united-stands text t w m g e b u w₁
-            (omega (arith, there .equations, c .fits .equations, c .room .equations-room)) n empty s nothing x));
-      }
+module _ (text : List ℕ) (t : ℕ) (w : List ℕ) (m : Mode) (g e : Form) (b : Block) (c : MakeRoom (length w) t g b) (z : Renames m)
+    (h : e ≡ empty-in b) where
+  together : JoinRoom (length w) t g e b
+  together = onto-nothing (length w) t g e b c h
+
+  room : UniteRoom (length w) t m g e b
+  room = unite-room (length w) t m g e b (z .table) (z .count) together
+
+  no-binding : m .kind ≡ 2 → ⊥
+  no-binding k = omega (arith, k, z .kind)
+
+  pub make-slots : SlotsRoom (length w) t g e
+  make-slots = slots-room text t w m g e b room
+
+  module _ (named : Form) (w₁ : List ℕ) (x : SlotsUnited text t w g e named w₁) where
+    pub make-visible : Room (length w₁) t m (g .visible) (g .«visible_count») (named .visible) (named .«visible_count») (b .«visible_notes»)
+    make-visible = visible-room text t w m g e b room named w₁ x
+
+    module _ (seen : Form) (w₂ : List ℕ) (y : VisibleUnited text t w₁ m false g named (b .«visible_notes») seen w₂) where
+      pub make-notes : NoteStep (length w₂) t m seen (b .«visible_notes»)
+      make-notes = record { binds = λ k. absurd (no-binding k) }
+
+      module _ (w₃ : List ℕ) (q : NotesMade text t w₂ m seen (b .«visible_notes») w₃) where
+        still : VisibleUnited text t w₁ m false g named (b .«visible_notes») seen w₃
+        still = subst (λ (v : List ℕ). VisibleUnited text t w₁ m false g named (b .«visible_notes») seen v) (sym (q .renames no-binding)) y
+
+        pub make-hidden : HiddenStep (length w₃) t m g g seen b
+        make-hidden = record { binds = λ k. absurd (no-binding k); renames = λ k. hidden-room text t w m g e b room named w₁ x seen w₃ still }
+
+        module _ (u : Form) (w₄ : List ℕ) (k : HiddenMade text t w₃ m g g seen b u w₄) where
+          all : United text t w m g e b u w₄
+          all = united text t w m g e b room named w₁ x seen w₃ still u w₄ (k .renames no-binding)
+
+          pub make-check : CheckRoom (length w₄) t u b
+          make-check = join-check text t w w₄ m g e u b all together
+
+          pub renamed-made : (r : Made) (w₅ : List ℕ) → CheckedForm text t w₄ u b r w₅ → RenamedForm text t w (m .pairs) g b r w₅
+          renamed-made r w₅ d =
+              let nothing = subst (λ (k : Form). Stands text (part w 0 t) w k empty) (sym h) (empty-stands text (part w 0 t) w b) in
+              record {
+                kept = onward (all .kept) (d .kept);
+                made-in = d .made-in;
+                made = λ n s.
+                    makes-as text (part w₅ 0 t) w₅ r (checked (moved-onto (sorts text t w m) (functions text t w m) empty n))
+                    (checked (move (renaming (pairs-at text (part w 0 t) (m .pairs))) (λ f v. renaming (pairs-at text (part w 0 t) (m .pairs)) f) n))
+                    (ap checked (sym (moved-by-renaming text (part w 0 t) w m n (z .kind))))
+                    (d .made _ (united-stands text t w m g e b u w₄
+                    (omega (arith, together .there .fits .equations, c .fits .equations, c .room .equations-room)) n empty s nothing all));
+              }
 
 module _ (text : List ℕ) (t : ℕ) (w w₁ : List ℕ) (pairs : ℕ) (g : Form) (b : Block) (v : Verdict)
-    (q : told text v ≡ unless bad-renaming (wrong-renaming (items-at text (part w 0 t) w (g .visible) (g .«visible_count»)) [] (pairs-at text (part w 0 t) pairs))) where
+    (q : ClauseRight text t w (renaming-mode pairs) g g v) where
   names-meant : (n : Normal) → Stands text (part w 0 t) w g n
       → unless bad-renaming (wrong-renaming (n .visible .items) [] (pairs-at text (part w 0 t) pairs)) ≡ told text v
   unfolding visible-at
   names-meant n s =
-      ap (λ (u : Visible). unless bad-renaming (wrong-renaming (u .items) [] (pairs-at text (part w 0 t) pairs))) (sym (s .visible)) ∙ sym q
+      ap (λ (u : Visible). unless bad-renaming (wrong-renaming (u .items) [] (pairs-at text (part w 0 t) pairs))) (sym (s .visible)) ∙ sym (q .renames (λ k. omega (arith, k)))
 
   pub rename-stop : (k : ℕ) (x : Culprit) → v ≡ Stop k x → Renamed text t w pairs g b (Refused k x) w
   unfolding rename told
@@ -155,9 +191,9 @@ module _ (text : List ℕ) (t : ℕ) (w w₁ : List ℕ) (pairs : ℕ) (g : Form
 -- ---- union
 
 pub join-made : (text : List ℕ) (t : ℕ) (w w₁ w₂ : List ℕ) (g f u : Form) (b : Block) (r : Made) → JoinRoom (length w) t g f b
-    → United text t w (plain-mode 0 0) g f b u w₁ → CheckedForm text t w₁ u b r w₂ → JoinedForm text t w g f b r w₂
+    → United text t w as-it-is g f b u w₁ → CheckedForm text t w₁ u b r w₂ → JoinedForm text t w g f b r w₂
 join-made text t w w₁ w₂ g f u b r c x d =
-    let m = plain-mode 0 0 in
+    let m = as-it-is in
     record {
       kept = onward (x .kept) (d .kept);
       made-in = d .made-in;

@@ -35,6 +35,7 @@ use Rattle.unite.specs.Whole.{sorts-stay, functions-stay}
 use Rattle.clause_checks.specs.Notes.{NoteRoom, FormalsNoted}
 use Rattle.clause.specs.Rooms.{as-is, OwnRoom, StepRoom, Seen}
 use Rattle.clause.specs.Binding.{PairsRight, named-in, left-of, OwnBound, RowsBound, FrontBound}
+use Rattle.clause.specs.Either.{NoteStep, NotesMade}
 use Rattle.clause.specs.Places.{Laid, Counts, block-laid, mode-apart, own-step, InsideBlock}
 use Rattle.clause.specs.OwnSteps.{first-kept, rows-kept, own-kept, own-form, own-few, own-slots, own-inside, own-stands}
 use Rattle.clause.specs.ActualNotes.{StaysNoted, bound-noted}
@@ -204,7 +205,7 @@ module _ (text : List ℕ) (t : ℕ) (w : List ℕ) (m : Mode) (g actual : Form)
     four-kept : Kept low high w w₄
     four-kept = onward three-kept last-kept
 
-    pub note-room : NoteRoom (length w₄) t m all notes
+    note-room : NoteRoom (length w₄) t m all notes
     note-room =
         let c = room .mode .count in
         let e = all-inside .lies in
@@ -215,7 +216,13 @@ module _ (text : List ℕ) (t : ℕ) (w : List ℕ) (m : Mode) (g actual : Form)
           rows = inl (omega (arith, e, all-inside .visible, laid));
         }
 
-    module _ (w₅ : List ℕ) (z : FormalsNoted text (part w₄ 0 t) w₄ w₅ m all notes) where
+    pub note-asked : NoteStep (length w₄) t m all notes
+    note-asked = record { binds = λ k. note-room }
+
+    module _ (w₅ : List ℕ) (made : NotesMade text t w₄ m all notes w₅) where
+      z : FormalsNoted text (part w₄ 0 t) w₄ w₅ m all notes
+      z = made .binds (room .mode .kind)
+
       formals-kept : Kept low high w₄ w₅
       formals-kept = wider (omega (arith, room .mode .count, fit, laid)) (z .kept)
 

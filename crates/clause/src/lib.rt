@@ -4,6 +4,7 @@ pub mod renaming;
 use clause_checks::notes::note_formals;
 use clause_checks::parameters::has_parameter;
 use clause_checks::parameters::keep_parameters;
+use clause_checks::renamings::wrong_renaming;
 use clause_mistakes::bindings::pairs_right;
 use clause_mistakes::formals::unpaired;
 use clause_translation::Mode;
@@ -27,6 +28,7 @@ ghost use Rattle.form.specs.Verdicts.{told};
 ghost use Rattle.unite_checks.specs.Steps.{Bound};
 ghost use Rattle.clause.specs.Rooms.{as-is, binding-mode, OwnRoom, BindRoom, StepRoom, SeenRoom};
 ghost use Rattle.clause.specs.Binding.{named-in, pairs-checked, OwnBound, RowsBound, FrontBound, HiddenBound, BoundForm};
+ghost use Rattle.clause.specs.Either.{ClauseRight, NoteStep, NotesMade, HiddenStep, HiddenMade};
 
 // The mode that leaves rows as they are.
 fn as_is() -> Mode
@@ -125,6 +127,26 @@ fn bound_rows(
     )
 }
 
+// The notes of the formal rows that a clause's mode has: where the actual items are. A renaming has none.
+fn formals_noted(
+    library: &[u8],
+    text: &[u8],
+    work: &mut [u32],
+    t: usize,
+    m: Mode,
+    y: Form,
+    notes: u32,
+)
+    requires { ⌜ NoteStep (length (now work)) t m y notes ⌝ }
+    ensures { λ r. ⌜ NotesMade (joint (now (library .entry)) (now (text .entry))) t (now (work .entry)) m y notes (now (work .exit)) ⌝ }
+{
+    let kind = m.kind;
+    if kind == modes::BINDING {
+        note_formals(library, text, work, t, m, y, notes);
+        return;
+    }
+}
+
 // These, and each formal row's note: where the actual item is.
 fn bound_front(
     library: &[u8],
@@ -141,7 +163,7 @@ fn bound_front(
 {
     let notes = b.visible_notes;
     let all = bound_rows(library, text, work, t, m, g, actual, b);
-    note_formals(library, text, work, t, m, all, notes);
+    formals_noted(library, text, work, t, m, all, notes);
     all
 }
 
@@ -175,6 +197,30 @@ fn bound_hidden(
     )
 }
 
+// The hidden items and the equations that a clause makes of g, by its mode: one way for both kinds of clause, so that its frame is none of
+// the others'. A renaming has no actual form.
+fn hidden_made(
+    library: &[u8],
+    text: &[u8],
+    work: &mut [u32],
+    t: usize,
+    m: Mode,
+    g: Form,
+    actual: Form,
+    f: Form,
+    b: Block,
+) -> Form
+    requires { ⌜ HiddenStep (length (now work)) t m g actual f b ⌝ }
+    ensures { λ r. ⌜ HiddenMade (joint (now (library .entry)) (now (text .entry))) t (now (work .entry)) m g actual f b r (now (work .exit)) ⌝ }
+{
+    let kind = m.kind;
+    if kind == modes::BINDING {
+        return bound_hidden(library, text, work, t, m, g, actual, f, b);
+    }
+    let notes = b.visible_notes;
+    unite_hidden(library, text, work, t, m, g, f, b, notes)
+}
+
 // g with its formal items replaced, united with the actual form.
 fn bound(
     library: &[u8],
@@ -190,7 +236,7 @@ fn bound(
     ensures { λ r. ⌜ BoundForm (joint (now (library .entry)) (now (text .entry))) t (now (work .entry)) m g actual b r (now (work .exit)) ⌝ }
 {
     let seen = bound_front(library, text, work, t, m, g, actual, b);
-    let f = bound_hidden(library, text, work, t, m, g, actual, seen, b);
+    let f = hidden_made(library, text, work, t, m, g, actual, seen, b);
     checked(library, text, work, t, f, b)
 }
 
@@ -213,6 +259,29 @@ fn binding_right(
     }
 }
 
+// What is wrong with a clause of g, by its mode: 14, or 22 to 27. What is looked at for it is gone before anything is made.
+fn clause_right(
+    library: &[u8],
+    text: &[u8],
+    work: &[u32],
+    t: usize,
+    m: Mode,
+    g: Form,
+    actual: Form,
+) -> Verdict
+    requires { ⌜ t ≤ length (now work) ⌝ }
+    ensures { λ r. ⌜ ClauseRight (joint (now (library .entry)) (now (text .entry))) t (now (work .entry)) m g actual r ⌝ }
+{
+    let kind = m.kind;
+    if kind == modes::BINDING {
+        return binding_right(library, text, work, t, m, actual);
+    }
+    let pairs = m.pairs;
+    let visible = g.visible;
+    let count = g.visible_count;
+    wrong_renaming(library, text, work, t, pairs, visible, count)
+}
+
 // The parameter p of g bound to the actual form by the pairs on the tape from `pairs` on: 15, 22 to 27.
 pub fn bind(
     library: &[u8],
@@ -230,7 +299,7 @@ pub fn bind(
 {
     if has_parameter(library, text, work, g, p) {
         let m = binding_mode(p, pairs, g);
-        match binding_right(library, text, work, t, m, actual) {
+        match clause_right(library, text, work, t, m, g, actual) {
             Verdict::Stop(k, w) => {
                 return Made::Refused(k, w);
             }

@@ -1,5 +1,7 @@
 // A form renamed, 14, and a form united with another: each is made in a block, and checked.
-use clause_checks::renamings::wrong_renaming;
+use super::clause_right;
+use super::formals_noted;
+use super::hidden_made;
 use clause_translation::Mode;
 use clause_translation::modes;
 use form::Block;
@@ -8,33 +10,34 @@ use form::Made;
 use form::Verdict;
 use unite::empty_form;
 use unite::unite;
+use unite::unite_parameters;
+use unite::unite_visible;
 use unite_checks::checked::checked;
 ghost use lib.ListN.{length};
 ghost use Rattle.text_names.specs.Joint.{joint};
 ghost use Rattle.unite_checks.specs.Steps.{MakeRoom, Renamed, RenamedForm, JoinRoom, JoinedForm};
+ghost use Rattle.clause.specs.Either.{Renames};
 
-// g, with the pairs' new names.
+// g, with the pairs' new names: made step by step as a bound form is.
 fn renamed(
     library: &[u8],
     text: &[u8],
     work: &mut [u32],
     t: usize,
-    pairs: u32,
+    m: Mode,
     g: Form,
     b: Block,
 ) -> Made
     requires { ⌜ MakeRoom (length (now work)) t g b ⌝ }
-    ensures { λ r. ⌜ RenamedForm (joint (now (library .entry)) (now (text .entry))) t (now (work .entry)) pairs g b r (now (work .exit)) ⌝ }
+    requires { ⌜ Renames m ⌝ }
+    ensures { λ r. ⌜ RenamedForm (joint (now (library .entry)) (now (text .entry))) t (now (work .entry)) (m .pairs) g b r (now (work .exit)) ⌝ }
 {
-    let m = Mode {
-        kind: modes::RENAMING,
-        pairs,
-        parameter: 0,
-        visible: 0,
-        count: 0,
-    };
+    let notes = b.visible_notes;
     let e = empty_form(b);
-    let f = unite(library, text, work, t, m, g, e, b);
+    let named = unite_parameters(library, text, work, t, g, e);
+    let seen = unite_visible(library, text, work, t, m, false, g, named, notes);
+    formals_noted(library, text, work, t, m, seen, notes);
+    let f = hidden_made(library, text, work, t, m, g, g, seen, b);
     checked(library, text, work, t, f, b)
 }
 
@@ -51,11 +54,16 @@ pub fn rename(
     requires { ⌜ MakeRoom (length (now work)) t g b ⌝ }
     ensures { λ r. ⌜ Renamed (joint (now (library .entry)) (now (text .entry))) t (now (work .entry)) pairs g b r (now (work .exit)) ⌝ }
 {
-    let visible = g.visible;
-    let count = g.visible_count;
-    match wrong_renaming(library, text, work, t, pairs, visible, count) {
+    let m = Mode {
+        kind: modes::RENAMING,
+        pairs,
+        parameter: 0,
+        visible: 0,
+        count: 0,
+    };
+    match clause_right(library, text, work, t, m, g, g) {
         Verdict::Stop(k, w) => Made::Refused(k, w),
-        Verdict::Fine => renamed(library, text, work, t, pairs, g, b),
+        Verdict::Fine => renamed(library, text, work, t, m, g, b),
     }
 }
 

@@ -2,7 +2,7 @@
 use mathlib.Core.Path.{_≡_, refl, sym, _∙_}
 use mathlib.Core.Bool.{Bool, true, false, _&&_}
 use mathlib.Core.List.{List, [], _∷_}
-use Prim.Native.Nat.{ℕ, _+_, _-_, _*_, _<_, _≤_}
+use Prim.Native.Nat.{ℕ, _+_, _*_, _<_, _≤_}
 use borrow.Author.Needs.{needs}
 use borrow.Author.Tests.{eq-eqb, ne-eqb}
 use Rattle.meaning.specs.Lists.{pick, keep, any}
@@ -48,22 +48,23 @@ module _ (text tape : List ℕ) (p a : ℕ) (x : Row) where
     unfolding formal-sort item-of pick
     such-elsewhere q = rw (is-sort-kind text tape (x .kind) (x .sorts), eq-eqb (x .kind) 0 h, ← g, q)
 
-module _ (text tape : List ℕ) (p : ℕ) (x y : Row) (b : Bool) (f : b ≡ in-parameter (name-of text p) (section-of text (y .standing))) where
+module _ (text tape w : List ℕ) (p k : ℕ) (x y : Row) (e : y ≡ row-at w k) (b : Bool)
+    (f : b ≡ in-parameter (name-of text p) (section-of text (y .standing))) where
   abbrev like : Bool
-  like = formal-function (name-of text p) (name-of text (x .name)) (shape-of text tape (x .kind) (x .sorts)) (item-of text tape y)
+  like = formal-function (name-of text p) (name-of text (x .name)) (shape-of text tape (x .kind) (x .sorts)) (item-of text tape (row-at w k))
 
   pub like-elsewhere : b ≡ false → false ≡ like
   unfolding formal-function item-of pick
-  like-elsewhere h = rw (← f, h)
+  like-elsewhere h = rw (← e, ← f, h)
 
   module _ (h : b ≡ true) (c : Bool) (g : c ≡ same (name-of text (x .name)) (name-of text (y .name))) where
     pub like-other : c ≡ false → false ≡ like
     unfolding formal-function item-of is-called pick
-    like-other q = rw (← f, h, ← g, q)
+    like-other q = rw (← e, ← f, h, ← g, q)
 
     pub like-shaped : (r : Bool) → c ≡ true → r ≡ same-shape (shape-of text tape (x .kind) (x .sorts)) (shape-of text tape (y .kind) (y .sorts)) → r ≡ like
     unfolding formal-function item-of is-called pick
-    like-shaped r q o = rw (← f, h, ← g, q) o
+    like-shaped r q o = rw (← e, ← f, h, ← g, q) o
 
 -- ---- what is sought
 

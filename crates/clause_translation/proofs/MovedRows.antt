@@ -42,7 +42,7 @@ module _ (text tape w : List ℕ) (m : Mode) where
   unfolding sort-of move-sort pick
   sort-hidden s h = rw (ne-eqb (s % 2) 0 h)
 
-  -- ---- the sorts of a row, of which those before i and the last have been moved
+  -- ---- the sorts of a row: the last has been moved first, then those before i
 
   abbrev Moves : List ℕ → List ℕ → ℕ → Type 0
   Moves sorts r j = sort-of text tape (getD r j 0) ≡ move-sort σ φ (sort-of text tape (getD sorts j 0))
@@ -57,53 +57,59 @@ module _ (text tape w : List ℕ) (m : Mode) where
   map-moved (suc n) [] (y ∷ ys) e h = absurd (omega arith)
   map-moved (suc n) (x ∷ xs) [] e h = absurd (omega arith)
   map-moved (suc n) (x ∷ xs) (y ∷ ys) e h =
-      ap₂ (λ (s : Sort) (ss : List Sort). s ∷ ss) (h 0 (omega arith) (omega arith)) (map-moved n xs ys (omega arith) (λ j l k. h (suc j) (omega arith) (omega arith)))
+      let others = map-moved n xs ys (omega arith) (λ j l k. h (suc j) (omega arith) (omega arith)) in
+      ap₂ (λ (s : Sort) (ss : List Sort). s ∷ ss) (h 0 (omega arith) (omega arith)) others
 
-  pub record Moving (sorts r : List ℕ) (i : ℕ) : Type 0 where
+  pub record Moving (first r : List ℕ) (i : ℕ) : Type 0 where
     pub inside : i ≤ 8
     pub size : length r ≡ 9
-    pub last : Moves sorts r 8
-    pub done : (j : ℕ) → j < i → Moves sorts r j
+    pub done : (j : ℕ) → j < i → Moves first r j
+    pub rest : (j : ℕ) → i ≤ j → getD r j 0 ≡ getD first j 0
+
+  module _ (k n i v : ℕ) (first r : List ℕ) (few : n ≡ min k 8) (l : i < n) (inv : Moving first r i) where
+    pub moving-again : sort-of text tape v ≡ move-sort σ φ (sort-of text tape (getD r i 0)) → Moving first (set r i v) (i + 1)
+    moving-again h =
+        let size = inv .size in
+        record {
+          inside = omega arith;
+          size = length-set r i v ∙ size;
+          done = λ j d. at j d (eqb i j) refl;
+          rest = λ j d. getD-set-other r i j v 0 (λ q. omega arith) ∙ inv .rest j (omega arith);
+        }
+      where
+        here : sort-of text tape v ≡ move-sort σ φ (sort-of text tape (getD first i 0))
+        here = h ∙ ap (λ (s : ℕ). move-sort σ φ (sort-of text tape s)) (inv .rest i (omega arith))
+
+        at : (j : ℕ) → j < i + 1 → (b : Bool) → eqb i j ≡ b → Moves first (set r i v) j
+        at j d true e =
+            let same : i ≡ j = eqb-true i j e in
+            let size = inv .size in
+            rw (← same) (ap (sort-of text tape) (getD-set-same r i v 0 (omega arith)) ∙ here)
+        at j d false e =
+            let other : j ≡ i → ⊥ = λ q. eqb-false i j e (sym q) in
+            ap (sort-of text tape) (getD-set-other r i j v 0 other) ∙ inv .done j (omega arith)
 
   module _ (sorts : List ℕ) (v : ℕ) (nine : length sorts ≡ 9) where
-    pub moving-start : sort-of text tape v ≡ move-sort σ φ (sort-of text tape (getD sorts 8 0)) → Moving sorts (set sorts 8 v) 0
-    moving-start h = record {
-      inside = omega arith;
-      size = length-set sorts 8 v ∙ nine;
-      last = ap (sort-of text tape) (getD-set-same sorts 8 v 0 (omega arith)) ∙ h;
-      done = λ j l. absurd (omega arith);
-    }
+    pub moving-start : Moving (set sorts 8 v) (set sorts 8 v) 0
+    moving-start = record { inside = omega arith; size = length-set sorts 8 v ∙ nine; done = λ j l. absurd (omega arith); rest = λ j l. refl }
 
-    module _ (k n i : ℕ) (r : List ℕ) (few : n ≡ min k 8) (l : i < n) (inv : Moving sorts r i) where
-      pub moving-again : sort-of text tape v ≡ move-sort σ φ (sort-of text tape (getD sorts i 0)) → Moving sorts (set r i v) (i + 1)
-      moving-again h =
-          let size = inv .size in
-          record {
-            inside = omega arith;
-            size = length-set r i v ∙ size;
-            last = ap (sort-of text tape) (getD-set-other r i 8 v 0 (λ q. omega arith)) ∙ inv .last;
-            done = λ j d. at j d (eqb i j) refl;
-          }
+    module _ (h : sort-of text tape v ≡ move-sort σ φ (sort-of text tape (getD sorts 8 0))) (r : List ℕ) (i : ℕ) (inv : Moving (set sorts 8 v) r i) where
+      last-moves : Moves sorts r 8
+      last-moves = ap (sort-of text tape) (inv .rest 8 (inv .inside) ∙ getD-set-same sorts 8 v 0 (omega arith)) ∙ h
+
+      input-moves : (j : ℕ) → j < i → j < 8 → Moves sorts r j
+      input-moves j l d = inv .done j l ∙ ap (λ (s : ℕ). move-sort σ φ (sort-of text tape s)) (getD-set-other sorts 8 j v 0 (λ q. omega arith))
+
+      pub moving-end : (k n : ℕ) → n ≡ min k 8 → n ≤ i → MovedSorts text tape w m k sorts r
+      unfolding type-of move-type
+      moving-end k n e l = record {
+        size = inv .size;
+        type = ap₂ function-type (map-moved k sorts r (inv .size ∙ sym nine) (λ j u d. at j u (ltb j 8) refl d)) last-moves;
+      }
         where
-          at : (j : ℕ) → j < i + 1 → (b : Bool) → eqb i j ≡ b → Moves sorts (set r i v) j
-          at j d true e =
-              let same : i ≡ j = eqb-true i j e in
-              let size = inv .size in
-              rw (← same) (ap (sort-of text tape) (getD-set-same r i v 0 (omega arith)) ∙ h)
-          at j d false e =
-              let other : j ≡ i → ⊥ = λ q. eqb-false i j e (sym q) in
-              ap (sort-of text tape) (getD-set-other r i j v 0 other) ∙ inv .done j (omega arith)
-
-    pub moving-end : (k n i : ℕ) (r : List ℕ) → n ≡ min k 8 → n ≤ i → Moving sorts r i → MovedSorts text tape w m k sorts r
-    unfolding type-of move-type
-    moving-end k n i r e l inv = record {
-      size = inv .size;
-      type = ap₂ function-type (map-moved k sorts r (inv .size ∙ sym nine) (λ j h d. at j h (ltb j 8) refl d)) (inv .last);
-    }
-      where
-        at : (j : ℕ) → j < k → (b : Bool) → ltb j 8 ≡ b → j < length sorts → Moves sorts r j
-        at j h true f d = inv .done j (omega (arith, ltb-true j 8 f))
-        at j h false f d = let q : 8 ≡ j = omega (arith, ltb-false j 8 f) in rw (← q) (inv .last)
+          at : (j : ℕ) → j < k → (b : Bool) → ltb j 8 ≡ b → j < length sorts → Moves sorts r j
+          at j u true f d = input-moves j (omega (arith, ltb-true j 8 f)) (ltb-true j 8 f)
+          at j u false f d = let q : 8 ≡ j = omega (arith, ltb-false j 8 f) in rw (← q) last-moves
 
   -- ---- a row's name
 
@@ -143,6 +149,18 @@ module _ (text tape w : List ℕ) (m : Mode) where
         let f = function-kind (x .kind) (x .sorts) h l in
         rw f ((rw f at e) ∙ function-named (name-of text (x .name)) (type-of text tape (x .kind - 2) (x .sorts)))
 
+    -- the name in a row moved
+    abbrev Standing : Bool → ℕ → Type 0
+    Standing visible r = name-of text r ≡ moved-in text tape w m visible (item-of text tape x) .name
+
+    pub standing-visible : (visible : Bool) (r : ℕ) → visible ≡ true → Named r → Standing visible r
+    unfolding moved-in moved move-item item-of pick
+    standing-visible visible r h e = rw h e
+
+    pub standing-hidden : (visible : Bool) → visible ≡ false → Standing visible (x .name)
+    unfolding moved-in moved-hidden move-hidden-item item-of pick
+    standing-hidden visible h = rw h
+
   -- ---- a row
 
   output-moves : (n : ℕ) (sorts r : List ℕ) → type-of text tape n r ≡ move-type σ φ (type-of text tape n sorts) → Moves sorts r 8
@@ -163,26 +181,22 @@ module _ (text tape w : List ℕ) (m : Mode) where
           let z = eqb-false k 1 f in
           rw (function-kind k r y z, function-kind k sorts y z) (ap function-shape (h .type))
 
-  module _ (x : Row) (s : List ℕ) (h : MovedSorts text tape w m (x .kind - 2) (x .sorts) s) where
-    pub hidden-moves : MovedRow text tape w m false x (record { standing = x .standing; name = x .name; kind = x .kind; origin = x .origin; sorts = s })
-    unfolding moved-in moved-hidden move-hidden-item item-of pick
-    hidden-moves = record { item = rw (shape-moves (x .kind) (x .sorts) s h); standing = refl; origin = refl; size = h .size }
+  module _ (x : Row) (n : ℕ) (s : List ℕ) (h : MovedSorts text tape w m (x .kind - 2) (x .sorts) s) where
+    abbrev under : Row
+    under = record { standing = x .standing; name = n; kind = x .kind; origin = x .origin; sorts = s }
 
-    pub visible-moves : (n : ℕ) → name-of text n ≡ move-name σ φ (name-of text (x .name)) (shape-of text tape (x .kind) (x .sorts))
-        → MovedRow text tape w m true x (record { standing = x .standing; name = n; kind = x .kind; origin = x .origin; sorts = s })
-    unfolding moved-in moved move-item item-of pick
-    visible-moves n e = record { item = rw (shape-moves (x .kind) (x .sorts) s h, e); standing = refl; origin = refl; size = h .size }
+    item-moves : (visible : Bool) → Standing x visible n → item-of text tape under ≡ moved-in text tape w m visible (item-of text tape x)
+    unfolding moved-in moved moved-hidden move-item move-hidden-item item-of pick
+    item-moves true e = rw (shape-moves (x .kind) (x .sorts) s h, e)
+    item-moves false e = rw (shape-moves (x .kind) (x .sorts) s h, e)
+
+    pub row-moves : (visible : Bool) → Standing x visible n → MovedRow text tape w m visible x under
+    row-moves visible e = record { item = item-moves visible e; standing = refl; origin = refl; size = h .size }
 
   -- a mode of kind 0 leaves the row
   pub row-stays : (visible : Bool) (x : Row) → m .kind ≡ 0 → length (x .sorts) ≡ 9 → MovedRow text tape w m visible x x
   row-stays visible x h n = record { item = sym (moved-same text tape w m h visible (item-of text tape x)); standing = refl; origin = refl; size = n }
 
-  pub row-visible : (visible : Bool) (x r : Row) → visible ≡ true → MovedRow text tape w m true x r → MovedRow text tape w m visible x r
-  row-visible visible x r h n = rw h n
+pub ruleset names = (sort-moves, sort-hidden, named-sort, named-variable, named-function, standing-visible, standing-hidden, needs)
 
-  pub row-hidden : (visible : Bool) (x r : Row) → visible ≡ false → MovedRow text tape w m false x r → MovedRow text tape w m visible x r
-  row-hidden visible x r h n = rw h n
-
-pub ruleset names = (sort-moves, sort-hidden, named-sort, named-variable, named-function, needs)
-
-pub ruleset rows = (hidden-moves, visible-moves, row-stays, row-visible, row-hidden, needs)
+pub ruleset rows = (row-moves, row-stays, needs)

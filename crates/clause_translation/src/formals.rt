@@ -8,13 +8,13 @@ use form_rows::rows::read_row;
 use form_rows::sections::same_section;
 use form_sections::Section;
 ghost use mathlib.Core.Path.{_≡_};
-ghost use Prim.Native.Nat.{_≤_};
+ghost use Prim.Native.Nat.{_+_, _*_, _≤_};
 ghost use lib.ListN.{length};
 ghost use Rattle.meaning.specs.Origins.{in-parameter};
 ghost use Rattle.meaning.specs.Clauses.{is-formal-sort};
 ghost use Rattle.text_names.specs.Word.{name-of};
 ghost use Rattle.text_names.specs.Joint.{joint};
-ghost use Rattle.form_rows.specs.Rows.{section-of, item-of, shape-of};
+ghost use Rattle.form_rows.specs.Rows.{section-of, item-of, shape-of, row-at, row-size};
 ghost use Rattle.form.specs.Memory.{part};
 ghost use Rattle.clause_translation.specs.Translation.{mode-formals};
 ghost use Rattle.clause_translation.specs.Moved.{formal-sort, formal-function, is-formal-function};
@@ -60,16 +60,28 @@ pub fn is_formal_sort(library: &[u8], text: &[u8], work: &[u32], t: usize, m: Mo
     false
 }
 
-// Stands `other` in the parameter p, with the row's name and shape?
-fn is_such_function(library: &[u8], text: &[u8], tape: &[u32], p: u32, row: Row, other: Row) -> bool
-    ensures { λ r. ⌜ r ≡ formal-function (name-of (joint (now (library .entry)) (now (text .entry))) p) (name-of (joint (now (library .entry)) (now (text .entry))) (row .name)) (shape-of (joint (now (library .entry)) (now (text .entry))) (now (tape .entry)) (row .kind) (row .sorts)) (item-of (joint (now (library .entry)) (now (text .entry))) (now (tape .entry)) other) ⌝ }
+// Stands row i of the mode's table in its parameter, with the row's name and shape?
+fn is_such_function(
+    library: &[u8],
+    text: &[u8],
+    work: &[u32],
+    t: usize,
+    m: Mode,
+    i: u32,
+    row: Row,
+) -> bool
+    requires { ⌜ t ≤ length (now work) ⌝ }
+    ensures { λ r. ⌜ r ≡ formal-function (name-of (joint (now (library .entry)) (now (text .entry))) (m .parameter)) (name-of (joint (now (library .entry)) (now (text .entry))) (row .name)) (shape-of (joint (now (library .entry)) (now (text .entry))) (part (now (work .entry)) 0 t) (row .kind) (row .sorts)) (item-of (joint (now (library .entry)) (now (text .entry))) (part (now (work .entry)) 0 t) (row-at (now (work .entry)) (m .visible + i * row-size))) ⌝ }
 {
+    let visible = m.visible;
+    let p = m.parameter;
+    let other = read_row(work, visible, i);
     let standing = other.standing;
     if in_parameter(library, text, p, standing) {
         let f = row.name;
         let g = other.name;
         if same_word(library, text, f, g) {
-            return same_shape(library, text, tape, row, other);
+            return same_shape(library, text, &work[0..t], row, other);
         }
     }
     false
@@ -87,13 +99,10 @@ pub fn is_formal_function(
     requires { ⌜ t ≤ length (now work) ⌝ }
     ensures { λ r. ⌜ r ≡ is-formal-function (mode-formals (joint (now (library .entry)) (now (text .entry))) (part (now (work .entry)) 0 t) (now (work .entry)) m) (name-of (joint (now (library .entry)) (now (text .entry))) (row .name)) (shape-of (joint (now (library .entry)) (now (text .entry))) (part (now (work .entry)) 0 t) (row .kind) (row .sorts)) ⌝ }
 {
-    let visible = m.visible;
     let count = m.count;
-    let p = m.parameter;
     let mut i = 0;
     while i < count {
-        let other = read_row(work, visible, i);
-        if is_such_function(library, text, &work[0..t], p, row, other) {
+        if is_such_function(library, text, work, t, m, i, row) {
             return true;
         }
         i += 1;

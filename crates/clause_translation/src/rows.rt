@@ -7,15 +7,14 @@ use clause_pairs::renaming_word;
 use form_rows::Row;
 use form_rows::kinds;
 ghost use mathlib.Core.Path.{_≡_};
-ghost use mathlib.Core.Bool.{true, false};
 ghost use Prim.Native.Nat.{_-_, _≤_, min};
 ghost use lib.ListN.{length};
 ghost use Rattle.meaning.specs.Normal.{move-sort, move-name};
 ghost use Rattle.text_names.specs.Word.{name-of};
 ghost use Rattle.text_names.specs.Joint.{joint};
-ghost use Rattle.form_rows.specs.Rows.{sort-of, shape-of};
+ghost use Rattle.form_rows.specs.Rows.{sort-of, shape-of, item-of};
 ghost use Rattle.form.specs.Memory.{part};
-ghost use Rattle.clause_translation.specs.Translation.{sort-name, function-name};
+ghost use Rattle.clause_translation.specs.Translation.{sort-name, function-name, moved-in};
 ghost use Rattle.clause_translation.specs.Moved.{NewSort, MovedSorts, MovedRow, shape-name};
 
 // The word of a visible sort's new name.
@@ -103,10 +102,10 @@ fn moved_sorts(
 {
     let n = input_count(kind);
     let mut moved = sorts;
-    moved[8] = moved_sort(library, text, work, t, m, sorts[8]);
+    moved[8] = moved_sort(library, text, work, t, m, moved[8]);
     let mut i = 0;
     while i < n {
-        moved[i] = moved_sort(library, text, work, t, m, sorts[i]);
+        moved[i] = moved_sort(library, text, work, t, m, moved[i]);
         i += 1;
     }
     moved
@@ -128,43 +127,23 @@ fn moved_name(library: &[u8], text: &[u8], work: &[u32], t: usize, m: Mode, row:
     new_function_word(library, text, work, t, m, row)
 }
 
-// A hidden item: its sorts are under their new names, and its own name stays.
-pub fn moved_hidden(library: &[u8], text: &[u8], work: &[u32], t: usize, m: Mode, row: Row) -> Row
+// The word of the name that the row stands under: the new one of a visible item, and a hidden item's own.
+fn standing_name(
+    library: &[u8],
+    text: &[u8],
+    work: &[u32],
+    t: usize,
+    m: Mode,
+    visible: bool,
+    row: Row,
+) -> u32
     requires { ⌜ t ≤ length (now work) ⌝ }
-    ensures { λ r. ⌜ MovedRow (joint (now (library .entry)) (now (text .entry))) (part (now (work .entry)) 0 t) (now (work .entry)) m false row r ⌝ }
+    ensures { λ r. ⌜ name-of (joint (now (library .entry)) (now (text .entry))) r ≡ moved-in (joint (now (library .entry)) (now (text .entry))) (part (now (work .entry)) 0 t) (now (work .entry)) m visible (item-of (joint (now (library .entry)) (now (text .entry))) (part (now (work .entry)) 0 t) row) .name ⌝ }
 {
-    let standing = row.standing;
-    let kind = row.kind;
-    let origin = row.origin;
-    let old = row.sorts;
-    let sorts = moved_sorts(library, text, work, t, m, kind, old);
-    Row {
-        standing,
-        name: row.name,
-        kind,
-        origin,
-        sorts,
+    if visible {
+        return moved_name(library, text, work, t, m, row);
     }
-}
-
-// A visible item: its name and its sorts are under their new names.
-pub fn moved_visible(library: &[u8], text: &[u8], work: &[u32], t: usize, m: Mode, row: Row) -> Row
-    requires { ⌜ t ≤ length (now work) ⌝ }
-    ensures { λ r. ⌜ MovedRow (joint (now (library .entry)) (now (text .entry))) (part (now (work .entry)) 0 t) (now (work .entry)) m true row r ⌝ }
-{
-    let standing = row.standing;
-    let kind = row.kind;
-    let origin = row.origin;
-    let old = row.sorts;
-    let name = moved_name(library, text, work, t, m, row);
-    let sorts = moved_sorts(library, text, work, t, m, kind, old);
-    Row {
-        standing,
-        name,
-        kind,
-        origin,
-        sorts,
-    }
+    row.name
 }
 
 // A row of a table of visible items, or of hidden ones.
@@ -180,12 +159,21 @@ pub fn moved_row(
     requires { ⌜ t ≤ length (now work) ⌝ }
     ensures { λ r. ⌜ MovedRow (joint (now (library .entry)) (now (text .entry))) (part (now (work .entry)) 0 t) (now (work .entry)) m visible row r ⌝ }
 {
-    let kind = m.kind;
-    if kind == modes::AS_IS {
+    let mode = m.kind;
+    if mode == modes::AS_IS {
         return row;
     }
-    if visible {
-        return moved_visible(library, text, work, t, m, row);
+    let standing = row.standing;
+    let kind = row.kind;
+    let origin = row.origin;
+    let old = row.sorts;
+    let name = standing_name(library, text, work, t, m, visible, row);
+    let sorts = moved_sorts(library, text, work, t, m, kind, old);
+    Row {
+        standing,
+        name,
+        kind,
+        origin,
+        sorts,
     }
-    moved_hidden(library, text, work, t, m, row)
 }

@@ -193,13 +193,18 @@ pub fn unite_hidden_within(
     ensures { λ r. ⌜ HiddenUnitedWithin (joint (now (library .entry)) (now (text .entry))) t (now (work .entry)) m g f b notes cap r (now (work .exit)) ⌝ }
 {
     let hidden = b.hidden_notes;
-    let h = unite_hidden_items(library, text, work, t, m, g, f, hidden, cap);
+    let more = g.hidden_count;
     let o = Notes {
         visible: notes,
         hidden,
         equation_room: b.equation_room,
         node_room: b.node_room,
     };
+    // This case stands apart for the stack, not for time: joined from two places, equations have no room in the frame that items come in.
+    if more == 0 {
+        return absorb_equations(library, text, work, t, g, o, f);
+    }
+    let h = unite_hidden_items(library, text, work, t, m, g, f, hidden, cap);
     absorb_equations(library, text, work, t, g, o, h)
 }
 

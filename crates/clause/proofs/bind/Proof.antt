@@ -11,7 +11,7 @@ bind-spec =
     (tie.spec
     (λ c κs. search needs)  -- has-parameter-requires
     (λ c κs. search needs)  -- binding-mode-requires
-    (λ c κs. search ends)  -- binding-right-requires
+    (λ c κs. search ends)  -- clause-right-requires
     (λ c. search needs)  -- enum-known-k
     (λ c. search needs)  -- same-length
     (λ c. search ends)  -- returns

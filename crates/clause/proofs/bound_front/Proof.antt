@@ -10,7 +10,7 @@ bound-front-spec =
     tie.close
     (tie.spec
     (λ c κs. search needs)  -- bound-rows-requires
-    (λ c κs. search front)  -- note-formals-requires
+    (λ c κs. search front)  -- formals-noted-requires
     (λ c. search needs)  -- same-length
     (λ c. search front)  -- returns
     )

@@ -9,8 +9,11 @@ pub unite-hidden-within-spec : {M : Type 1} → statement M
 unite-hidden-within-spec =
     tie.close
     (tie.spec
-    (λ c κs. search unions)  -- unite-hidden-items-requires
     (λ c κs. search needs)  -- absorb-equations-requires
     (λ c. search needs)  -- same-length
     (λ c. search unions)  -- returns
+    (λ c κs. search unions)  -- unite-hidden-items-requires
+    (λ c κs. search needs)  -- absorb-equations-requires-2
+    (λ c. search needs)  -- same-length-2
+    (λ c. search unions)  -- returns-2
     )

@@ -7,10 +7,10 @@ pub rename-spec : {M : Type 1} → statement M
 rename-spec =
     tie.close
     (tie.spec
-    (λ c κs. search needs)  -- wrong-renaming-requires
+    (λ c κs. search needs)  -- clause-right-requires
     (λ c. search needs)  -- enum-known-k
     (λ c. search needs)  -- enum-told
-    (λ c κs. search needs)  -- renamed-requires
+    (λ c κs. search cases)  -- renamed-requires
     (λ c. search needs)  -- same-length
     (λ c. search cases)  -- returns
     (λ c. search needs)  -- same-length-2

@@ -12,11 +12,11 @@ use Rattle.clause_translation.proofs.formals.is_formal_function.Stateme
 use Rattle.clause_translation.proofs.formals.is_formal_function.Tie as tie
 
 abbrev Inv-loop : tie.InvT-loop
-Inv-loop library text work t row visible count p i₀ i =
-    Finding (formal-function (name-of (joint library text) p) (name-of (joint library text) (row .name)) (shape-of (joint library text) (part work 0 t) (row .kind) (row .sorts))) (joint library text) (part work 0 t) work visible count i
+Inv-loop library text work t m row count i₀ i =
+    Finding (formal-function (name-of (joint library text) (m .parameter)) (name-of (joint library text) (row .name)) (shape-of (joint library text) (part work 0 t) (row .kind) (row .sorts))) (joint library text) (part work 0 t) work (m .visible) count i
 
 abbrev μ-loop : tie.MeasureT-loop
-μ-loop library text work t row visible count p i₀ i = count - i
+μ-loop library text work t m row count i₀ i = count - i
 
 pub is-formal-function-spec : {M : Type 1} → statement M
 is-formal-function-spec =
@@ -25,13 +25,9 @@ is-formal-function-spec =
     Inv-loop
     μ-loop
     (λ c. search asks)  -- loop-holds
-    (λ c κs. search asks)  -- read-row-requires
-    (λ c. search asks)  -- sub-is-such-function
-    (λ c. search asks)  -- part-is-such-function-start
-    (λ c. search asks)  -- part-is-such-function-end
     (λ c κs. search asks)  -- is-such-function-requires
     (λ c. search asks)  -- returns
-    (λ c. search (asks, c .before .before .before .before .before .before .before .before .before .good .1 .1 .1 .1 .0))  -- add-i
+    (λ c. search asks)  -- add-i
     (λ c. search asks)  -- loop-less
     (λ c. search asks)  -- loop-again
     (λ c. search asks)  -- returns-2

@@ -9,8 +9,12 @@ pub is-such-function-spec : {M : Type 1} → statement M
 is-such-function-spec =
     tie.close
     (tie.spec
+    (λ c κs. search needs)  -- read-row-requires
     (λ c κs. search needs)  -- in-parameter-requires
     (λ c κs. search needs)  -- same-word-requires
+    (λ c. search needs)  -- sub-same-shape
+    (λ c. search needs)  -- part-same-shape-start
+    (λ c. search needs)  -- part-same-shape-end
     (λ c κs. search needs)  -- same-shape-requires
     (λ c. search tests)  -- returns
     (λ c. search tests)  -- returns-2

@@ -10,8 +10,7 @@ moved-row-spec =
     tie.close
     (tie.spec
     (λ c. search rows)  -- returns
-    (λ c κs. search needs)  -- moved-visible-requires
+    (λ c κs. search needs)  -- standing-name-requires
+    (λ c κs. search needs)  -- moved-sorts-requires
     (λ c. search rows)  -- returns-2
-    (λ c κs. search needs)  -- moved-hidden-requires
-    (λ c. search rows)  -- returns-3
     )

@@ -9,10 +9,10 @@ use Rattle.clause_translation.proofs.rows.moved_sorts.Statement.{statem
 use Rattle.clause_translation.proofs.rows.moved_sorts.Tie as tie
 
 abbrev Inv-loop : tie.InvT-loop
-Inv-loop library text work t m kind sorts n moved₀ i₀ moved i = Moving (joint library text) (part work 0 t) work m sorts moved i
+Inv-loop library text work t m kind n moved₀ i₀ moved i = Moving (joint library text) (part work 0 t) work m moved₀ moved i
 
 abbrev μ-loop : tie.MeasureT-loop
-μ-loop library text work t m kind sorts n moved₀ i₀ moved i = n - i
+μ-loop library text work t m kind n moved₀ i₀ moved i = n - i
 
 pub moved-sorts-spec : {M : Type 1} → statement M
 moved-sorts-spec =
