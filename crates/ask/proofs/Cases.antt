@@ -1,6 +1,6 @@
 -- One law for each way through the code: r and v are callees' answers.
 use mathlib.Core.Path.{_≡_, refl, sym, ap, _∙_}
-use mathlib.Core.Bool.{Bool, true, false}
+use mathlib.Core.Bool.{Bool, true, false, _&&_}
 use mathlib.Core.List.{List, []}
 use Prim.Native.Nat.{ℕ, _-_, _^_, _<_, _≤_}
 use native.Mathlib.Omega.{arith}
@@ -19,7 +19,7 @@ use Rattle.answer.specs.declared.Name.{Name}
 use Rattle.answer.specs.Answers.{held}
 use Rattle.memory.proofs.Cases.{same-zeros}
 use Rattle.module_set.specs.ModuleSet.{holds, nothing}
-use Rattle.modules.specs.declared.Heads.{Heads}
+use Rattle.modules.specs.Modules.{Heads}
 use Rattle.ask_decision.specs.Decide as Meaning
 use Rattle.ask_decision.specs.Decide.{Why, why, ask-again, unless-against, decide, deciding}
 use Rattle.ask_objections.specs.declared.Objection.{Objection}
@@ -33,6 +33,7 @@ use Rattle.ask.specs.declared.Decision.{Decision}
 use Rattle.ask.specs.Decided.{nameless-struct, ask-struct, told, Tells, Decided}
 use Rattle.ask.specs.Numbered.{changed-listed}
 use Rattle.ask.specs.Lying.{second-end, second-room, first-refused, second-refused, old-within, new-within, new-fits, old-spoken, new-spoken}
+use Rattle.ask.specs.Lying.{same-spoken, tape-within}
 
 -- ---- the answers
 
@@ -92,6 +93,16 @@ pub word-fits : (n : ℕ) → n < 2 ^ 64 → Fits w64 n
 word-fits n l = record { fits = l }
 
 pub ruleset reading-first = (first-end, first-room, first-refused, first-size, first-short, first-spoken, needs)
+
+-- both texts are the same, where p says whether the libraries are
+module _ (p a : Bool) (e : p ≡ a) where
+  pub first-same : (b r : Bool) → p ≡ true → r ≡ b → r ≡ (a && b)
+  first-same b r q f = rw (sym e ∙ q) f
+
+  pub first-otherwise : (b : Bool) → p ≡ false → false ≡ (a && b)
+  first-otherwise b q = rw (sym e ∙ q) refl
+
+pub ruleset comparing-texts = (first-same, first-otherwise, same-spoken, tape-within, needs)
 
 pub ruleset reading-second = (first-end, second-end, second-room, second-refused, old-within, new-within, new-fits, word-fits, old-spoken, new-spoken, needs)
 

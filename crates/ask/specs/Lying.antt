@@ -1,14 +1,16 @@
 -- Two tapes in one memory: what is read into a part of it, and what that leaves of the rest.
-use mathlib.Core.Path.{_≡_, sym, ap, subst, _∙_}
+use mathlib.Core.Path.{_≡_, sym, ap, subst, subst₂, _∙_}
 use Prim.Native.Nat.{ℕ, _+_, _-_, _^_, _<_, _≤_}
 use native.Mathlib.Omega.{arith}
-use mathlib.Core.Bool.{Bool, true, false}
+use mathlib.Core.Bool.{Bool, true, false, _&&_}
 use mathlib.Core.List.{List, _++_}
 use lib.ListN.{length, take, drop, length-append, length-drop}
 use lib.Seq.{length-take-le, take-take, take-append-le, drop-at}
-use Rattle.meaning.specs.Names.{Name}
+use Rattle.meaning.specs.Names.{Name, same}
 use Rattle.meaning.specs.Numbers.{memory-size}
+use Rattle.meaning.specs.OrderLaws.{same-equal}
 use Rattle.meaning.specs.Texts.{Texts, two-texts, read-texts}
+use Rattle.laws.specs.Decides.{both-true}
 use Rattle.text_names.specs.Joint.{joint}
 use Rattle.form.specs.Memory.{part}
 use Rattle.form_layout.specs.Layout.{tape-end}
@@ -40,6 +42,17 @@ module _ (library text : List ℕ) (q : Both) (read : List ℕ) (e : TwoTexts.To
   unfolding decide of-readings
   second-refused asked x old tape r in-library number place spoken d z =
       rw (spoken .read-so, refused-so library text q read e in-library number place d) (unread-tells r true in-library number place z)
+
+-- the same texts say the same
+pub same-spoken : (library text behind other tape : List ℕ) (q : Bool) → q ≡ (same library behind && same text other) → q ≡ true
+    → Spoken (read-texts (two-texts library text)) (joint library text) tape → Spoken (read-texts (two-texts behind other)) (joint behind other) tape
+same-spoken library text behind other tape q e so =
+    let both = both-true _ _ (sym e ∙ so) in
+    subst₂ (λ (x y : List ℕ). Spoken (read-texts (two-texts x y)) (joint x y) tape) (same-equal library behind (both .0)) (same-equal text other (both .1))
+
+pub tape-within : (w : List ℕ) (t : ℕ) → memory-size ≤ length w → t ≤ tape-end → t ≤ length w
+unfolding memory-size tape-end
+tape-within w t there early = omega (arith, there, early)
 
 module _ (w : List ℕ) (end : ℕ) (there : memory-size ≤ length w) (last : end ≡ tape-end) where
   pub second-end : end + end ≤ length w

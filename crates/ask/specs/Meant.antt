@@ -16,8 +16,7 @@ use Rattle.meaning.specs.Reached.{Placed, reached, module-names, short-or-blank
 use Rattle.ask_decision.specs.Reasons.{absent-before, absent-now}
 use Rattle.ask_decision.specs.Decide as Meaning
 use Rattle.ask_decision.specs.Decide.{Why, why, in-pairs, against, changed, numbers, ask-again, unless-against, to-ask, of-readings, decide}
-use Rattle.modules.specs.declared.Heads.{Heads}
-use Rattle.modules.specs.Modules.{HeadsOf, declared, reached-set}
+use Rattle.modules.specs.Modules.{HeadsOf, declared, reached-set, Heads}
 use Rattle.modules.specs.ModuleLaws.{Spells, heads-number, declared-names}
 use Rattle.modules.specs.Members.{member-found, member-absent}
 use Rattle.modules.specs.ReachedLaws.{chosen}
@@ -129,11 +128,11 @@ module _
         ∙ asked-number asked (declared text tape h)
         ∙ ap (before (same asked)) (declared-names text tape (length tape) (spoken .modules) h (spells x text tape spoken h heads))
 
-    is-there : k < h .count → member asked (module-names (spoken .modules)) ≡ true
-    is-there l = member-found asked (module-names (spoken .modules)) (omega (arith, l, count-so x text tape spoken h heads, number-so))
+    is-there : (count : ℕ) → count ≡ h .count → k < count → member asked (module-names (spoken .modules)) ≡ true
+    is-there count c l = member-found asked (module-names (spoken .modules)) (omega (arith, c, l, count-so x text tape spoken h heads, number-so))
 
-    is-absent : h .count ≤ k → member asked (module-names (spoken .modules)) ≡ false
-    is-absent l = member-absent asked (module-names (spoken .modules)) (omega (arith, l, count-so x text tape spoken h heads, number-so))
+    is-absent : (count : ℕ) → count ≡ h .count → count ≤ k → member asked (module-names (spoken .modules)) ≡ false
+    is-absent count c l = member-absent asked (module-names (spoken .modules)) (omega (arith, c, l, count-so x text tape spoken h heads, number-so))
 
 module _
     (old : Texts) (text tape : List ℕ) (spoken : Spoken (read-texts old) text tape) (h : Heads) (heads : HeadsOf tape (length tape) h)
@@ -151,22 +150,24 @@ module _
     unfolding decide of-readings
     both-read = rw (spoken .read-so, spoken′ .read-so)
 
-    pub before-decided : h .count ≤ k → Tells r (ask-again (why absent-before (short-or-blank asked) [])) → Tells r (decide asked old now)
+    pub before-decided : (count : ℕ) → count ≡ h .count → count ≤ k → Tells r (ask-again (why absent-before (short-or-blank asked) []))
+        → Tells r (decide asked old now)
     unfolding to-ask pick
-    before-decided l t =
+    before-decided count c l t =
         let so : decide asked old now ≡ ask-again (why absent-before (short-or-blank asked) []) =
-        both-read ∙ rw (is-absent (read-texts old) text tape spoken h heads asked k e l) in
+        both-read ∙ rw (is-absent (read-texts old) text tape spoken h heads asked k e count c l) in
         subst (Tells r) (sym so) t
 
-    module _ (l : k < h .count) where
+    module _ (count : ℕ) (c : count ≡ h .count) (l : k < count) where
       there : member asked (module-names ms) ≡ true
-      there = is-there (read-texts old) text tape spoken h heads asked k e l
+      there = is-there (read-texts old) text tape spoken h heads asked k e count c l
 
-      pub now-decided : h′ .count ≤ k′ → Tells r (ask-again (why absent-now (short-or-blank asked) [])) → Tells r (decide asked old now)
+      pub now-decided : (count′ : ℕ) → count′ ≡ h′ .count → count′ ≤ k′ → Tells r (ask-again (why absent-now (short-or-blank asked) []))
+          → Tells r (decide asked old now)
       unfolding to-ask pick
-      now-decided l′ t =
+      now-decided count′ c′ l′ t =
           let so : decide asked old now ≡ ask-again (why absent-now (short-or-blank asked) []) =
-          both-read ∙ rw (there, is-absent (read-texts now) other new spoken′ h′ heads′ asked k′ e′ l′) in
+          both-read ∙ rw (there, is-absent (read-texts now) other new spoken′ h′ heads′ asked k′ e′ count′ c′ l′) in
           subst (Tells r) (sym so) t
 
       abbrev walked : Meaning.Decision
@@ -174,12 +175,12 @@ module _
           unless-against (against-at text tape h other new h′ asked (reached-set text tape h k) (reached-set other new h′ k′))
           (changed-at text tape h other new h′ (reached-set text tape h k) (reached-set other new h′ k′))
 
-      pub reached-decided : k′ < h′ .count → Tells r walked → Tells r (decide asked old now)
+      pub reached-decided : (count′ : ℕ) → count′ ≡ h′ .count → k′ < count′ → Tells r walked → Tells r (decide asked old now)
       unfolding to-ask pick
-      reached-decided l′ t =
+      reached-decided count′ c′ l′ t =
           let x = read-texts old in
           let x′ = read-texts now in
           let so = walk-meant text tape (length tape) ms h (spells x text tape spoken h heads) (spoken .fresh)
           other new (length new) ms′ h′ (spells x′ other new spoken′ h′ heads′) (spoken′ .fresh)
           asked k k′ (number-so x text tape spoken h heads asked k e) (number-so x′ other new spoken′ h′ heads′ asked k′ e′) in
-          subst (Tells r) (so ∙ sym (both-read ∙ rw (there, is-there x′ other new spoken′ h′ heads′ asked k′ e′ l′))) t
+          subst (Tells r) (so ∙ sym (both-read ∙ rw (there, is-there x′ other new spoken′ h′ heads′ asked k′ e′ count′ c′ l′))) t

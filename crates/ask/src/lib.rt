@@ -1,6 +1,6 @@
 // Whether a stored visible part of a module may be kept: from the old specification and the new one, each of two texts. Both are read into the lent
-// working memory, each onto a tape of its own, and the modules that the asked one reaches are compared in pairs (`ask_walk`). A module's name by its
-// number (`ask_names`) is handed on.
+// working memory, each onto a tape of its own, or onto one where the texts are the same, and the modules that the asked one reaches are compared in
+// pairs (`ask_walk`). A module's name by its number (`ask_names`) is handed on.
 use answer::Name;
 use answer::blank;
 use answer::name_in;
@@ -17,14 +17,18 @@ use memory::memory_size;
 use module_heads::find_heads;
 use modules::Heads;
 use modules::find_asked;
+use modules::module_count;
 use modules::reached;
 use read_both::Both;
 use read_both::read_both;
+use text_names::same_bytes;
 ghost use mathlib.Core.Path.{_≡_};
+ghost use mathlib.Core.Bool.{_&&_};
 ghost use mathlib.Core.List.{[]};
 ghost use Prim.Native.Nat.{_≤_};
 ghost use lib.ListN.{length};
 ghost use Rattle.meaning.specs.Numbers.{memory-size};
+ghost use Rattle.meaning.specs.Names.{same};
 ghost use Rattle.meaning.specs.Texts.{two-texts, read-texts};
 ghost use Rattle.meaning.specs.Reached.{short-or-blank};
 ghost use Rattle.text_names.specs.Joint.{joint};
@@ -33,7 +37,7 @@ ghost use Rattle.ask_decision.specs.Decide.{why, ask-again, unless-against, dec
 ghost use Rattle.module_set.specs.ModuleSet.{holds};
 ghost use Rattle.form_layout.specs.Layout.{tape-end};
 ghost use Rattle.form.specs.Memory.{part};
-ghost use Rattle.modules.specs.Modules.{reached-set};
+ghost use Rattle.modules.specs.Modules.{reached-set, heads-in};
 ghost use Rattle.ask_objections.specs.Objections.{why-of};
 ghost use Rattle.ask_walk.specs.Walk.{against-at, changed-at};
 ghost use Rattle.ask_names.specs.Steps.{Spoken};
@@ -129,16 +133,16 @@ fn decide_sets(
     library: &[u8],
     text: &[u8],
     tape: &[u32],
-    h: Heads,
+    h: &Heads,
     behind: &[u8],
     other: &[u8],
     more: &[u32],
-    g: Heads,
+    g: &Heads,
     set: u64,
     new_set: u64,
 ) -> Decision
-    requires { ⌜ g .count ≤ 64 ⌝ }
-    ensures { λ r. ⌜ Tells r (unless-against (against-at (joint (now (library .entry)) (now (text .entry))) (now (tape .entry)) h (joint (now (behind .entry)) (now (other .entry))) (now (more .entry)) g (now (asked .entry)) (holds set) (holds «new_set»)) (changed-at (joint (now (library .entry)) (now (text .entry))) (now (tape .entry)) h (joint (now (behind .entry)) (now (other .entry))) (now (more .entry)) g (holds set) (holds «new_set»))) ⌝ }
+    requires { ⌜ (heads-in (now g)) .count ≤ 64 ⌝ }
+    ensures { λ r. ⌜ Tells r (unless-against (against-at (joint (now (library .entry)) (now (text .entry))) (now (tape .entry)) (heads-in (now (h .entry))) (joint (now (behind .entry)) (now (other .entry))) (now (more .entry)) (heads-in (now (g .entry))) (now (asked .entry)) (holds set) (holds «new_set»)) (changed-at (joint (now (library .entry)) (now (text .entry))) (now (tape .entry)) (heads-in (now (h .entry))) (joint (now (behind .entry)) (now (other .entry))) (now (more .entry)) (heads-in (now (g .entry))) (holds set) (holds «new_set»))) ⌝ }
 {
     match against(
         asked,
@@ -167,16 +171,16 @@ fn decide_reached(
     library: &[u8],
     text: &[u8],
     tape: &[u32],
-    h: Heads,
+    h: &Heads,
     behind: &[u8],
     other: &[u8],
     more: &[u32],
-    g: Heads,
+    g: &Heads,
     k: u32,
     new_k: u32,
 ) -> Decision
-    requires { ⌜ g .count ≤ 64 ⌝ }
-    ensures { λ r. ⌜ Tells r (unless-against (against-at (joint (now (library .entry)) (now (text .entry))) (now (tape .entry)) h (joint (now (behind .entry)) (now (other .entry))) (now (more .entry)) g (now (asked .entry)) (reached-set (joint (now (library .entry)) (now (text .entry))) (now (tape .entry)) h k) (reached-set (joint (now (behind .entry)) (now (other .entry))) (now (more .entry)) g «new_k»)) (changed-at (joint (now (library .entry)) (now (text .entry))) (now (tape .entry)) h (joint (now (behind .entry)) (now (other .entry))) (now (more .entry)) g (reached-set (joint (now (library .entry)) (now (text .entry))) (now (tape .entry)) h k) (reached-set (joint (now (behind .entry)) (now (other .entry))) (now (more .entry)) g «new_k»))) ⌝ }
+    requires { ⌜ (heads-in (now g)) .count ≤ 64 ⌝ }
+    ensures { λ r. ⌜ Tells r (unless-against (against-at (joint (now (library .entry)) (now (text .entry))) (now (tape .entry)) (heads-in (now (h .entry))) (joint (now (behind .entry)) (now (other .entry))) (now (more .entry)) (heads-in (now (g .entry))) (now (asked .entry)) (reached-set (joint (now (library .entry)) (now (text .entry))) (now (tape .entry)) (heads-in (now (h .entry))) k) (reached-set (joint (now (behind .entry)) (now (other .entry))) (now (more .entry)) (heads-in (now (g .entry))) «new_k»)) (changed-at (joint (now (library .entry)) (now (text .entry))) (now (tape .entry)) (heads-in (now (h .entry))) (joint (now (behind .entry)) (now (other .entry))) (now (more .entry)) (heads-in (now (g .entry))) (reached-set (joint (now (library .entry)) (now (text .entry))) (now (tape .entry)) (heads-in (now (h .entry))) k) (reached-set (joint (now (behind .entry)) (now (other .entry))) (now (more .entry)) (heads-in (now (g .entry))) «new_k»))) ⌝ }
 {
     let set = reached(library, text, tape, h, k);
     let new_set = reached(behind, other, more, g, new_k);
@@ -209,12 +213,14 @@ fn decide_read(
     requires { ⌜ Spoken (read-texts (two-texts (now behind) (now other))) (joint (now behind) (now other)) (now more) ⌝ }
     ensures { λ r. ⌜ Tells r (Meaning.decide (now (asked .entry)) (two-texts (now (library .entry)) (now (text .entry))) (two-texts (now (behind .entry)) (now (other .entry)))) ⌝ }
 {
-    let h = find_heads(tape, tape.len() as u32);
-    let g = find_heads(more, more.len() as u32);
-    let k = find_asked(library, text, tape, h, asked);
-    let new_k = find_asked(behind, other, more, g, asked);
-    let count = h.count;
-    let new_count = g.count;
+    let mut h = [0; 66];
+    let mut g = [0; 66];
+    find_heads(tape, tape.len() as u32, &mut h);
+    find_heads(more, more.len() as u32, &mut g);
+    let k = find_asked(library, text, tape, &h, asked);
+    let new_k = find_asked(behind, other, more, &g, asked);
+    let count = module_count(&h);
+    let new_count = module_count(&g);
     if count <= k {
         return absent(asked, reasons::ABSENT_BEFORE);
     }
@@ -226,17 +232,17 @@ fn decide_read(
         library,
         text,
         tape,
-        h,
+        &h,
         behind,
         other,
         more,
-        g,
+        &g,
         k,
         new_k,
     )
 }
 
-// The decision where the old specification lies on the first t words of the memory.
+// The decision where the old specification lies on the first t words of the memory, and the new one is read behind it.
 fn decide_behind(
     asked: &[u8],
     library: &[u8],
@@ -270,6 +276,46 @@ fn decide_behind(
     }
 }
 
+// Are the texts of the new specification those of the old one?
+fn same_texts(library: &[u8], text: &[u8], behind: &[u8], other: &[u8]) -> bool
+    ensures { λ r. ⌜ r ≡ (same (now (library .entry)) (now (behind .entry)) && same (now (text .entry)) (now (other .entry))) ⌝ }
+{
+    if same_bytes(library, behind) {
+        return same_bytes(text, other);
+    }
+    false
+}
+
+// The decision from the old specification, which lies on the first t words of the memory. A new one of the same texts has the same tape and is not read:
+// so `decide_read` has two callers, and what it takes on the stack is not there while a text is read.
+fn decide_from(
+    asked: &[u8],
+    library: &[u8],
+    text: &[u8],
+    behind: &[u8],
+    other: &[u8],
+    work: &mut [u32],
+    t: usize,
+) -> Decision
+    requires { ⌜ memory-size ≤ length (now work) ⌝ }
+    requires { ⌜ t ≤ tape-end ⌝ }
+    requires { ⌜ Spoken (read-texts (two-texts (now library) (now text))) (joint (now library) (now text)) (part (now work) 0 t) ⌝ }
+    ensures { λ r. ⌜ Tells r (Meaning.decide (now (asked .entry)) (two-texts (now (library .entry)) (now (text .entry))) (two-texts (now (behind .entry)) (now (other .entry)))) ⌝ }
+{
+    if same_texts(library, text, behind, other) {
+        return decide_read(
+            asked,
+            library,
+            text,
+            &work[0..t],
+            behind,
+            other,
+            &work[0..t],
+        );
+    }
+    decide_behind(asked, library, text, behind, other, work, t)
+}
+
 // The decision where there is enough working memory.
 fn decide_texts(
     asked: &[u8],
@@ -289,7 +335,7 @@ fn decide_texts(
             number,
             place,
         } => nameless(2, 0, false, in_library, number, place),
-        Both::Done(t) => decide_behind(asked, library, text, behind, other, work, t),
+        Both::Done(t) => decide_from(asked, library, text, behind, other, work, t),
     }
 }
 

@@ -14,19 +14,28 @@ decide-read-spec =
     (λ c κs. search needs)  -- find-heads-requires-2
     (λ c κs. search needs)  -- find-asked-requires
     (λ c κs. search needs)  -- find-asked-requires-2
+    (λ c κs. search needs)  -- module-count-requires
+    (λ c κs. search needs)  -- module-count-requires-2
     (λ c κs. search needs)  -- absent-requires
     (λ c.
-    let found = c .before .before in
-    let first = found .before .before .before .before .before .before .before .before .before .before .before in
-    search (before-decided, c .absent .ensures, c .before .if1 .taken, found .find-asked2 .ensures, found .before .find-asked .ensures, found .before .before .find-heads2 .ensures, found .before .before .before .find-heads .ensures, first .pre .0, first .pre .1, needs))  -- returns
+    let counted = c .before .before in
+    let found = counted .before .before .before .before in
+    let heads = found .before .before .before .before in
+    let first = heads .before .before .before .before .before .before .before .before .before .before .before in
+    search (before-decided, c .absent .ensures, c .before .if1 .taken, counted .before .before .module-count .ensures, found .find-asked2 .ensures, found .before .before .find-asked .ensures, heads .find-heads2 .ensures, heads .before .before .find-heads .ensures, first .pre .0, first .pre .1, needs))  -- returns
     (λ c κs. search needs)  -- absent-requires-2
     (λ c.
-    let found = c .before .before .before in
-    let first = found .before .before .before .before .before .before .before .before .before .before .before in
-    search (now-decided, c .absent2 .ensures, c .before .if2 .taken, c .before .before .if1 .left, found .find-asked2 .ensures, found .before .find-asked .ensures, found .before .before .find-heads2 .ensures, found .before .before .before .find-heads .ensures, first .pre .0, first .pre .1, needs))  -- returns-2
+    let counted = c .before .before .before in
+    let found = counted .before .before .before .before in
+    let heads = found .before .before .before .before in
+    let first = heads .before .before .before .before .before .before .before .before .before .before .before in
+    search (now-decided, c .absent2 .ensures, c .before .if2 .taken, c .before .before .if1 .left, counted .before .before .module-count .ensures, counted .module-count2 .ensures, found .find-asked2 .ensures, found .before .before .find-asked .ensures, heads .find-heads2 .ensures, heads .before .before .find-heads .ensures, first .pre .0, first .pre .1, needs))  -- returns-2
     (λ c κs. search needs)  -- decide-reached-requires
     (λ c.
-    let found = c .before .before .before in
-    let first = found .before .before .before .before .before .before .before .before .before .before .before in
-    search (reached-decided, c .decide-reached .ensures, c .before .if2 .left, c .before .before .if1 .left, found .find-asked2 .ensures, found .before .find-asked .ensures, found .before .before .find-heads2 .ensures, found .before .before .before .find-heads .ensures, first .pre .0, first .pre .1, needs))  -- returns-3
+    let tested = c .before .before .before in
+    let counted = tested .before .before in
+    let found = counted .before .before .before .before in
+    let heads = found .before .before .before .before in
+    let first = heads .before .before .before .before .before .before .before .before .before .before .before in
+    search (reached-decided, c .decide-reached .ensures, tested .if2 .left, tested .before .if1 .left, counted .before .before .module-count .ensures, counted .module-count2 .ensures, found .find-asked2 .ensures, found .before .before .find-asked .ensures, heads .find-heads2 .ensures, heads .before .before .find-heads .ensures, first .pre .0, first .pre .1, needs))  -- returns-3
     )

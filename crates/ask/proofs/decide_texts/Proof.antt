@@ -17,7 +17,7 @@ decide-texts-spec =
     (λ c. search needs)  -- enum-known-in-library
     (λ c κs. search needs)  -- nameless-requires
     (λ c. search needs)  -- enum-known-t
-    (λ c κs. search reading-first)  -- decide-behind-requires
+    (λ c κs. search reading-first)  -- decide-from-requires
     (λ c. search needs)  -- same-length
     (λ c. search reading-first)  -- returns
     (λ c. search needs)  -- same-length-2
