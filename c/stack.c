@@ -30,7 +30,7 @@ struct bytes {
 
 /* What is asked; it is framed within one file's bytes. */
 static uint8_t file[4 * ASF_TEXT_BYTES];
-static struct bytes name, library, text;
+static struct bytes name, library, text, edited;
 
 /* What a call is lent, and what it has left. */
 static uint32_t work[ASF_MEMORY_WORDS];
@@ -68,11 +68,11 @@ NOTING call_visible(void) {
     told_length = asf_visible(out, values[ASF_LISTING_LENGTH]);
 }
 
-/* From a specification to itself, so that all of it is compared. */
+/* From a specification to itself, and to itself with a line feed behind it, which is read again: all of it is compared. */
 NOTING call_decide(void) {
     caller = __builtin_frame_address(0);
     number = asf_decide(name.start, name.length, library.start, library.length, text.start, text.length, library.start, library.length,
-                        text.start, text.length, work, ASF_MEMORY_WORDS, decision, ASF_DECISION_VALUES, names, ASF_DECISION_NAMES);
+                        edited.start, edited.length, work, ASF_MEMORY_WORDS, decision, ASF_DECISION_VALUES, names, ASF_DECISION_NAMES);
 }
 
 NOTING call_module_name(void) {
@@ -194,12 +194,16 @@ static void read_input(const char *path) {
     size_t length = fread(file, 1, sizeof file, from);
     fclose(from);
     if (length == sizeof file) stop("too long: ", path);
+    file[length] = '\n';
     frame_input(length);
 }
 
 static void measure_input(const char *path) {
     read_input(path);
     tell("asf_fetch", call_fetch, path);
+    edited = text;
+    tell("asf_decide", call_decide, path);
+    edited.length++;
     tell("asf_decide", call_decide, path);
     tell("asf_module_name", call_module_name, path);
     tell("asf_normalise", call_normalise, path);

@@ -8,9 +8,11 @@ pub fn deep_loads() -> Vec<Load> {
     vec![
         load("deep terms", "Top", deep_terms()),
         load("deep operators", "Top", deep_operators()),
+        load("deep operands", "Top", deep_operands()),
         load("deep imports", "Top", deep_imports()),
         divided("deep terms, divided", "Top", deep_terms()),
         divided("deep operators, divided", "Top", deep_operators()),
+        divided("deep operands, divided", "Top", deep_operands()),
         divided("deep imports, divided", "Top", deep_imports()),
     ]
 }
@@ -56,13 +58,22 @@ fn deep_term(function: &str, arguments: usize) -> String {
     format!("{}x{}", open.repeat(15), ")".repeat(15))
 }
 
-/// Terms by operators, deeper as trees than brackets alone may go. They come to the last module under two names, as above.
+/// Terms by operators, deeper as trees than brackets alone may go.
 fn deep_operators() -> String {
+    by_operators(&deep_row(62), &deep_row(46))
+}
+
+/// Second operands in 15 brackets, and one more inside the last: what is typed by functions that call themselves is as deep as it may be.
+fn deep_operands() -> String {
+    let nested = format!("{}x+x{}=x", "x+(".repeat(15), ")".repeat(15));
+    by_operators(&nested, &nested)
+}
+
+/// Two equations, one as a condition. They come to the last module under two names, as above.
+fn by_operators(conclusion: &str, condition: &str) -> String {
     let equations = format!(
-        "variables x: -> A equations [d] {} [e] x=x when {}{}",
-        deep_row(62),
-        "x=x,".repeat(7),
-        deep_row(46)
+        "variables x: -> A equations [d] {conclusion} [e] x=x when {}{condition}",
+        "x=x,".repeat(7)
     );
     let exported = "sorts A functions _+_: A#A->A -_: A->A";
     let deep = format!("module Deep begin exports begin {exported} end {equations} end Deep");

@@ -18,7 +18,7 @@ pub fn table(times: usize, command: &[String]) -> io::Result<()> {
 }
 
 /// The least time of so many decisions, beside that of as many calls, for every load that is accepted. The specification is the same before and
-/// now, so that all of it is compared.
+/// now but for a line feed behind it, so that it is read again and all of it is compared.
 pub fn decisions(times: usize, command: &[String]) -> io::Result<()> {
     println!("| Text | Bytes | A call, ms | A decision, ms | Ratio |");
     println!("|---|---|---|---|---|");
@@ -29,7 +29,12 @@ pub fn decisions(times: usize, command: &[String]) -> io::Result<()> {
             continue;
         }
         let call = driver.time(asked, texts, OUTPUT_BYTES, times)?;
-        let decision = driver.time_decision(asked, texts, texts, times)?;
+        let edited = [texts.customer, b"\n"].concat();
+        let now = Texts {
+            customer: &edited,
+            ..texts
+        };
+        let decision = driver.time_decision(asked, texts, now, times)?;
         let (call, decision) = (call.least as f64 / 1e6, decision.least as f64 / 1e6);
         println!(
             "| {} | {} | {call:.3} | {decision:.3} | {:.2} |",
