@@ -7,6 +7,7 @@ use values_c::put_three;
 use values_c::put_value;
 ghost use mathlib.Core.Path.{_≡_};
 ghost use Rattle.values_c.specs.Values.{laid};
+ghost use Rattle.list_pen.specs.Pen.{pen, written};
 ghost use Rattle.answer_values.specs.Laid.{answer-values, names-laid};
 
 // The values of an answer.
@@ -25,15 +26,20 @@ pub fn put_answer(values: &mut [usize], r: Answer)
     put_value(values, 7, actual.length);
 }
 
+// The 42 bytes of a name from `at` on; the place behind them. Apart, so that one name at a time is copied.
+fn put_bytes(names: &mut [u8], at: usize, limit: usize, name: Name) -> usize
+    ensures { λ r. ⌜ pen r (now (names .exit)) ≡ written limit (name .bytes) (pen at (now (names .entry))) ⌝ }
+{
+    let bytes = name.bytes;
+    put_text(names, at, limit, &bytes)
+}
+
 // The names of an answer, each in 42 bytes.
 pub fn put_names(names: &mut [u8], evaluating: Name, culprit: Name, actual: Name)
     ensures { λ _. ⌜ now (names .exit) ≡ names-laid evaluating culprit actual (now (names .entry)) ⌝ }
 {
     let limit = names.len() + 1;
-    let first = evaluating.bytes;
-    let second = culprit.bytes;
-    let third = actual.bytes;
-    let a = put_text(names, 0, limit, &first);
-    let b = put_text(names, a, limit, &second);
-    put_text(names, b, limit, &third);
+    let a = put_bytes(names, 0, limit, evaluating);
+    let b = put_bytes(names, a, limit, culprit);
+    put_bytes(names, b, limit, actual);
 }

@@ -9,12 +9,9 @@ put-names-spec =
     tie.close
     (tie.spec
     (λ c. search needs)  -- add-limit
-    (λ c. search needs)  -- slice-aggregate-put-text
-    (λ c κs. search needs)  -- put-text-requires
-    (λ c. search needs)  -- slice-aggregate-put-text-2
-    (λ c κs. search needs)  -- put-text-requires-2
-    (λ c. search needs)  -- slice-aggregate-put-text-3
-    (λ c κs. search needs)  -- put-text-requires-3
+    (λ c κs. search needs)  -- put-bytes-requires
+    (λ c κs. search needs)  -- put-bytes-requires-2
+    (λ c κs. search needs)  -- put-bytes-requires-3
     (λ c. search needs)  -- same-length
     (λ c. search cases)  -- returns
     )
