@@ -24,9 +24,11 @@ use Rattle.form.specs.Forms.{items-at, equation-row-at, equation-size}
 use Rattle.form_order.specs.Ordered.{row-item}
 use Rattle.list_order.specs.declared.Table.{Table}
 use Rattle.list_order.specs.declared.Table.the-variants.{Visible, Sorts, Hidden, Equations}
+use Rattle.list_order.specs.declared.comparing.Order.{Order}
+use Rattle.list_order.specs.declared.comparing.Order.the-variants as order
 use Rattle.list_terms.specs.Terms.{equation-at}
 use Rattle.list_texts.specs.Parts.{line-size}
-use Rattle.list_order.specs.Orders.{standing-word, kind-rank, by-name-then-type, by-kind-then-name, by-origin-then-type, row-place, by-position-then-line, Small, row-order}
+use Rattle.list_order.specs.Orders.{standing-word, kind-rank, by-name-then-type, by-kind-then-name, by-origin-then-type, row-place, by-position-then-line, Countable, item-order, Small, row-order}
 use Rattle.text_names.proofs.Compared.{bytes-told}
 
 -- ---- by one thing, then by another
@@ -211,19 +213,26 @@ module _ (text w : List ℕ) (v n : ℕ) (a b : EquationRow) where
 
 -- ---- rows of a table
 
-module _ (text tape w : List ℕ) (base i j : ℕ) (a b : Row) (ea : a ≡ row-at w (base + i * row-size)) (eb : b ≡ row-at w (base + j * row-size)) where
-  pub visible-read : (r : Bool) → r ≡ visible-order (item-of text tape a) (item-of text tape b)
-      → r ≡ visible-order (row-item text tape w base i) (row-item text tape w base j)
-  visible-read r e = rw (ea, eb) at e
+module _ (by : Order) where
+  pub hidden-countable : (s n : ℕ) → Countable by → by ≡ order.Hidden s n → n < 2 ^ 31
+  hidden-countable s n h e = rw e at h
 
-  pub sorts-read : (c : ℕ) → c ≡ bytes-compared (origin-text (origin-of text tape (a .origin))) (origin-text (origin-of text tape (b .origin)))
-      → ltb c 2 ≡ bytes-not-after (origin-text (row-item text tape w base i .origin)) (origin-text (row-item text tape w base j .origin))
-  unfolding item-of
-  sorts-read c e = rw (← ea, ← eb) (bytes-told _ _ c e)
+  module _ (text tape w : List ℕ) (base i j : ℕ) (a b : Row) (ea : a ≡ row-at w (base + i * row-size)) (eb : b ≡ row-at w (base + j * row-size)) where
+    pub visible-read : (r : Bool) → by ≡ order.Visible → r ≡ visible-order (item-of text tape a) (item-of text tape b)
+        → r ≡ item-order text tape w by (row-item text tape w base i) (row-item text tape w base j)
+    unfolding item-order
+    visible-read r k e = rw (k, ← ea, ← eb) e
 
-  pub hidden-read : (sorts : List Item) (r : Bool) → r ≡ hidden-order sorts (item-of text tape a) (item-of text tape b)
-      → r ≡ hidden-order sorts (row-item text tape w base i) (row-item text tape w base j)
-  hidden-read sorts r e = rw (ea, eb) at e
+    pub sorts-read : (c : ℕ) → by ≡ order.Sorts
+        → c ≡ bytes-compared (origin-text (origin-of text tape (a .origin))) (origin-text (origin-of text tape (b .origin)))
+        → ltb c 2 ≡ item-order text tape w by (row-item text tape w base i) (row-item text tape w base j)
+    unfolding item-of item-order
+    sorts-read c k e = rw (k, ← ea, ← eb) (bytes-told _ _ c e)
+
+    pub hidden-read : (s n : ℕ) (r : Bool) → by ≡ order.Hidden s n → r ≡ hidden-order (items-at text tape w s n) (item-of text tape a) (item-of text tape b)
+        → r ≡ item-order text tape w by (row-item text tape w base i) (row-item text tape w base j)
+    unfolding item-order
+    hidden-read s n r k e = rw (k, ← ea, ← eb) e
 
 pub equations-read : (text w : List ℕ) (v n base i j : ℕ) (a b : EquationRow) → a ≡ equation-row-at w (base + i * equation-size)
     → b ≡ equation-row-at w (base + j * equation-size)
@@ -239,18 +248,19 @@ module _ (table : Table) where
   hidden-small b s n h e = rw e at h
 
   module _ (text tape w : List ℕ) (i j : ℕ) (r : Bool) where
-    pub of-visible : (b : ℕ) → table ≡ Visible b → r ≡ visible-order (row-item text tape w b i) (row-item text tape w b j) → r ≡ row-order text tape w table i j
-    unfolding row-order
+    pub of-visible : (b : ℕ) → table ≡ Visible b → r ≡ item-order text tape w order.Visible (row-item text tape w b i) (row-item text tape w b j)
+        → r ≡ row-order text tape w table i j
+    unfolding row-order item-order
     of-visible b e h = rw e h
 
-    pub of-sorts : (b : ℕ) → table ≡ Sorts b → r ≡ bytes-not-after (origin-text (row-item text tape w b i .origin)) (origin-text (row-item text tape w b j .origin))
+    pub of-sorts : (b : ℕ) → table ≡ Sorts b → r ≡ item-order text tape w order.Sorts (row-item text tape w b i) (row-item text tape w b j)
         → r ≡ row-order text tape w table i j
-    unfolding row-order
+    unfolding row-order item-order
     of-sorts b e h = rw e h
 
-    pub of-hidden : (b s n : ℕ) → table ≡ Hidden b s n → r ≡ hidden-order (items-at text tape w s n) (row-item text tape w b i) (row-item text tape w b j)
+    pub of-hidden : (b s n : ℕ) → table ≡ Hidden b s n → r ≡ item-order text tape w (order.Hidden s n) (row-item text tape w b i) (row-item text tape w b j)
         → r ≡ row-order text tape w table i j
-    unfolding row-order
+    unfolding row-order item-order
     of-hidden b s n e h = rw e h
 
     pub of-equations : (v b n : ℕ) → table ≡ Equations v b n
@@ -265,6 +275,6 @@ pub ruleset levels = (names-level, kinds-level, standing-level, origins-level, h
 
 pub ruleset decisions = (names-decided, kinds-decided, standing-decided, origins-decided, hidden-decided, positions-decided, homes-decided)
 
-pub ruleset readings = (visible-read, sorts-read, hidden-read, equations-read, hidden-small, of-visible, of-sorts, of-hidden, of-equations)
+pub ruleset readings = (hidden-countable, visible-read, sorts-read, hidden-read, equations-read, hidden-small, of-visible, of-sorts, of-hidden, of-equations)
 
 pub ruleset cases = (words, levels, decisions, readings, needs)

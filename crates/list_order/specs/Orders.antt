@@ -20,6 +20,8 @@ use Rattle.list_terms.specs.Terms.{equation-at}
 use Rattle.list_texts.specs.Parts.{line-size}
 use Rattle.list_order.specs.declared.Table.{Table}
 use Rattle.list_order.specs.declared.Table.the-variants.{Visible, Sorts, Hidden, Equations}
+use Rattle.list_order.specs.declared.comparing.Order.{Order}
+use Rattle.list_order.specs.declared.comparing.Order.the-variants as order
 
 -- ---- items
 
@@ -43,6 +45,11 @@ by-kind-then-name a b =
 unfoldable pub by-origin-then-type : List Item → Item → Item → Bool
 by-origin-then-type sorts a b = by-two bytes-not-after (λ (i : Item). origin-text (i .origin)) (λ (i : Item). shape-text sorts (i .shape)) a b
 
+unfoldable pub item-order : List ℕ → List ℕ → List ℕ → Order → Item → Item → Bool
+item-order text tape w order.Visible a b = visible-order a b
+item-order text tape w order.Sorts a b = bytes-not-after (origin-text (a .origin)) (origin-text (b .origin))
+item-order text tape w (order.Hidden s n) a b = hidden-order (items-at text tape w s n) a b
+
 -- ---- equations
 
 unfoldable pub row-place : List ℕ → List ℕ → ℕ → ℕ → EquationRow → Place
@@ -58,6 +65,11 @@ by-position-then-line a b = pick (eqb (a .position) (b .position)) (bytes-not-af
 -- ---- rows of a table
 
 -- the number of hidden sorts is a number of rows
+abbrev pub Countable : Order → Type 0
+Countable order.Visible = Unit {0}
+Countable order.Sorts = Unit {0}
+Countable (order.Hidden s n) = n < 2 ^ 31
+
 abbrev pub Small : Table → Type 0
 Small (Visible b) = Unit {0}
 Small (Sorts b) = Unit {0}

@@ -12,14 +12,21 @@ use list_texts::type_not_after;
 use text_names::joint::compare;
 ghost use mathlib.Core.Path.{_≡_};
 ghost use Prim.Native.Nat.{_+_, _*_, _^_, _<_};
-ghost use Rattle.meaning.specs.Names.{bytes-not-after};
-ghost use Rattle.meaning.specs.Written.{origin-text, visible-order, hidden-order};
+ghost use Rattle.meaning.specs.Written.{visible-order, hidden-order};
 ghost use Rattle.meaning.specs.ListingOrder.{place-order};
 ghost use Rattle.text_names.specs.Joint.{joint};
-ghost use Rattle.form_rows.specs.Rows.{origin-of, item-of};
+ghost use Rattle.form_rows.specs.Rows.{item-of};
 ghost use Rattle.form.specs.Forms.{items-at, equation-row-at, equation-size};
 ghost use Rattle.form_order.specs.Ordered.{row-item};
-ghost use Rattle.list_order.specs.Orders.{standing-word, kind-rank, by-name-then-type, by-kind-then-name, by-origin-then-type, row-place, by-position-then-line, Small, row-order};
+ghost use Rattle.list_order.specs.Orders.{standing-word, kind-rank, by-name-then-type, by-kind-then-name, by-origin-then-type, row-place, by-position-then-line, Countable, item-order, Small, row-order};
+
+// By which order the rows of items are compared: as visible ones; hidden sorts, by their origins alone; hidden items, in whose types the hidden
+// sorts in order are `count` rows from `sorts` on.
+pub enum Order {
+    Visible,
+    Sorts,
+    Hidden { sorts: u32, count: u32 },
+}
 
 // The word of the name by which a section is ordered: a parameter's own, and the blank one for the others.
 fn standing_word(s: Section) -> u32
@@ -175,58 +182,30 @@ pub fn equation_not_after(
     x < y
 }
 
-// Does row i of the visible items at `base` come not after row j?
-fn visible_rows(
+// Does row i of the items at `base` come not after row j, by the order? One function for all three, so that rows of items have no room in the
+// frame in which equations are compared.
+fn item_rows(
     library: &[u8],
     text: &[u8],
     tape: &[u32],
     work: &[u32],
+    by: Order,
     base: u32,
     i: u32,
     j: u32,
 ) -> bool
-    ensures { λ r. ⌜ r ≡ visible-order (row-item (joint (now (library .entry)) (now (text .entry))) (now (tape .entry)) (now (work .entry)) base i) (row-item (joint (now (library .entry)) (now (text .entry))) (now (tape .entry)) (now (work .entry)) base j) ⌝ }
+    requires { ⌜ Countable by ⌝ }
+    ensures { λ r. ⌜ r ≡ item-order (joint (now (library .entry)) (now (text .entry))) (now (tape .entry)) (now (work .entry)) by (row-item (joint (now (library .entry)) (now (text .entry))) (now (tape .entry)) (now (work .entry)) base i) (row-item (joint (now (library .entry)) (now (text .entry))) (now (tape .entry)) (now (work .entry)) base j) ⌝ }
 {
     let a = read_row(work, base, i);
     let b = read_row(work, base, j);
-    visible_not_after(library, text, tape, work, a, b)
-}
-
-// Does row i of the hidden items at `base` come not after row j by their origins alone?
-fn sort_rows(
-    library: &[u8],
-    text: &[u8],
-    tape: &[u32],
-    work: &[u32],
-    base: u32,
-    i: u32,
-    j: u32,
-) -> bool
-    ensures { λ r. ⌜ r ≡ bytes-not-after (origin-text (row-item (joint (now (library .entry)) (now (text .entry))) (now (tape .entry)) (now (work .entry)) base i .origin)) (origin-text (row-item (joint (now (library .entry)) (now (text .entry))) (now (tape .entry)) (now (work .entry)) base j .origin)) ⌝ }
-{
-    let a = read_row(work, base, i);
-    let b = read_row(work, base, j);
-    compare_origins(library, text, tape, work, a, b) < 2
-}
-
-// Does row i of the hidden items at `base` come not after row j?
-fn hidden_rows(
-    library: &[u8],
-    text: &[u8],
-    tape: &[u32],
-    work: &[u32],
-    base: u32,
-    sorts: u32,
-    count: u32,
-    i: u32,
-    j: u32,
-) -> bool
-    requires { ⌜ count < 2 ^ 31 ⌝ }
-    ensures { λ r. ⌜ r ≡ hidden-order (items-at (joint (now (library .entry)) (now (text .entry))) (now (tape .entry)) (now (work .entry)) sorts count) (row-item (joint (now (library .entry)) (now (text .entry))) (now (tape .entry)) (now (work .entry)) base i) (row-item (joint (now (library .entry)) (now (text .entry))) (now (tape .entry)) (now (work .entry)) base j) ⌝ }
-{
-    let a = read_row(work, base, i);
-    let b = read_row(work, base, j);
-    hidden_not_after(library, text, tape, work, sorts, count, a, b)
+    match by {
+        Order::Visible => visible_not_after(library, text, tape, work, a, b),
+        Order::Sorts => compare_origins(library, text, tape, work, a, b) < 2,
+        Order::Hidden { sorts, count } => {
+            hidden_not_after(library, text, tape, work, sorts, count, a, b)
+        }
+    }
 }
 
 // Does row i of the equations at `base` come not after row j?
@@ -261,9 +240,12 @@ pub fn row_not_after(
     ensures { λ r. ⌜ r ≡ row-order (joint (now (library .entry)) (now (text .entry))) (now (tape .entry)) (now (work .entry)) table i j ⌝ }
 {
     match table {
-        Table::Visible(b) => visible_rows(library, text, tape, work, b, i, j),
-        Table::Sorts(b) => sort_rows(library, text, tape, work, b, i, j),
-        Table::Hidden(b, s, n) => hidden_rows(library, text, tape, work, b, s, n, i, j),
+        Table::Visible(b) => item_rows(library, text, tape, work, Order::Visible, b, i, j),
+        Table::Sorts(b) => item_rows(library, text, tape, work, Order::Sorts, b, i, j),
+        Table::Hidden(b, sorts, count) => {
+            let by = Order::Hidden { sorts, count };
+            item_rows(library, text, tape, work, by, b, i, j)
+        }
         Table::Equations(v, b, a) => equation_rows(library, text, work, v, b, a, i, j),
     }
 }

@@ -9,11 +9,11 @@ row-not-after-spec =
     tie.close
     (tie.spec
     (λ c. search needs)  -- enum-known-table
-    (λ c κs. search needs)  -- visible-rows-requires
+    (λ c κs. search needs)  -- item-rows-requires
     (λ c. search needs)  -- enum-known-table-2
-    (λ c κs. search needs)  -- sort-rows-requires
+    (λ c κs. search needs)  -- item-rows-requires-2
     (λ c. search needs)  -- enum-known-table-3
-    (λ c κs. search cases)  -- hidden-rows-requires
+    (λ c κs. search cases)  -- item-rows-requires-3
     (λ c. search needs)  -- enum-known-table-4
     (λ c κs. search needs)  -- equation-rows-requires
     (λ c. search cases)  -- returns
