@@ -58,7 +58,7 @@ fn united_with(
 }
 
 // The import expressions from i on, united with what there is so far.
-fn others_from(
+pub fn imports_from(
     library: &[u8],
     text: &[u8],
     work: &mut [u32],
@@ -92,36 +92,4 @@ fn others_from(
         }
     }
     made
-}
-
-// The same, with the first of them apart: so an expression has two callers and its frame is not a part of what evaluates a module.
-pub fn imports_from(
-    library: &[u8],
-    text: &[u8],
-    work: &mut [u32],
-    t: usize,
-    h: &Heads,
-    left: u32,
-    i: u32,
-    so_far: Made,
-) -> Made
-    requires { ⌜ ImportsRoom (now work) t (heads-in (now h)) i «so_far» ⌝ }
-    ensures { λ r. ⌜ ImportsMade (joint (now (library .entry)) (now (text .entry))) t (now (work .entry)) (heads-in (now (h .entry))) left i «so_far» r (now (work .exit)) ⌝ }
-{
-    if left < 1 {
-        return so_far;
-    }
-    if role_at(&work[0..t], i as usize) == roles::IMPORT {
-        let end = run_end(&work[0..t], roles::RENAMING, i + 1);
-        match expression(library, text, work, t, h, i) {
-            Made::Refused(k, w) => {
-                return Made::Refused(k, w);
-            }
-            Made::Done(g) => {
-                let made = united_with(library, text, work, t, g, so_far);
-                return others_from(library, text, work, t, h, left - 1, end, made);
-            }
-        }
-    }
-    so_far
 }
