@@ -35,7 +35,7 @@ use Rattle.unite.specs.Whole.{sorts-stay, functions-stay}
 use Rattle.clause_checks.specs.Notes.{NoteRoom, FormalsNoted}
 use Rattle.clause.specs.Rooms.{as-is, OwnRoom, StepRoom, Seen}
 use Rattle.clause.specs.Binding.{PairsRight, named-in, left-of, OwnBound, RowsBound, FrontBound}
-use Rattle.clause.specs.Either.{NoteStep, NotesMade}
+use Rattle.clause.specs.Either.{SeenMade, NoteStep, NotesMade}
 use Rattle.clause.specs.Places.{Laid, Counts, block-laid, mode-apart, own-step, InsideBlock}
 use Rattle.clause.specs.OwnSteps.{first-kept, rows-kept, own-kept, own-form, own-few, own-slots, own-inside, own-stands}
 use Rattle.clause.specs.ActualNotes.{StaysNoted, bound-noted}
@@ -158,7 +158,10 @@ module _ (text : List ℕ) (t : ℕ) (w : List ℕ) (m : Mode) (g actual : Form)
 
   -- ---- all of it
 
-  module _ (all : Form) (w₄ : List ℕ) (both : RowsBound text t w m g actual b all w₄) where
+  module _ (all : Form) (w₄ : List ℕ) (rows : SeenMade text t w m g actual b all w₄) where
+    abbrev both : RowsBound text t w m g actual b all w₄
+    both = rows .binds (room .mode .kind)
+
     abbrev own : Form
     own = both .own
 
@@ -332,7 +335,8 @@ module _ (text : List ℕ) (t : ℕ) (w : List ℕ) (m : Mode) (g actual : Form)
           (inr (omega (arith, e, a, k, fit, laid))) (both .parameters .kept) in
           let rows-stay = kept-two-same _ _ _ _ (all .visible) (all .visible + own .«visible_count» * row-size) w₃ w₄
           (inl (omega (arith, d, a, q))) (inl (omega (arith, a, n, fit, laid))) (y .absorbed .kept) in
-          let rows-left = kept-same _ _ (all .visible) (all .visible + all .«visible_count» * row-size) w₄ w₅ (inl (omega (arith, a, fit, laid))) (z .kept) in
+          let rows-left = kept-same _ _ (all .visible) (all .visible + all .«visible_count» * row-size) w₄ w₅
+          (inl (omega (arith, a, all-inside, laid))) (z .kept) in
           let notes-first = kept-same _ _ notes (notes + m .count) w₂ w₃ (inr (omega (arith, e, k, fit, laid))) (both .parameters .kept) in
           let notes-then = kept-two-same _ _ _ _ notes (notes + m .count) w₃ w₄ (inr (omega (arith, d, q, n, fit, laid))) (inl (omega (arith, c, fit, laid)))
           (y .absorbed .kept) in

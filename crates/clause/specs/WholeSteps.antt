@@ -25,8 +25,9 @@ use Rattle.clause_fitting.specs.Bound.{sorts-meant, functions-meant}
 use Rattle.unite_checks.specs.Checked.{CheckRoom, CheckedForm}
 use Rattle.clause.specs.Rooms.{Binds, StepRoom, SeenRoom}
 use Rattle.clause.specs.Binding.{PairsRight, left-of, FrontBound, HiddenBound, bound-normal, BoundForm}
-use Rattle.clause.specs.Either.{HiddenStep, HiddenMade}
+use Rattle.clause.specs.Either.{SeenStep, SeenMade, NotesMade, HiddenStep, HiddenMade}
 use Rattle.clause.specs.Places.{block-laid, mode-apart, own-step}
+use Rattle.clause.specs.VisibleSteps.{front-bound}
 
 -- the mode's table holds the visible items of what g stands for
 pub table-meant : (text tape w : List ℕ) (m : Mode) (g : Form) (n : Normal) → Binds m g → Stands text tape w g n
@@ -41,7 +42,14 @@ module _ (text : List ℕ) (t : ℕ) (w : List ℕ) (m : Mode) (g actual : Form)
   table-apart : Apart (b .low) (b .high) (m .visible) (m .visible + m .count * row-size)
   table-apart = mode-apart (length w) t m g b (own-step (length w) t m g actual b room)
 
-  module _ (seen : Form) (w₁ : List ℕ) (x : FrontBound text t w m g actual b seen w₁) where
+  pub seen-step : SeenStep (length w) t m g actual b
+  seen-step = record { binds = λ k. room; renames = λ k. absurd (k (room .mode .kind)) }
+
+  module _ (seen : Form) (w₀ : List ℕ) (rows : SeenMade text t w m g actual b seen w₀) (w₁ : List ℕ)
+      (noted : NotesMade text t w₀ m seen (b .«visible_notes») w₁) where
+    x : FrontBound text t w m g actual b seen w₁
+    x = front-bound text t w m g actual b room seen w₀ rows w₁ noted
+
     seen-room : SeenRoom (length w₁) t m g actual seen b
     seen-room = record { step = subst (λ (size : ℕ). StepRoom size t m g actual b) (sym (x .kept .size)) room; seen = x .seen }
 

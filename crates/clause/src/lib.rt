@@ -15,6 +15,7 @@ use form::Form;
 use form::Made;
 use form::Verdict;
 use meaning::numbers;
+use unite::empty_form;
 use unite::unite_hidden;
 use unite::unite_parameters;
 use unite::unite_visible;
@@ -27,8 +28,8 @@ ghost use Rattle.form.specs.Memory.{part};
 ghost use Rattle.form.specs.Verdicts.{told};
 ghost use Rattle.unite_checks.specs.Steps.{Bound};
 ghost use Rattle.clause.specs.Rooms.{as-is, binding-mode, OwnRoom, BindRoom, StepRoom, SeenRoom};
-ghost use Rattle.clause.specs.Binding.{named-in, pairs-checked, OwnBound, RowsBound, FrontBound, HiddenBound, BoundForm};
-ghost use Rattle.clause.specs.Either.{ClauseRight, NoteStep, NotesMade, HiddenStep, HiddenMade};
+ghost use Rattle.clause.specs.Binding.{named-in, pairs-checked, OwnBound, RowsBound, HiddenBound, BoundForm};
+ghost use Rattle.clause.specs.Either.{ClauseRight, SeenStep, SeenMade, NoteStep, NotesMade, HiddenStep, HiddenMade};
 
 // The mode that leaves rows as they are.
 fn as_is() -> Mode
@@ -127,6 +128,30 @@ fn bound_rows(
     )
 }
 
+// The parameters and the visible items that a clause makes of g, by its mode. A renaming has no actual form.
+fn seen_made(
+    library: &[u8],
+    text: &[u8],
+    work: &mut [u32],
+    t: usize,
+    m: Mode,
+    g: Form,
+    actual: Form,
+    b: Block,
+) -> Form
+    requires { ⌜ SeenStep (length (now work)) t m g actual b ⌝ }
+    ensures { λ r. ⌜ SeenMade (joint (now (library .entry)) (now (text .entry))) t (now (work .entry)) m g actual b r (now (work .exit)) ⌝ }
+{
+    let kind = m.kind;
+    if kind == modes::BINDING {
+        return bound_rows(library, text, work, t, m, g, actual, b);
+    }
+    let notes = b.visible_notes;
+    let e = empty_form(b);
+    let named = unite_parameters(library, text, work, t, g, e);
+    unite_visible(library, text, work, t, m, false, g, named, notes)
+}
+
 // The notes of the formal rows that a clause's mode has: where the actual items are. A renaming has none.
 fn formals_noted(
     library: &[u8],
@@ -145,26 +170,6 @@ fn formals_noted(
         note_formals(library, text, work, t, m, y, notes);
         return;
     }
-}
-
-// These, and each formal row's note: where the actual item is.
-fn bound_front(
-    library: &[u8],
-    text: &[u8],
-    work: &mut [u32],
-    t: usize,
-    m: Mode,
-    g: Form,
-    actual: Form,
-    b: Block,
-) -> Form
-    requires { ⌜ StepRoom (length (now work)) t m g actual b ⌝ }
-    ensures { λ r. ⌜ FrontBound (joint (now (library .entry)) (now (text .entry))) t (now (work .entry)) m g actual b r (now (work .exit)) ⌝ }
-{
-    let notes = b.visible_notes;
-    let all = bound_rows(library, text, work, t, m, g, actual, b);
-    formals_noted(library, text, work, t, m, all, notes);
-    all
 }
 
 // The hidden items and the equations: those of g, moved, and then the actual form's.
@@ -235,7 +240,9 @@ fn bound(
     requires { ⌜ StepRoom (length (now work)) t m g actual b ⌝ }
     ensures { λ r. ⌜ BoundForm (joint (now (library .entry)) (now (text .entry))) t (now (work .entry)) m g actual b r (now (work .exit)) ⌝ }
 {
-    let seen = bound_front(library, text, work, t, m, g, actual, b);
+    let seen = seen_made(library, text, work, t, m, g, actual, b);
+    let notes = b.visible_notes;
+    formals_noted(library, text, work, t, m, seen, notes);
     let f = hidden_made(library, text, work, t, m, g, actual, seen, b);
     checked(library, text, work, t, f, b)
 }

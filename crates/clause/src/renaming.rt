@@ -2,16 +2,14 @@
 use super::clause_right;
 use super::formals_noted;
 use super::hidden_made;
+use super::seen_made;
 use clause_translation::Mode;
 use clause_translation::modes;
 use form::Block;
 use form::Form;
 use form::Made;
 use form::Verdict;
-use unite::empty_form;
 use unite::unite;
-use unite::unite_parameters;
-use unite::unite_visible;
 use unite_checks::checked::checked;
 ghost use lib.ListN.{length};
 ghost use Rattle.text_names.specs.Joint.{joint};
@@ -32,10 +30,8 @@ fn renamed(
     requires { ⌜ Renames m ⌝ }
     ensures { λ r. ⌜ RenamedForm (joint (now (library .entry)) (now (text .entry))) t (now (work .entry)) (m .pairs) g b r (now (work .exit)) ⌝ }
 {
+    let seen = seen_made(library, text, work, t, m, g, g, b);
     let notes = b.visible_notes;
-    let e = empty_form(b);
-    let named = unite_parameters(library, text, work, t, g, e);
-    let seen = unite_visible(library, text, work, t, m, false, g, named, notes);
     formals_noted(library, text, work, t, m, seen, notes);
     let f = hidden_made(library, text, work, t, m, g, g, seen, b);
     checked(library, text, work, t, f, b)
