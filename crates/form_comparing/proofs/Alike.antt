@@ -1,14 +1,14 @@
 -- What tests tell of sorts, shapes and items, in the code's terms: p, q and r are answers, and the premises are what led there.
 use mathlib.Core.Path.{_≡_, refl, sym, ap, _∙_}
-use mathlib.Core.Bool.{Bool, true, false, _&&_, and-true, and-false}
+use mathlib.Core.Bool.{Bool, true, false, not, _&&_, Bool·beq, and-true, and-false, true≢false}
 use mathlib.Core.List.{List, map}
 use Prim.Native.Nat.{ℕ, suc, _+_, _-_, _/_, _%_, _<_, _≤_, min}
 use native.Mathlib.Numerals.{add-one}
 use native.Mathlib.Omega.{arith}
-use lib.Dec.{eqb}
+use lib.Dec.{eqb, leb}
 use lib.ListN.{length, getD, take, drop, length-take, length-map, drop-of-length-le}
 use lib.Seq.{drop-cons, getD-take}
-use borrow.Author.Tests.{eq-eqb, ne-eqb, eqb-true, eqb-false}
+use borrow.Author.Tests.{le-leb, lt-leb, eq-eqb, ne-eqb, eqb-true, eqb-false}
 use Rattle.meaning.specs.Lists.{pick, agree}
 use Rattle.meaning.specs.Names.{same}
 use Rattle.meaning.specs.Origins.{sort-shape, function-shape, variable-shape, same-section, same-declared, same-origin, same-sort, same-type, same-shape, one-item}
@@ -98,35 +98,62 @@ module _ (text tape a b : List ℕ) (n : ℕ) where
       unfolding pick
       agree-off e = head-told ∙ rw e
 
--- ---- function types and shapes
+-- ---- function types: the first n sorts of a and of b, and then the last ones
 
-module _ (text tape : List ℕ) (k : ℕ) (a : List ℕ) (l : ℕ) (b : List ℕ) (la : length a ≡ 9) (lb : length b ≡ 9) where
+module _ (text tape a b : List ℕ) (n : ℕ) where
   abbrev one-type : Bool
-  one-type = same-type (type-of text tape (k - 2) a) (type-of text tape (l - 2) b)
+  one-type = same-type (type-of text tape n a) (type-of text tape n b)
 
-  module _ (n m : ℕ) (e : n ≡ min (k - 2) 9) (f : m ≡ min (l - 2) 9) where
-    pub types-apart : (n ≡ m → ⊥) → false ≡ one-type
-    unfolding same-type type-of
-    types-apart h =
-        let s = sort-of text tape in
-        let x : length (map s (take (k - 2) a)) ≡ n = length-map (take (k - 2) a) s ∙ omega (arith, length-take (k - 2) a) in
-        let y : length (map s (take (l - 2) b)) ≡ m = length-map (take (l - 2) b) s ∙ omega (arith, length-take (l - 2) b) in
-        rw (agree-lengths same-sort (map s (take (k - 2) a)) (map s (take (l - 2) b)) (λ q. h (sym x ∙ q ∙ y)))
+  abbrev one-output : Bool
+  one-output = same-sort (sort-of text tape (getD a 8 0)) (sort-of text tape (getD b 8 0))
 
-    module _ (h : n ≡ m) (p : Bool) (g : p ≡ agree same-sort (map (sort-of text tape) (take n a)) (map (sort-of text tape) (take n b))) where
-      all-inputs : p ≡ agree same-sort (map (sort-of text tape) (take (k - 2) a)) (map (sort-of text tape) (take (l - 2) b))
-      all-inputs =
-          let x : take n a ≡ take (k - 2) a = ap (λ (i : ℕ). take i a) e ∙ take-nine (k - 2) a la in
-          let y : take n b ≡ take (l - 2) b = ap (λ (i : ℕ). take i b) (h ∙ f) ∙ take-nine (l - 2) b lb in
-          rw (x, y) at g
+  -- what is left to compare when i sorts are one
+  unfoldable pub TypeFrom : ℕ → Bool
+  TypeFrom i = pick (leb i n) (AgreeFrom text tape a b n i && one-output) true
 
-      pub types-inputs : p ≡ false → false ≡ one-type
-      unfolding same-type type-of
-      types-inputs q = rw (← all-inputs, q)
+  module _ (i : ℕ) where
+    some-left : i ≤ n → TypeFrom i ≡ (AgreeFrom text tape a b n i && one-output)
+    unfolding TypeFrom pick
+    some-left h = rw (le-leb i n h)
 
-      pub types-told : (r : Bool) → p ≡ true → r ≡ same-sort (sort-of text tape (getD a 8 0)) (sort-of text tape (getD b 8 0)) → r ≡ one-type
-      unfolding same-type type-of
-      types-told r q t = rw (← all-inputs, q) t
+    pub type-all : n < i → TypeFrom i ≡ true
+    unfolding TypeFrom pick
+    type-all h = rw (lt-leb i n h)
+
+  pub type-none : one-type ≡ TypeFrom 0
+  unfolding same-type type-of
+  type-none = sym (some-left 0 (omega arith))
+
+  module _ (i : ℕ) (la : length a ≡ 9) (lb : length b ≡ 9) (j : ℕ) (r : Bool)
+      (t : r ≡ same-sort (sort-of text tape (getD a j 0)) (sort-of text tape (getD b j 0))) where
+    module _ (e : j ≡ i) (h : i < n) (k : n ≤ 9) where
+      pub input-on : r ≡ true → TypeFrom i ≡ TypeFrom (i + 1)
+      input-on g =
+          let f = agree-on text tape a b n i la lb h (omega arith) r (rw e at t) g in
+          some-left i (omega arith) ∙ (rw f) ∙ sym (some-left (i + 1) (omega arith))
+
+      pub input-off : r ≡ false → TypeFrom i ≡ false
+      input-off g = some-left i (omega arith) ∙ rw (agree-off text tape a b n i la lb h (omega arith) r (rw e at t) g)
+
+    module _ (e : j ≡ 8) (h : n ≤ i) (k : i ≤ n) where
+      output-told : TypeFrom i ≡ r
+      output-told = some-left i k ∙ rw (agree-all text tape a b n i la lb h, ← rw e at t)
+
+      pub output-on : r ≡ true → TypeFrom i ≡ TypeFrom (i + 1)
+      output-on g = output-told ∙ g ∙ sym (type-all (i + 1) (omega arith))
+
+      pub output-off : r ≡ false → TypeFrom i ≡ false
+      output-off g = output-told ∙ g
+
+-- ---- shapes
+
+-- the first c of nine sorts, and how many they are
+module _ (c : ℕ) (a : List ℕ) (la : length a ≡ 9) (n : ℕ) (e : n ≡ min c 9) where
+  all-inputs : take n a ≡ take c a
+  all-inputs = ap (λ (i : ℕ). take i a) e ∙ take-nine c a la
+
+  inputs-counted : {A : Type 0} (s : ℕ → A) → length (map s (take c a)) ≡ n
+  inputs-counted s = length-map (take c a) s ∙ omega (arith, length-take c a)
 
 module _ (text tape : List ℕ) (k : ℕ) (a : List ℕ) (l : ℕ) (b : List ℕ) where
   abbrev one-shape : Bool
@@ -151,22 +178,47 @@ module _ (text tape : List ℕ) (k : ℕ) (a : List ℕ) (l : ℕ) (b : List ℕ
         go false = refl
 
     module _ (g : l ≡ 0 → ⊥) where
-      pub shapes-variables : (r : Bool) → k ≡ 1 → l ≡ 1 → r ≡ same-sort (sort-of text tape (getD a 8 0)) (sort-of text tape (getD b 8 0)) → r ≡ one-shape
+      -- where the one is a variable if p, and the other if q
+      abbrev one-by : Bool → Bool → Bool
+      one-by p q =
+          same-shape (pick p (variable-shape (sort-of text tape (getD a 8 0))) (function-shape (type-of text tape (k - 2) a)))
+          (pick q (variable-shape (sort-of text tape (getD b 8 0))) (function-shape (type-of text tape (l - 2) b)))
+
+      pub shapes-mixed : not (Bool·beq (eqb k 1) (eqb l 1)) ≡ true → false ≡ one-shape
       unfolding same-shape shape-of pick
-      shapes-variables r e f t = rw (ne-eqb k 0 h, ne-eqb l 0 g, eq-eqb k 1 e, eq-eqb l 1 f) t
+      shapes-mixed s = rw (ne-eqb k 0 h, ne-eqb l 0 g) (go (eqb k 1) (eqb l 1) s)
+        where
+          go : (p q : Bool) → not (Bool·beq p q) ≡ true → false ≡ one-by p q
+          go true true s = absurd (true≢false (sym s))
+          go true false s = refl
+          go false true s = refl
+          go false false s = absurd (true≢false (sym s))
 
-      pub shapes-variable : k ≡ 1 → (l ≡ 1 → ⊥) → false ≡ one-shape
-      unfolding same-shape shape-of pick
-      shapes-variable e f = rw (ne-eqb k 0 h, ne-eqb l 0 g, eq-eqb k 1 e, ne-eqb l 1 f)
+      module _ (s : not (Bool·beq (eqb k 1) (eqb l 1)) ≡ false) where
+        -- variables are compared as functions without inputs
+        as-types : one-shape ≡ same-type (type-of text tape (k - 2) a) (type-of text tape (l - 2) b)
+        unfolding same-shape shape-of pick same-type type-of agree
+        as-types = rw (ne-eqb k 0 h, ne-eqb l 0 g) (go (eqb k 1) (eqb l 1) refl refl s)
+          where
+            go : (p q : Bool) → eqb k 1 ≡ p → eqb l 1 ≡ q → not (Bool·beq p q) ≡ false
+                → one-by p q ≡ same-type (type-of text tape (k - 2) a) (type-of text tape (l - 2) b)
+            go true true e f s = rw (eqb-true k 1 e, eqb-true l 1 f)
+            go true false e f s = absurd (true≢false s)
+            go false true e f s = absurd (true≢false s)
+            go false false e f s = refl
 
-      module _ (e : k ≡ 1 → ⊥) where
-        pub shapes-function : l ≡ 1 → false ≡ one-shape
-        unfolding same-shape shape-of pick
-        shapes-function f = rw (ne-eqb k 0 h, ne-eqb l 0 g, ne-eqb k 1 e, eq-eqb l 1 f)
+        module _ (la : length a ≡ 9) (lb : length b ≡ 9) (n m : ℕ) (e : n ≡ min (k - 2) 9) (f : m ≡ min (l - 2) 9) where
+          pub shapes-counts : (n ≡ m → ⊥) → false ≡ one-shape
+          unfolding same-type type-of
+          shapes-counts h =
+              let s = sort-of text tape in
+              let x = inputs-counted (k - 2) a la n e s in
+              let y = inputs-counted (l - 2) b lb m f s in
+              rw (as-types, agree-lengths same-sort (map s (take (k - 2) a)) (map s (take (l - 2) b)) (λ q. h (sym x ∙ q ∙ y)))
 
-        pub shapes-functions : (r : Bool) → (l ≡ 1 → ⊥) → r ≡ same-type (type-of text tape (k - 2) a) (type-of text tape (l - 2) b) → r ≡ one-shape
-        unfolding same-shape shape-of pick
-        shapes-functions r f t = rw (ne-eqb k 0 h, ne-eqb l 0 g, ne-eqb k 1 e, ne-eqb l 1 f) t
+          pub shapes-told : (r : Bool) → n ≡ m → r ≡ same-type (type-of text tape n a) (type-of text tape n b) → r ≡ one-shape
+          unfolding type-of
+          shapes-told r h t = (rw (all-inputs (k - 2) a la n e, all-inputs (l - 2) b lb n (h ∙ f)) at t) ∙ sym as-types
 
 -- ---- items
 

@@ -8,7 +8,7 @@ use form_rows::kinds;
 use form_rows::sections::same_section;
 ghost use mathlib.Core.Path.{_≡_};
 ghost use mathlib.Core.List.{map};
-ghost use Prim.Native.Nat.{_-_, min};
+ghost use Prim.Native.Nat.{_-_, _≤_, min};
 ghost use lib.ListN.{take};
 ghost use Rattle.meaning.specs.Lists.{agree};
 ghost use Rattle.meaning.specs.Origins.{same-origin, same-sort, same-type, same-shape, one-item};
@@ -82,27 +82,28 @@ pub fn inputs_of(kind: u32) -> usize
     (kind - kinds::FUNCTION) as usize
 }
 
-// Are the function types of the kinds k and l and of the sorts a and b one?
-fn same_type(
+// Are the first n sorts of a those of b, in turn, and then the last ones?
+fn same_signature(
     library: &[u8],
     text: &[u8],
     tape: &[u32],
-    k: u32,
     a: [u32; 9],
-    l: u32,
     b: [u32; 9],
+    n: usize,
 ) -> bool
-    ensures { λ r. ⌜ r ≡ same-type (type-of (joint (now (library .entry)) (now (text .entry))) (now (tape .entry)) (k - 2) a) (type-of (joint (now (library .entry)) (now (text .entry))) (now (tape .entry)) (l - 2) b) ⌝ }
+    requires { ⌜ n ≤ 9 ⌝ }
+    ensures { λ r. ⌜ r ≡ same-type (type-of (joint (now (library .entry)) (now (text .entry))) (now (tape .entry)) n a) (type-of (joint (now (library .entry)) (now (text .entry))) (now (tape .entry)) n b) ⌝ }
 {
-    let n = inputs_of(k);
-    let m = inputs_of(l);
-    if n != m {
-        return false;
+    let mut i = 0;
+    while i <= n {
+        let j = if i < n { i } else { 8 };
+        if same_sort(library, text, tape, a[j], b[j]) {
+            i += 1;
+        } else {
+            return false;
+        }
     }
-    if same_sorts(library, text, tape, a, b, n) {
-        return same_sort(library, text, tape, a[8], b[8]);
-    }
-    false
+    true
 }
 
 fn same_shapes(
@@ -122,16 +123,16 @@ fn same_shapes(
     if l == kinds::SORT {
         return false;
     }
-    if k == kinds::VARIABLE {
-        if l == kinds::VARIABLE {
-            return same_sort(library, text, tape, a[8], b[8]);
-        }
+    if (k == kinds::VARIABLE) != (l == kinds::VARIABLE) {
         return false;
     }
-    if l == kinds::VARIABLE {
+    // A variable is compared as a function without inputs.
+    let n = inputs_of(k);
+    let m = inputs_of(l);
+    if n != m {
         return false;
     }
-    same_type(library, text, tape, k, a, l, b)
+    same_signature(library, text, tape, a, b, n)
 }
 
 // Have a and b one shape?
