@@ -8,12 +8,11 @@ use native.Mathlib.Omega.{arith}
 use mir.Syntax.{w32}
 use mir.Val.{Fits}
 use borrow.Author.Needs.{needs}
-use lib.ListN.{length, take, drop, getD, length-take}
+use lib.ListN.{take}
 use Rattle.meaning.specs.Lists.{pick}
 use Rattle.meaning.specs.Normal.{empty}
 use Rattle.meaning.specs.Checks.{Check, fine, _>>_}
 use Rattle.meaning.specs.Evaluate.{names-right, imported}
-use Rattle.meaning.specs.Reached.{total-of}
 use Rattle.tape.specs.Tape.{import-role}
 use Rattle.form_rows.specs.Entries.{role-at, next-with}
 use Rattle.form.specs.declared.Form.{Form}
@@ -36,15 +35,9 @@ use Rattle.unite.specs.Standing.{empty-stands}
 use Rattle.unite_checks.specs.Made.{makes-as, stops, goes-on}
 use Rattle.imports.specs.Spelling.{ImportsAt}
 use Rattle.imports.specs.Expressions.{ImportsRoom, ImportsMade, all-imported}
-use Rattle.own_completing.specs.declared.Totals.{Totals}
-use Rattle.evaluate_states.specs.declared.State.{State}
-use Rattle.evaluate_module.specs.declared.evaluate.Stepped.{Stepped}
-use Rattle.evaluate_module.specs.declared.evaluate.Stepped.the-variants.{Refused as NotKept}
 use Rattle.evaluate_module.specs.Steps.{first-checks, ImportedRoom, Imported}
-use Rattle.evaluate_module.specs.Completes.{CompletedRoom, completed-refused, complete-room, completed-all}
-use Rattle.evaluate_module.specs.Stepping.{Stepping}
-use Rattle.evaluate_module.specs.FirstSteps.{refused-first, passed-first}
-use Rattle.evaluate_module.specs.Next.{LastStepping, last-completed, last-refused, kept-room, last-kept}
+use Rattle.evaluate_module.specs.FirstSteps.{imported-room, started-refused, started-on}
+use Rattle.evaluate_module.specs.LastSteps.{complete-room, finished-refused, finished-done}
 
 -- ---- one check after the other
 
@@ -114,33 +107,4 @@ all-made text t w w′ h from end i j b f r e q z g x = record {
       (subst (λ (k : Form). Stands text (part w 0 t) w k empty) (sym g) (empty-stands text (part w 0 t) w b)));
 }
 
-pub imports-of : (w : List ℕ) (t : ℕ) (h : Heads) (from end : ℕ) (totals : Totals) → CompletedRoom w t h from end totals → ImportedRoom w t h from end
-imports-of w t h from end totals c = c .imports
-
--- ---- the four steps
-
-module _ (text : List ℕ) (t : ℕ) (w : List ℕ) (h : Heads) (k from end : ℕ) (s : State) (v : Verdict) (begins : from ≡ getD (h .places) k 0)
-    (ends : end ≡ getD (h .places) (k + 1) 0) (checked : told text v ≡ first-checks text (part w 0 t) h k from end) where
-  checks-there : first-checks text (part w 0 t) h k (getD (h .places) k 0) (getD (h .places) (k + 1) 0) ≡ told text v
-  checks-there = rw (← begins, ← ends) (sym checked)
-
-  short : length (part w 0 t) ≤ t
-  short = omega (arith, length-take (t - 0) (drop 0 w))
-
-  pub steps-stop : (j : ℕ) (y : Culprit) → v ≡ Stop j y → Stepping text t w h k s (NotKept j y) w
-  unfolding told
-  steps-stop j y e = record {
-    meant = λ ms env m ys earlier sofar d f.
-        refused-first text (part w 0 t) t h ms (sofar .told) short k m ys d earlier f env (total-of env) j (culprit-of text y)
-        (checks-there ∙ ap (told text) e);
-  }
-
-  pub steps-on : (r : Stepped) (w′ : List ℕ) → v ≡ Fine → LastStepping text t w h k s r w′ → Stepping text t w h k s r w′
-  unfolding told
-  steps-on r w′ e x = record {
-    meant = λ ms env m ys earlier sofar d f.
-        x .meant ms env m ys earlier sofar d
-        (passed-first text (part w 0 t) t h ms (sofar .told) short k m ys d earlier f env (total-of env) (checks-there ∙ ap (told text) e));
-  }
-
-pub ruleset cases = (names-stop, names-fine, place-fits, imports-room, all-made, imports-of, completed-refused, complete-room, completed-all, last-completed, last-refused, kept-room, last-kept, steps-stop, steps-on, needs)
+pub ruleset cases = (names-stop, names-fine, place-fits, imports-room, all-made, imported-room, started-refused, started-on, complete-room, finished-refused, finished-done, needs)

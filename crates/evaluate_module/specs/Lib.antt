@@ -1,6 +1,5 @@
 pub mod Steps
 pub mod Places
-pub mod Completes
 pub mod Sofar
 pub mod Stepping
 pub mod Heads

@@ -1,9 +1,9 @@
--- After a module: where its normal form is kept, the next module may follow.
+-- The steps together, each with what the one before it has left: after a module whose normal form is kept, the next may follow.
 use mathlib.Core.Path.{_≡_, sym, ap, _∙_, subst}
-use Prim.Native.Nat.{ℕ, _+_, _-_, _*_, _≤_, _<_}
+use Prim.Native.Nat.{ℕ, _+_, _*_, _≤_, _<_}
 use native.Mathlib.Omega.{arith}
 use mathlib.Core.List.{List, _∷_}
-use lib.ListN.{length, getD, drop, length-take}
+use lib.ListN.{length, getD, drop}
 use Rattle.meaning.specs.Names.{Name}
 use Rattle.meaning.specs.Syntax.{Module}
 use Rattle.meaning.specs.Normal.{Normal}
@@ -24,46 +24,31 @@ use Rattle.form.specs.Verdicts.{culprit-of}
 use Rattle.form_layout.specs.Layout.{joining-block, second-block, kept-start, table-start, Laid}
 use Rattle.modules.specs.Modules.{declared, Heads}
 use Rattle.modules.specs.ModuleLaws.{declared-names}
+use Rattle.modules.specs.Meant.{Earlier}
 use Rattle.modules.specs.ReachedLaws.{names-distinct, names-number, name-by-number, drop-some}
 use Rattle.unite_checks.specs.Made.{refused-outcome, done-outcome, then-stops, then-goes-on}
-use Rattle.own_equations.specs.Seen.{AllSeen, evaluated-seen}
+use Rattle.own_equations.specs.Seen.{AllSeen, imported-seen, evaluated-seen}
 use Rattle.invariants.specs.HiddenItems.{HiddenSound}
-use Rattle.laws.specs.Outcomes.{Gives}
+use Rattle.laws.specs.Outcomes.{Gives, gives-then}
 use Rattle.invariants.specs.HiddenEvaluated.{evaluated-sound}
 use Rattle.form_keeping.specs.Environment.{number-of, EnvStands, env-stays, TableBelow, table-stays}
 use Rattle.form_keeping.specs.Growing.{below-right}
 use Rattle.imports.specs.Clausal.{Ground, number-within, kept-table}
 use Rattle.own_completing.specs.declared.Totals.{Totals}
-use Rattle.own_completing.specs.Room.{TotalsRight, StillRight, TotalsMeant, size-meant}
+use Rattle.own_completing.specs.Room.{StillRight, TotalsMeant, size-meant}
 use Rattle.own_completing.specs.Completed.{KeptDone, MakesIn}
 use Rattle.evaluate_storing.specs.Places.{StoreRoom, form-space}
 use Rattle.evaluate_storing.specs.Storing.{stored-table, stored-env}
 use Rattle.evaluate_states.specs.declared.State.{State}
-use Rattle.evaluate_module.specs.declared.evaluate.Stepped.{Stepped}
 use Rattle.evaluate_module.specs.declared.evaluate.Stepped.the-variants.{Kept, Refused}
 use Rattle.evaluate_states.specs.States.{with-form, KeptRoom, KeptState}
 use Rattle.evaluate_module.specs.Places.{ModuleAt}
-use Rattle.evaluate_module.specs.Completes.{CompletedRoom, CompletedAll, all-joined}
 use Rattle.evaluate_module.specs.Sofar.{Told, Ready, Sofar}
-use Rattle.evaluate_module.specs.Stepping.{evaluated-as, StepMeant}
+use Rattle.evaluate_module.specs.Stepping.{evaluated-as, Stepping}
 use Rattle.evaluate_module.specs.Heads.{module-there}
-use Rattle.evaluate_module.specs.FirstSteps.{last-steps}
-use Rattle.evaluate_module.specs.LastSteps.{last-ordered, joined-distinct, ordered-size}
-use Rattle.form_frames.specs.Changes.{tape-kept}
-
--- ---- steps 3 and 4: what they ask of the memory, and what comes of them
-
-pub record LastRoom (t : ℕ) (w : List ℕ) (h : Heads) (k from end : ℕ) (s : State) : Type 0 where
-  pub number : k < h .count
-  pub ready : Ready t w h k s
-  pub begins : from ≡ getD (h .places) k 0
-  pub ends : end ≡ getD (h .places) (k + 1) 0
-
--- where the first two steps pass, the outcome is that of the last two
-pub record LastStepping (text : List ℕ) (t : ℕ) (w : List ℕ) (h : Heads) (k : ℕ) (s : State) (r : Stepped) (w′ : List ℕ) : Type 0 where
-  pub meant : (ms : List Module) (env : List Evaluated) (m : Module) (ys : List Module) (earlier : List Name) → Sofar text t w h s ms env
-      → drop k ms ≡ m ∷ ys → evaluate (module-names ms) earlier k (total-of env) env m ≡ last-steps env k (total-of env) m
-      → StepMeant text t w′ h k ms env m (evaluate (module-names ms) earlier k (total-of env) env m) r
+use Rattle.evaluate_module.specs.FirstSteps.{begun, StartedRoom, Started, short-part}
+use Rattle.evaluate_module.specs.LastSteps.{FinishedRoom, all-joined, Finished, steps-ordered, joined-distinct, ordered-size}
+use Rattle.form_frames.specs.Changes.{onward, tape-kept}
 
 -- ---- places
 
@@ -103,17 +88,13 @@ module _ (t : ℕ) (w : List ℕ) (h : Heads) (k : ℕ) (s : State) (number : k 
     number = omega (arith, number, ready .heads);
   }
 
-pub last-completed : (t : ℕ) (w : List ℕ) (h : Heads) (k from end : ℕ) (s : State) (totals : Totals) → totals ≡ s .totals → LastRoom t w h k from end s
-    → CompletedRoom w t h from end totals
-last-completed t w h k from end s totals e room = record {
-  imports = record {
-    ground = ground t w h k s (room .number) (room .ready);
-    begins = omega (arith, room .begins, room .ends, room .ready .ordered k (room .number));
-    within = omega (arith, room .ends, room .ready .within k (room .number));
-  };
-  few-entries = omega (arith, room .begins, room .ends, room .ready .few-entries k (room .number));
-  right = subst TotalsRight (sym e) (room .ready .right);
-}
+  pub start-room : StartedRoom w t h k
+  start-room = record {
+    ground = ground;
+    begins = ready .ordered k number;
+    within = ready .within k number;
+    few-entries = ready .few-entries k number;
+  }
 
 -- ---- the totals
 
@@ -131,103 +112,115 @@ totals-next text tape w f a env totals r x e stands meant =
 
 -- ---- what comes of them
 
-module _ (text : List ℕ) (t : ℕ) (w w₁ : List ℕ) (h : Heads) (k from end : ℕ) (s : State) (room : LastRoom t w h k from end s)
-    (r₁ : Made) (x : CompletedAll text t w h k from end (s .totals) r₁ w₁) where
-  module _ (ms : List Module) (env : List Evaluated) (m : Module) (ys : List Module) (sofar : Sofar text t w h s ms env) (e : drop k ms ≡ m ∷ ys) where
-    there : ModuleAt text (part w 0 t) from end m
-    there =
-        let short : length (part w 0 t) ≤ t = omega (arith, length-take (t - 0) (drop 0 w)) in
-        rw (room .begins, room .ends) (module-there text (part w 0 t) t h ms (sofar .told) short k m ys e)
+-- the memory is w at first, then w₁, then w₂, and w′ where a form is kept
+module _ (text : List ℕ) (t : ℕ) (w : List ℕ) (h : Heads) (k : ℕ) (s : State) (number : k < h .count) (ready : Ready t w h k s)
+    (so-far : Made) (w₁ : List ℕ) (x : Started text t w h k so-far w₁) where
+  laid : Laid (length w) t
+  laid = ready .laid
 
-    made-so : MakesIn text t (joining-block .low) (second-block .high) w w₁ r₁ (all-joined env k (total-of env) m)
-    made-so = x .made m env (total-of env) there (sofar .stands) (sofar .seen) (sofar .totals)
-
-  pub last-refused : (j : ℕ) (y : Culprit) → r₁ ≡ NotMade j y → LastStepping text t w h k s (Refused j y) w₁
-  last-refused j y q = record {
-    meant = λ ms env m ys earlier sofar e passed.
-        let o = all-joined env k (total-of env) m in
-        let z = subst (λ (u : Made). Makes text (part w₁ 0 t) w₁ u o) q (made-so ms env m ys sofar e .makes) in
-        passed
-        ∙ last-ordered env k (total-of env) m
-        ∙ then-stops o (λ (a : Normal). fine (in-order a)) j (culprit-of text y) (refused-outcome text (part w₁ 0 t) w₁ j y o z);
+  pub finish-room : FinishedRoom (length w₁) t h k so-far (s .totals)
+  finish-room = record {
+    laid = subst (λ (n : ℕ). Laid n t) (sym (x .kept .size)) laid;
+    tape = ready .tape;
+    within = ready .within k number;
+    few-entries = ready .few-entries k number;
+    there = x .made-in;
+    right = ready .right;
   }
 
-  module _ (f : Form) (q : r₁ ≡ Done f) where
-    made-there : MadeThere joining-block f
-    made-there = subst (MadeIn joining-block) q (x .made-in)
+  module _ (made : Made) (w₂ : List ℕ) (y : Finished text t w₁ h k so-far (s .totals) made w₂) where
+    made-so : (ms : List Module) (env : List Evaluated) (m : Module) (ys : List Module) (earlier : List Name) → Sofar text t w h s ms env
+        → drop k ms ≡ m ∷ ys → Earlier (module-names ms) k earlier
+        → MakesIn text t (joining-block .low) (second-block .high) w₁ w₂ made (all-joined (begun (module-names ms) earlier env m) k (total-of env) m)
+    unfolding begun
+    made-so ms env m ys earlier sofar e f =
+        let there = module-there text (part w 0 t) t h ms (sofar .told) (short-part w t) k m ys e in
+        y .made m (begun (module-names ms) earlier env m) (total-of env)
+        (subst (λ (tape : List ℕ). ModuleAt text tape (getD (h .places) k 0) (getD (h .places) (k + 1) 0) m)
+        (sym (tape-kept (laid .joining .tape) (x .kept))) there)
+        (sofar .totals) (gives-then AllSeen _ _ (λ c. imported-seen env (sofar .seen) (m .imports)))
+        (x .made ms env m ys earlier (sofar .told) (sofar .stands) e f)
 
-    still-right : StillRight (s .totals) (Done f)
-    still-right = subst (StillRight (s .totals)) q (x .right)
+    pub steps-refused : (j : ℕ) (c : Culprit) → made ≡ NotMade j c → Stepping text t w h k s (Refused j c) w₂
+    steps-refused j c q = record {
+      meant = λ ms env m ys earlier sofar e f.
+          let o = all-joined (begun (module-names ms) earlier env m) k (total-of env) m in
+          let z = subst (λ (u : Made). Makes text (part w₂ 0 t) w₂ u o) q (made-so ms env m ys earlier sofar e f .makes) in
+          steps-ordered (module-names ms) earlier k (total-of env) env m
+          ∙ then-stops o (λ (a : Normal). fine (in-order a)) j (culprit-of text c) (refused-outcome text (part w₂ 0 t) w₂ j c o z);
+    }
 
-    pub kept-room : (size : ℕ) → size ≡ length w → KeptRoom size t k f s
-    kept-room size z = record { store = store-fits t w h k s (room .number) (room .ready) size f z made-there still-right; right = still-right }
+    module _ (f : Form) (q : made ≡ Done f) where
+      made-there : MadeThere joining-block f
+      made-there = subst (MadeIn joining-block) q (y .made-in)
 
-    module _ (r : State) (w′ : List ℕ) (y : KeptState text t k f s r w₁ w′) (kept : KeptOutside (joining-block .low) (second-block .high) w w₁) where
-      laid : Laid (length w) t
-      laid = room .ready .laid
+      still-right : StillRight (s .totals) (Done f)
+      still-right = subst (StillRight (s .totals)) q (y .right)
 
-      store-room : StoreRoom (length w₁) t k f (s .cursor)
-      store-room = store-fits t w h k s (room .number) (room .ready) (length w₁) f (kept .size) made-there still-right
+      pub keep-room : (size : ℕ) → size ≡ length w₁ → KeptRoom size t k f s
+      keep-room size z = record { store = store-fits t w h k s number ready size f (z ∙ x .kept .size) made-there still-right; right = still-right }
 
-      behind : second-block .high ≤ table-start
-      behind = omega (arith, laid .second-kept, kept-table (length w) t laid)
+      module _ (r : State) (w′ : List ℕ) (stored : KeptState text t k f s r w₂ w′) (kept : KeptOutside (joining-block .low) (second-block .high) w w₂) where
+        store-room : StoreRoom (length w₂) t k f (s .cursor)
+        store-room = keep-room (length w₂) (kept .size ∙ sym (x .kept .size)) .store
 
-      below : TableBelow w₁ (s .cursor)
-      below = table-stays (joining-block .low) (second-block .high) (s .cursor) w w₁ behind kept (room .ready .below)
+        behind : second-block .high ≤ table-start
+        behind = omega (arith, laid .second-kept, kept-table (length w) t laid)
 
-      length-still : length w′ ≡ length w
-      length-still = y .stored .grown .size ∙ kept .size
+        below : TableBelow w₂ (s .cursor)
+        below = table-stays (joining-block .low) (second-block .high) (s .cursor) w w₂ behind kept (ready .below)
 
-      ready-next : Ready t w′ h (k + 1) r
-      unfolding with-form
-      ready-next = record {
-        laid = subst (λ (n : ℕ). Laid n t) (sym length-still) laid;
-        scratch = omega (arith, length-still, room .ready .scratch);
-        tape = room .ready .tape;
-        heads = room .ready .heads;
-        ordered = room .ready .ordered;
-        within = room .ready .within;
-        few-entries = room .ready .few-entries;
-        below = stored-table text t k f (s .cursor) (r .cursor) w₁ w′ store-room (y .stored) below;
-        start = omega (arith, y .stored .cursor, room .ready .start);
-        space = rw (y .totals, y .stored .cursor) (next-space t w h k s f (room .ready) made-there);
-        right = rw (y .totals) (record { items = still-right .0; equations = still-right .1; nodes = still-right .2 });
-      }
+        length-still : length w′ ≡ length w
+        length-still = stored .stored .grown .size ∙ kept .size
 
-      module _ (ms : List Module) (env : List Evaluated) (m : Module) (ys : List Module) (sofar : Sofar text t w h s ms env) (e : drop k ms ≡ m ∷ ys)
-          (a : Normal) (joined : all-joined env k (total-of env) m ≡ fine a) (stands : Stands text (part w₁ 0 t) w₁ f a) where
-        abbrev ds : List Name
-        ds = declared text (part w 0 t) h
+        ready-next : Ready t w′ h (k + 1) r
+        unfolding with-form
+        ready-next = record {
+          laid = subst (λ (n : ℕ). Laid n t) (sym length-still) laid;
+          scratch = omega (arith, length-still, ready .scratch);
+          tape = ready .tape;
+          heads = ready .heads;
+          ordered = ready .ordered;
+          within = ready .within;
+          few-entries = ready .few-entries;
+          below = stored-table text t k f (s .cursor) (r .cursor) w₂ w′ store-room (stored .stored) below;
+          start = omega (arith, stored .stored .cursor, ready .start);
+          space = rw (stored .totals, stored .stored .cursor) (next-space t w h k s f ready made-there);
+          right = rw (stored .totals) (record { items = still-right .0; equations = still-right .1; nodes = still-right .2 });
+        }
 
-        names : ds ≡ module-names ms
-        names = declared-names text (part w 0 t) t ms h (sofar .told .spells)
+        module _ (ms : List Module) (env : List Evaluated) (m : Module) (ys : List Module) (earlier : List Name) (sofar : Sofar text t w h s ms env)
+            (e : drop k ms ≡ m ∷ ys) (a : Normal) (joined : all-joined (begun (module-names ms) earlier env m) k (total-of env) m ≡ fine a)
+            (stands : Stands text (part w₂ 0 t) w₂ f a) where
+          abbrev ds : List Name
+          ds = declared text (part w 0 t) h
 
-        tape-then : part w₁ 0 t ≡ part w 0 t
-        tape-then = tape-kept (laid .joining .tape) kept
+          names : ds ≡ module-names ms
+          names = declared-names text (part w 0 t) t ms h (sofar .told .spells)
 
-        tape-still : part w′ 0 t ≡ part w 0 t
-        tape-still = y .stored .tape ∙ tape-then
+          tape-still : part w′ 0 t ≡ part w 0 t
+          tape-still = stored .stored .tape ∙ tape-kept (laid .joining .tape) kept
 
-        number : number-of ds (m .name) ≡ k
-        number =
-            ap (λ (ws : List Name). number-of ws (m .name)) names
-            ∙ ap (number-of (module-names ms)) (sym (name-by-number k ms ys m e))
-            ∙ names-distinct ms (sofar .told .fresh) k (omega (arith, drop-some k ms ys m e, names-number ms))
+          own-number : number-of ds (m .name) ≡ k
+          own-number =
+              ap (λ (ws : List Name). number-of ws (m .name)) names
+              ∙ ap (number-of (module-names ms)) (sym (name-by-number k ms ys m e))
+              ∙ names-distinct ms (sofar .told .fresh) k (omega (arith, drop-some k ms ys m e, names-number ms))
 
-        env-then : EnvStands text (part w₁ 0 t) w₁ ds env
-        env-then =
-            env-stays text t (joining-block .low) (second-block .high) w w₁ ds env (laid .joining .tape) (laid .second-kept) (kept-table (length w) t laid) kept
-            (number-within text (part w 0 t) h (room .ready .heads)) (ground t w h k s (room .number) (room .ready) .table) (sofar .stands)
+          env-then : EnvStands text (part w₂ 0 t) w₂ ds env
+          env-then =
+              env-stays text t (joining-block .low) (second-block .high) w w₂ ds env (laid .joining .tape) (laid .second-kept) (kept-table (length w) t laid)
+              kept (number-within text (part w 0 t) h (ready .heads)) (ground t w h k s number ready .table) (sofar .stands)
 
-        env-next : EnvStands text (part w′ 0 t) w′ ds (evaluated-as m (in-order a) ∷ env)
-        env-next =
-            stored-env text t k f (s .cursor) (r .cursor) w₁ w′ store-room (y .stored) below ds env (m .name) a number
-            (omega (arith, ap length names, names-number ms, drop-some k ms ys m e)) (number-within text (part w 0 t) h (room .ready .heads)) stands
-            (joined-distinct env (sofar .sound) k (total-of env) m a joined) env-then
+          env-next : EnvStands text (part w′ 0 t) w′ ds (evaluated-as m (in-order a) ∷ env)
+          env-next =
+              stored-env text t k f (s .cursor) (r .cursor) w₂ w′ store-room (stored .stored) below ds env (m .name) a own-number
+              (omega (arith, ap length names, names-number ms, drop-some k ms ys m e)) (number-within text (part w 0 t) h (ready .heads)) stands
+              (joined-distinct (module-names ms) earlier env (sofar .sound) k (total-of env) m a joined) env-then
 
-        module _ (earlier : List Name) (outcome : evaluate (module-names ms) earlier k (total-of env) env m ≡ fine (in-order a)) where
-          sofar-next : Sofar text t w′ h r ms (evaluated-as m (in-order a) ∷ env)
-          sofar-next = record {
+          sofar-next : evaluate (module-names ms) earlier k (total-of env) env m ≡ fine (in-order a)
+              → Sofar text t w′ h r ms (evaluated-as m (in-order a) ∷ env)
+          sofar-next outcome = record {
             told = subst (λ (tape : List ℕ). Told text tape t h ms) (sym tape-still) (sofar .told);
             stands =
                 subst (λ (tape : List ℕ). EnvStands text (part w′ 0 t) w′ (declared text tape h) (evaluated-as m (in-order a) ∷ env)) (sym tape-still) env-next;
@@ -236,22 +229,23 @@ module _ (text : List ℕ) (t : ℕ) (w w₁ : List ℕ) (h : Heads) (k from end
               subst (Gives HiddenSound) outcome (evaluated-sound (module-names ms) earlier k (total-of env) env m (sofar .sound)),
               sofar .sound,
             );
-            totals = totals-next text (part w₁ 0 t) w₁ f a env (s .totals) (r .totals) (m .name) (y .totals) stands (sofar .totals);
+            totals = totals-next text (part w₂ 0 t) w₂ f a env (s .totals) (r .totals) (m .name) (stored .totals) stands (sofar .totals);
           }
 
-    pub last-kept : (r : State) (w′ : List ℕ) → KeptState text t k f s r w₁ w′ → LastStepping text t w h k s (Kept r) w′
-    last-kept r w′ y = record {
-      meant = λ ms env m ys earlier sofar e passed.
-          let o = all-joined env k (total-of env) m in
-          let made = made-so ms env m ys sofar e in
-          let z = done-outcome text (part w₁ 0 t) w₁ f o (subst (λ (u : Made). Makes text (part w₁ 0 t) w₁ u o) q (made .makes)) in
-          let kept = subst (KeptDone (joining-block .low) (second-block .high) w w₁) q (made .kept) in
-          let outcome =
-          passed ∙ last-ordered env k (total-of env) m ∙ then-goes-on o (λ (a : Normal). fine (in-order a)) (z .normal) (z .outcome) in
-          record {
-            normal = in-order (z .normal);
-            fine-so = outcome;
-            ready = ready-next r w′ y kept;
-            sofar = sofar-next r w′ y kept ms env m ys sofar e (z .normal) (z .outcome) (z .stands) earlier outcome;
-          };
-    }
+      pub steps-kept : (r : State) (w′ : List ℕ) → KeptState text t k f s r w₂ w′ → Stepping text t w h k s (Kept r) w′
+      steps-kept r w′ stored = record {
+        meant = λ ms env m ys earlier sofar e before-it.
+            let o = all-joined (begun (module-names ms) earlier env m) k (total-of env) m in
+            let made-there = made-so ms env m ys earlier sofar e before-it in
+            let z = done-outcome text (part w₂ 0 t) w₂ f o (subst (λ (u : Made). Makes text (part w₂ 0 t) w₂ u o) q (made-there .makes)) in
+            let kept = onward (x .kept) (subst (KeptDone (joining-block .low) (second-block .high) w₁ w₂) q (made-there .kept)) in
+            let outcome =
+            steps-ordered (module-names ms) earlier k (total-of env) env m
+            ∙ then-goes-on o (λ (a : Normal). fine (in-order a)) (z .normal) (z .outcome) in
+            record {
+              normal = in-order (z .normal);
+              fine-so = outcome;
+              ready = ready-next r w′ stored kept;
+              sofar = sofar-next r w′ stored kept ms env m ys earlier sofar e (z .normal) (z .outcome) (z .stands) outcome;
+            };
+      }

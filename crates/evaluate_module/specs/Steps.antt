@@ -4,7 +4,7 @@ use mathlib.Core.List.{List}
 use lib.ListN.{length, take}
 use Rattle.meaning.specs.OrderLaws.{Every}
 use Rattle.meaning.specs.Syntax.{Import}
-use Rattle.meaning.specs.Checks.{Check, _>>=_, _>>_}
+use Rattle.meaning.specs.Checks.{Check, _>>_}
 use Rattle.meaning.specs.Evaluate.{Evaluated, names-right, imported}
 use Rattle.tape.specs.Tape.{import-role}
 use Rattle.form_rows.specs.Entries.{next-with}

@@ -1,4 +1,4 @@
-// The four steps for one module: the first two need its entries alone; imports are united, and its own declarations joined.
+// The four steps for one module, in two halves: what it imports, if its own entries are right; then its own declarations joined to that.
 use form::Made;
 use form::Verdict;
 use form_layout::joining_block;
@@ -6,6 +6,7 @@ use form_rows::entries::next_with;
 use imports::imports::imports_from;
 use module_names::names_right;
 use modules::Heads;
+use modules::place_at;
 use own_completing::Totals;
 use own_completing::complete::complete;
 use own_repeats::once::declared_once;
@@ -17,10 +18,11 @@ ghost use Rattle.text_names.specs.Joint.{joint};
 ghost use Rattle.form.specs.Verdicts.{told};
 ghost use Rattle.evaluate_module.specs.Steps.{first-checks, ImportedRoom, Imported};
 ghost use Rattle.modules.specs.Modules.{heads-in};
-ghost use Rattle.evaluate_module.specs.Completes.{CompletedRoom, CompletedAll};
+ghost use Rattle.evaluate_module.specs.FirstSteps.{StartedRoom, Started};
+ghost use Rattle.evaluate_module.specs.LastSteps.{FinishedRoom, Finished};
 
 // Steps 1 and 2 for module k, whose entries stand from `from` up to `end`: 7, 8, 9.
-pub fn first_checks(
+fn first_checks(
     library: &[u8],
     text: &[u8],
     tape: &[u32],
@@ -38,7 +40,7 @@ pub fn first_checks(
 }
 
 // Step 3, and the union of step 4: what the module whose entries stand from `from` up to `end` imports.
-pub fn imported(
+fn imported(
     library: &[u8],
     text: &[u8],
     work: &mut [u32],
@@ -65,23 +67,39 @@ pub fn imported(
     )
 }
 
-// Steps 3 and 4 for module k, but for the order of the listing.
-pub fn completed(
+// Steps 1 to 3, and the union of step 4: what module k imports, if its names are right and each thing is declared once.
+pub fn started(library: &[u8], text: &[u8], work: &mut [u32], t: usize, h: &Heads, k: u32) -> Made
+    requires { ⌜ StartedRoom (now work) t (heads-in (now h)) k ⌝ }
+    ensures { λ r. ⌜ Started (joint (now (library .entry)) (now (text .entry))) t (now (work .entry)) (heads-in (now (h .entry))) k r (now (work .exit)) ⌝ }
+{
+    let from = place_at(h, k as usize);
+    let end = place_at(h, k as usize + 1);
+    match first_checks(library, text, &work[0..t], h, k, from, end) {
+        Verdict::Stop(n, w) => Made::Refused(n, w),
+        Verdict::Fine => imported(library, text, work, t, h, from, end),
+    }
+}
+
+// Step 4, but for the order of the listing, unless what came before is refused.
+pub fn finished(
     library: &[u8],
     text: &[u8],
     work: &mut [u32],
     t: usize,
     h: &Heads,
     k: u32,
-    from: u32,
-    end: u32,
+    so_far: Made,
     totals: Totals,
 ) -> Made
-    requires { ⌜ CompletedRoom (now work) t (heads-in (now h)) from end totals ⌝ }
-    ensures { λ r. ⌜ CompletedAll (joint (now (library .entry)) (now (text .entry))) t (now (work .entry)) (heads-in (now (h .entry))) k from end totals r (now (work .exit)) ⌝ }
+    requires { ⌜ FinishedRoom (length (now work)) t (heads-in (now h)) k «so_far» totals ⌝ }
+    ensures { λ r. ⌜ Finished (joint (now (library .entry)) (now (text .entry))) t (now (work .entry)) (heads-in (now (h .entry))) k «so_far» totals r (now (work .exit)) ⌝ }
 {
-    match imported(library, text, work, t, h, from, end) {
+    match so_far {
         Made::Refused(n, w) => Made::Refused(n, w),
-        Made::Done(f) => complete(library, text, work, t, k, from, end, f, totals),
+        Made::Done(f) => {
+            let from = place_at(h, k as usize);
+            let end = place_at(h, k as usize + 1);
+            complete(library, text, work, t, k, from, end, f, totals)
+        }
     }
 }

@@ -17,7 +17,7 @@ use Rattle.evaluate_turns.specs.declared.Ended.{Ended}
 use Rattle.evaluate_turns.specs.declared.Ended.the-variants.{Normalised}
 use Rattle.evaluate_turns.specs.Asked.{Asked, asked-so}
 use Rattle.evaluate_turns.specs.Turns.{Resumed, Turned, Given, AllTurned}
-use Rattle.evaluate_turns.specs.Turning.{tape-there, ready-there, few-there, going-first, going-resumed, going-size, going-few, resumed-asked, few-asked, going-asked, going-passed, going-refused, going-kept, asked-refused, asked-kept}
+use Rattle.evaluate_turns.specs.Turning.{tape-there, ready-there, few-there, going-first, going-resumed, going-size, going-few, resumed-asked, few-asked, going-asked, going-passed, going-refused, going-kept}
 use Rattle.evaluate_turns.specs.Beginning.{table-there, resumed, all-turned, none-turned}
 
 module _ (text : List ℕ) (t : ℕ) (w : List ℕ) (h : Heads) where
@@ -44,4 +44,4 @@ module _ (text : List ℕ) (t : ℕ) (w : List ℕ) (h : Heads) where
     pub begins : (s : State) → s ≡ first-state → Resumed text t w′ h 0 s
     begins s z = subst (Resumed text t w′ h 0) (sym z) (resumed text t w w′ h g cleared)
 
-pub ruleset cases = (tape-there, ready-there, few-there, going-first, going-resumed, going-size, going-few, resumed-asked, few-asked, going-asked, going-passed, going-refused, going-kept, asked-refused, asked-kept, given-tape, given-table, begins, asked-there, reached-turned, reached-none, needs)
+pub ruleset cases = (tape-there, ready-there, few-there, going-first, going-resumed, going-size, going-few, resumed-asked, few-asked, going-asked, going-passed, going-refused, going-kept, given-tape, given-table, begins, asked-there, reached-turned, reached-none, needs)

@@ -296,13 +296,13 @@ module _ (text : List ℕ) (t : ℕ) (w₀ : List ℕ) (h : Heads) (set asked : 
 
 -- ---- the asked module itself
 
-module _ (text : List ℕ) (t : ℕ) (w : List ℕ) (h : Heads) (k count : ℕ) (s : State) (c : k < h .count) (step : Stepped) (w₁ : List ℕ)
-    (stepping : Stepping text t w h k s step w₁) where
-  pub asked-refused : (name number : ℕ) (culprit : Culprit) → name ≡ word-at (part w 0 t) (getD (h .places) k 0) → step ≡ StepRefused number culprit
-      → AskedTurned text t w h k count s (Refused number (count + 1) name culprit) w₁
-  asked-refused name number culprit q g = record {
-    turned = λ set a. turn-refused text t w h k s c step w₁ stepping set count true name number culprit (sym (a .in-it)) refl q g;
+module _ (text : List ℕ) (t : ℕ) (w : List ℕ) (h : Heads) (k count : ℕ) (s : State) (c : k < h .count) (w₁ : List ℕ) where
+  pub asked-refused : (name number : ℕ) (culprit : Culprit) → name ≡ word-at (part w 0 t) (getD (h .places) k 0)
+      → Stepping text t w h k s (StepRefused number culprit) w₁ → AskedTurned text t w h k count s (Refused number (count + 1) name culprit) w₁
+  asked-refused name number culprit q stepping = record {
+    turned = λ set a.
+        turn-refused text t w h k s c (StepRefused number culprit) w₁ stepping set count true name number culprit (sym (a .in-it)) refl q refl;
   }
 
-  pub asked-kept : (r : State) → step ≡ Kept r → AskedTurned text t w h k count s (Normalised (count + 1) k) w₁
-  asked-kept r g = record { turned = λ set a. last-turned text t w h k s c step w₁ stepping r g set count a }
+  pub asked-kept : (r : State) → Stepping text t w h k s (Kept r) w₁ → AskedTurned text t w h k count s (Normalised (count + 1) k) w₁
+  asked-kept r stepping = record { turned = λ set a. last-turned text t w h k s c (Kept r) w₁ stepping r refl set count a }

@@ -1,9 +1,13 @@
 // The modules that the asked one reaches, in text order, each once, up to the first refused.
 use evaluate_module::evaluate::Stepped;
 use evaluate_module::evaluate::evaluate;
+use evaluate_module::steps::finished;
+use evaluate_module::steps::started;
 use evaluate_states::State;
 use evaluate_states::first_state;
+use evaluate_states::kept;
 use form::Culprit;
+use form::Made;
 use form_keeping::clear_forms;
 use form_layout::kept_start;
 use form_layout::table_start;
@@ -32,8 +36,8 @@ pub enum Ended {
     },
 }
 
-// Module k, the asked one, after the `count` others that it reaches. It is the second to call `evaluate`, which therefore is compiled as a function
-// of its own: as part of the loop over the others it is slower.
+// Module k, the asked one, after the `count` others that it reaches. It is the second to go through the steps, which therefore are compiled as
+// functions of their own: none has another's frame.
 fn evaluate_asked(
     library: &[u8],
     text: &[u8],
@@ -51,14 +55,19 @@ fn evaluate_asked(
 {
     let module = name_of_module(&work[0..t], h, k);
     let count = count + 1;
-    match evaluate(library, text, work, t, h, k, s) {
-        Stepped::Refused(number, culprit) => Ended::Refused {
+    let totals = s.totals;
+    let so_far = started(library, text, work, t, h, k);
+    match finished(library, text, work, t, h, k, so_far, totals) {
+        Made::Refused(number, culprit) => Ended::Refused {
             number,
             count,
             module,
             culprit,
         },
-        Stepped::Kept(_) => Ended::Normalised { count, last: k },
+        Made::Done(f) => {
+            kept(library, text, work, t, k, f, s);
+            Ended::Normalised { count, last: k }
+        }
     }
 }
 

@@ -1,5 +1,6 @@
 -- `evaluate_turns::evaluate_asked` meets its contract. Assumes nothing.
 use borrow.Author.Needs.{needs}
+use Rattle.evaluate_module.specs.Next.{start-room, finish-room, keep-room, steps-refused, steps-kept}
 use Rattle.evaluate_turns.specs.Turning.{asked-refused, asked-kept}
 use Rattle.evaluate_turns.proofs.evaluate_asked.Statement.{statement}
 use Rattle.evaluate_turns.proofs.evaluate_asked.Tie as tie
@@ -13,11 +14,35 @@ evaluate-asked-spec =
     (λ c. search needs)  -- part-name-of-module-end
     (λ c κs. search needs)  -- name-of-module-requires
     (λ c. search needs)  -- add-count
-    (λ c κs. search needs)  -- evaluate-requires
+    (λ c κs. search (start-room, needs))  -- started-requires
+    (λ c κs. search (finish-room, needs))  -- finished-requires
     (λ c. search needs)  -- enum-known-number
-    (λ c. search needs)  -- enum-told
+    (λ c. search needs)  -- enum-known-f
+    (λ c κs.
+    let matched = c .before .before in
+    let ended = matched .before .before .before .before in
+    let begun = ended .before .before .before .before in
+    let given = begun .before .before .before .before .before .before .before .before .before .pre in
+    keep-room _ _ _ _ _ _ (given .1 .0) (given .0 .prepared .ready) _ _ (begun .started .ensures) _ _ (ended .finished .ensures) _ (matched .f .given .1)
+    _ (search needs))  -- kept-requires
     (λ c. search needs)  -- same-length
-    (λ c. search (asked-refused, needs))  -- returns
+    (λ c.
+    let matched = c .before in
+    let ended = matched .before .before .before .before in
+    let begun = ended .before .before .before .before in
+    let named = begun .before .before .before in
+    let given = named .before .before .before .before .before .before .pre in
+    asked-refused _ _ _ _ _ _ _ (given .1 .0) _ _ _ _ (named .name-of-module .ensures)
+    (steps-refused _ _ _ _ _ _ (given .1 .0) (given .0 .prepared .ready) _ _ (begun .started .ensures) _ _ (ended .finished .ensures)
+    _ _ (matched .number .given .1)))  -- returns
     (λ c. search needs)  -- same-length-2
-    (λ c. search (asked-kept, needs))  -- returns-2
+    (λ c.
+    let stored = c .before .before in
+    let matched = stored .before .before .before in
+    let ended = matched .before .before .before .before in
+    let begun = ended .before .before .before .before in
+    let given = begun .before .before .before .before .before .before .before .before .before .pre in
+    asked-kept _ _ _ _ _ _ _ (given .1 .0) _ _
+    (steps-kept _ _ _ _ _ _ (given .1 .0) (given .0 .prepared .ready) _ _ (begun .started .ensures) _ _ (ended .finished .ensures) _ (matched .f .given .1)
+    _ _ (stored .kept .ensures)))  -- returns-2
     )

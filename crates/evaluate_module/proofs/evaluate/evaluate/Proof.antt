@@ -1,5 +1,5 @@
-use Rattle.evaluate_module.proofs.Cases.{cases}
 use borrow.Author.Needs.{needs}
+use Rattle.evaluate_module.specs.Next.{start-room, finish-room, keep-room, steps-refused, steps-kept}
 use Rattle.evaluate_module.proofs.evaluate.evaluate.Statement.{statement}
 use Rattle.evaluate_module.proofs.evaluate.evaluate.Tie as tie
 
@@ -7,18 +7,26 @@ pub evaluate-spec : {M : Type 1} → statement M
 evaluate-spec =
     tie.close
     (tie.spec
-    (λ c κs. search needs)  -- place-at-requires
-    (λ c. search needs)  -- add-place-at
-    (λ c κs. search needs)  -- place-at-requires-2
-    (λ c. search needs)  -- sub-first-checks
-    (λ c. search needs)  -- part-first-checks-start
-    (λ c. search needs)  -- part-first-checks-end
-    (λ c κs. search needs)  -- first-checks-requires
+    (λ c κs. search (start-room, needs))  -- started-requires
+    (λ c κs. search (finish-room, needs))  -- finished-requires
     (λ c. search needs)  -- enum-known-n
-    (λ c. search needs)  -- enum-told
-    (λ c κs. search needs)  -- made-requires
+    (λ c. search needs)  -- enum-known-f
+    (λ c κs.
+    let matched = c .before .before in
+    let ended = matched .before .before .before .before in
+    let begun = ended .before .before .before .before in
+    let given = begun .before .before .before .before .before .before .pre in
+    keep-room _ _ _ _ _ _ (given .0) (given .1) _ _ (begun .started .ensures) _ _ (ended .finished .ensures) _ (matched .f .given .1)
+    _ (search needs))  -- kept-requires
     (λ c. search needs)  -- same-length
-    (λ c. search cases)  -- returns
+    (λ c. search (steps-refused, needs))  -- returns
     (λ c. search needs)  -- same-length-2
-    (λ c. search cases)  -- returns-2
+    (λ c.
+    let stored = c .before .before in
+    let matched = stored .before .before .before in
+    let ended = matched .before .before .before .before in
+    let begun = ended .before .before .before .before in
+    let given = begun .before .before .before .before .before .before .pre in
+    steps-kept _ _ _ _ _ _ (given .0) (given .1) _ _ (begun .started .ensures) _ _ (ended .finished .ensures) _ (matched .f .given .1)
+    _ _ (stored .kept .ensures))  -- returns-2
     )
