@@ -1,7 +1,7 @@
 -- The ways through a binding.
 use borrow.Author.Needs.{needs}
-use Rattle.clause.specs.Either.{rows-step, note-step, binding-step, renaming-step, names-step, items-step, seen-binding, seen-renaming}
-use Rattle.clause.specs.Either.{notes-binding, notes-renaming, right-binding, right-renaming, hidden-binding, hidden-renaming}
+use Rattle.clause.specs.Either.{rows-step, note-step, names-step, items-step, seen-binding, seen-renaming}
+use Rattle.clause.specs.Either.{notes-binding, notes-renaming, right-binding, right-renaming}
 use Rattle.clause.specs.Places.{own-step}
 use Rattle.clause.specs.OwnSteps.{keep-room, own-room, own-bound}
 use Rattle.clause.specs.VisibleSteps.{slots-room, actual-room, rows-bound, note-asked}
@@ -21,7 +21,7 @@ pub ruleset whole = (seen-step, note-asked, needs)
 
 pub ruleset seen = (rows-step, names-step, items-step, seen-binding, seen-renaming, needs)
 
-pub ruleset either = (note-step, binding-step, renaming-step, notes-binding, notes-renaming, right-binding, right-renaming, hidden-binding, hidden-renaming, needs)
+pub ruleset either = (note-step, notes-binding, notes-renaming, right-binding, right-renaming, needs)
 
 -- ---- how it ends
 

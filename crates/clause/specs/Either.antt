@@ -16,12 +16,12 @@ use Rattle.form.specs.Verdicts.{told}
 use Rattle.clause_translation.specs.declared.Mode.{Mode}
 use Rattle.clause_pairs.specs.Pairs.{pairs-at}
 use Rattle.unite_items.specs.Turns.{Room}
-use Rattle.unite.specs.Rooms.{SlotsRoom, HiddenRoom, UniteRoom}
-use Rattle.unite.specs.United.{empty-in, SlotsUnited, VisibleUnited, HiddenUnited}
+use Rattle.unite.specs.Rooms.{SlotsRoom, UniteRoom}
+use Rattle.unite.specs.United.{empty-in, SlotsUnited, VisibleUnited}
 use Rattle.unite.specs.Whole.{slots-room, visible-room}
 use Rattle.clause_checks.specs.Notes.{NoteRoom, FormalsNoted}
-use Rattle.clause.specs.Rooms.{StepRoom, SeenRoom}
-use Rattle.clause.specs.Binding.{pairs-checked, RowsBound, HiddenBound}
+use Rattle.clause.specs.Rooms.{StepRoom}
+use Rattle.clause.specs.Binding.{pairs-checked, RowsBound}
 
 -- the mode of a renaming, which has no table
 pub record Renames (m : Mode) : Type 0 where
@@ -36,22 +36,11 @@ pub record SeenStep (size t : ℕ) (m : Mode) (g actual : Form) (b : Block) : Ty
 pub record NoteStep (size t : ℕ) (m : Mode) (y : Form) (notes : ℕ) : Type 0 where
   pub binds : m .kind ≡ 2 → NoteRoom size t m y notes
 
-pub record HiddenStep (size t : ℕ) (m : Mode) (g actual f : Form) (b : Block) : Type 0 where
-  pub binds : m .kind ≡ 2 → SeenRoom size t m g actual f b
-  pub renames : (m .kind ≡ 2 → ⊥) → HiddenRoom size t m g f b (b .«visible_notes»)
-
 pub rows-step : (size t : ℕ) (m : Mode) (g actual : Form) (b : Block) → SeenStep size t m g actual b → m .kind ≡ 2 → StepRoom size t m g actual b
 rows-step size t m g actual b x k = x .binds k
 
 pub note-step : (size t : ℕ) (m : Mode) (y : Form) (notes : ℕ) → NoteStep size t m y notes → m .kind ≡ 2 → NoteRoom size t m y notes
 note-step size t m y notes x k = x .binds k
-
-pub binding-step : (size t : ℕ) (m : Mode) (g actual f : Form) (b : Block) → HiddenStep size t m g actual f b → m .kind ≡ 2 → SeenRoom size t m g actual f b
-binding-step size t m g actual f b x k = x .binds k
-
-pub renaming-step : (size t : ℕ) (m : Mode) (g actual f : Form) (b : Block) → HiddenStep size t m g actual f b → (m .kind ≡ 2 → ⊥)
-    → HiddenRoom size t m g f b (b .«visible_notes»)
-renaming-step size t m g actual f b x k = x .renames k
 
 -- the parameters of a form that is renamed, and then its visible items under new names
 pub record RowsRenamed (text : List ℕ) (t : ℕ) (w : List ℕ) (m : Mode) (g : Form) (b : Block) (r : Form) (w′ : List ℕ) : Type 0 where
@@ -110,10 +99,6 @@ module _ (text : List ℕ) (t : ℕ) (w : List ℕ) (m : Mode) (g actual : Form)
         → told text r
         ≡ unless bad-renaming (wrong-renaming (items-at text (part w 0 t) w (g .visible) (g .«visible_count»)) [] (pairs-at text (part w 0 t) (m .pairs)))
 
-  pub record HiddenMade (f : Form) (b : Block) (r : Form) (w′ : List ℕ) : Type 0 where
-    pub binds : m .kind ≡ 2 → HiddenBound text t w m g actual f b r w′
-    pub renames : (m .kind ≡ 2 → ⊥) → HiddenUnited text t w m g f b (b .«visible_notes») r w′
-
   -- ---- the ways through
 
   pub right-binding : (r : Verdict) → m .kind ≡ 2 → told text r ≡ pairs-checked text (part w 0 t) w m actual → ClauseRight r
@@ -124,10 +109,3 @@ module _ (text : List ℕ) (t : ℕ) (w : List ℕ) (m : Mode) (g actual : Form)
       ≡ unless bad-renaming (wrong-renaming (items-at text (part w 0 t) w (g .visible) (g .«visible_count»)) [] (pairs-at text (part w 0 t) (m .pairs)))
       → ClauseRight r
   right-renaming r k e = record { binds = λ h. absurd (k h); renames = λ h. e }
-
-  module _ (f : Form) (b : Block) (r : Form) (w′ : List ℕ) where
-    pub hidden-binding : m .kind ≡ 2 → HiddenBound text t w m g actual f b r w′ → HiddenMade f b r w′
-    hidden-binding k e = record { binds = λ h. e; renames = λ h. absurd (h k) }
-
-    pub hidden-renaming : (m .kind ≡ 2 → ⊥) → HiddenUnited text t w m g f b (b .«visible_notes») r w′ → HiddenMade f b r w′
-    hidden-renaming k e = record { binds = λ h. absurd (k h); renames = λ h. e }

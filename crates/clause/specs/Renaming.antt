@@ -24,15 +24,15 @@ use Rattle.form.specs.Verdicts.{culprit-of, told}
 use Rattle.form_frames.specs.Changes.{onward}
 use Rattle.clause_translation.specs.declared.Mode.{Mode}
 use Rattle.clause_pairs.specs.Pairs.{pairs-at}
-use Rattle.unite.specs.Rooms.{UniteRoom}
-use Rattle.unite.specs.United.{empty-in, moved-onto, sorts, functions, United}
+use Rattle.unite.specs.Rooms.{HiddenRoom, UniteRoom}
+use Rattle.unite.specs.United.{empty-in, moved-onto, sorts, functions, HiddenUnited, United}
 use Rattle.unite.specs.Whole.{hidden-room, united}
 use Rattle.unite.specs.Standing.{empty-stands}
 use Rattle.unite.specs.Corollaries.{moved-by-renaming, united-as-is, united-stands}
 use Rattle.unite_checks.specs.Made.{makes-as, refused-makes, stops, goes-on}
 use Rattle.unite_checks.specs.Checked.{CheckRoom, CheckedForm}
 use Rattle.unite_checks.specs.Steps.{BlockRoom, MakeRoom, Renamed, RenamedForm, JoinRoom, JoinedForm}
-use Rattle.clause.specs.Either.{Renames, RowsRenamed, ClauseRight, SeenStep, SeenMade, NoteStep, NotesMade, HiddenStep, HiddenMade}
+use Rattle.clause.specs.Either.{Renames, RowsRenamed, ClauseRight, SeenStep, SeenMade, NoteStep, NotesMade}
 
 -- the modes of a renaming and of a union
 abbrev renaming-mode : ℕ → Mode
@@ -132,15 +132,12 @@ module _ (text : List ℕ) (t : ℕ) (w : List ℕ) (m : Mode) (g : Form) (b : B
       still : RowsRenamed text t w m g b seen w₃
       still = subst (RowsRenamed text t w m g b seen) (sym (q .renames no-binding)) (x .renames no-binding)
 
-      pub make-hidden : HiddenStep (length w₃) t m g g seen b
-      make-hidden = record {
-        binds = λ k. absurd (no-binding k);
-        renames = λ k. hidden-room text t w m g (empty-in b) b room (still .named) (still .between) (still .parameters) seen w₃ (still .rows);
-      }
+      pub make-hidden : HiddenRoom (length w₃) t m g seen b (b .«visible_notes»)
+      make-hidden = hidden-room text t w m g (empty-in b) b room (still .named) (still .between) (still .parameters) seen w₃ (still .rows)
 
-      module _ (u : Form) (w₄ : List ℕ) (k : HiddenMade text t w₃ m g g seen b u w₄) where
+      module _ (u : Form) (w₄ : List ℕ) (k : HiddenUnited text t w₃ m g seen b (b .«visible_notes») u w₄) where
         all : United text t w m g (empty-in b) b u w₄
-        all = united text t w m g (empty-in b) b room (still .named) (still .between) (still .parameters) seen w₃ (still .rows) u w₄ (k .renames no-binding)
+        all = united text t w m g (empty-in b) b room (still .named) (still .between) (still .parameters) seen w₃ (still .rows) u w₄ k
 
         pub make-check : CheckRoom (length w₄) t u b
         make-check = join-check text t w w₄ m g (empty-in b) u b all together

@@ -25,7 +25,7 @@ use Rattle.clause_fitting.specs.Bound.{sorts-meant, functions-meant}
 use Rattle.unite_checks.specs.Checked.{CheckRoom, CheckedForm}
 use Rattle.clause.specs.Rooms.{Binds, StepRoom, SeenRoom}
 use Rattle.clause.specs.Binding.{PairsRight, left-of, FrontBound, HiddenBound, bound-normal, BoundForm}
-use Rattle.clause.specs.Either.{SeenStep, SeenMade, NotesMade, HiddenStep, HiddenMade}
+use Rattle.clause.specs.Either.{SeenStep, SeenMade, NotesMade}
 use Rattle.clause.specs.Places.{block-laid, mode-apart, own-step}
 use Rattle.clause.specs.VisibleSteps.{front-bound}
 
@@ -50,16 +50,10 @@ module _ (text : List ℕ) (t : ℕ) (w : List ℕ) (m : Mode) (g actual : Form)
     x : FrontBound text t w m g actual b seen w₁
     x = front-bound text t w m g actual b room seen w₀ rows w₁ noted
 
-    seen-room : SeenRoom (length w₁) t m g actual seen b
-    seen-room = record { step = subst (λ (size : ℕ). StepRoom size t m g actual b) (sym (x .kept .size)) room; seen = x .seen }
+    pub hidden-step : SeenRoom (length w₁) t m g actual seen b
+    hidden-step = record { step = subst (λ (size : ℕ). StepRoom size t m g actual b) (sym (x .kept .size)) room; seen = x .seen }
 
-    pub hidden-step : HiddenStep (length w₁) t m g actual seen b
-    hidden-step = record { binds = λ k. seen-room; renames = λ k. absurd (k (room .mode .kind)) }
-
-    module _ (f : Form) (w₂ : List ℕ) (z : HiddenMade text t w₁ m g actual seen b f w₂) where
-      y : HiddenBound text t w₁ m g actual seen b f w₂
-      y = z .binds (room .mode .kind)
-
+    module _ (f : Form) (w₂ : List ℕ) (y : HiddenBound text t w₁ m g actual seen b f w₂) where
       pub check-step : CheckRoom (length w₂) t f b
       check-step = y .check
 

@@ -29,7 +29,7 @@ ghost use Rattle.form.specs.Verdicts.{told};
 ghost use Rattle.unite_checks.specs.Steps.{Bound};
 ghost use Rattle.clause.specs.Rooms.{as-is, binding-mode, OwnRoom, BindRoom, StepRoom, SeenRoom};
 ghost use Rattle.clause.specs.Binding.{named-in, pairs-checked, OwnBound, RowsBound, HiddenBound, BoundForm};
-ghost use Rattle.clause.specs.Either.{ClauseRight, SeenStep, SeenMade, NoteStep, NotesMade, HiddenStep, HiddenMade};
+ghost use Rattle.clause.specs.Either.{ClauseRight, SeenStep, SeenMade, NoteStep, NotesMade};
 
 // The mode that leaves rows as they are.
 fn as_is() -> Mode
@@ -202,30 +202,6 @@ fn bound_hidden(
     )
 }
 
-// The hidden items and the equations that a clause makes of g, by its mode: one way for both kinds of clause, so that its frame is none of
-// the others'. A renaming has no actual form.
-fn hidden_made(
-    library: &[u8],
-    text: &[u8],
-    work: &mut [u32],
-    t: usize,
-    m: Mode,
-    g: Form,
-    actual: Form,
-    f: Form,
-    b: Block,
-) -> Form
-    requires { ⌜ HiddenStep (length (now work)) t m g actual f b ⌝ }
-    ensures { λ r. ⌜ HiddenMade (joint (now (library .entry)) (now (text .entry))) t (now (work .entry)) m g actual f b r (now (work .exit)) ⌝ }
-{
-    let kind = m.kind;
-    if kind == modes::BINDING {
-        return bound_hidden(library, text, work, t, m, g, actual, f, b);
-    }
-    let notes = b.visible_notes;
-    unite_hidden(library, text, work, t, m, g, f, b, notes)
-}
-
 // g with its formal items replaced, united with the actual form.
 fn bound(
     library: &[u8],
@@ -243,7 +219,7 @@ fn bound(
     let seen = seen_made(library, text, work, t, m, g, actual, b);
     let notes = b.visible_notes;
     formals_noted(library, text, work, t, m, seen, notes);
-    let f = hidden_made(library, text, work, t, m, g, actual, seen, b);
+    let f = bound_hidden(library, text, work, t, m, g, actual, seen, b);
     checked(library, text, work, t, f, b)
 }
 

@@ -1,7 +1,6 @@
 // A form renamed, 14, and a form united with another: each is made in a block, and checked.
 use super::clause_right;
 use super::formals_noted;
-use super::hidden_made;
 use super::seen_made;
 use clause_translation::Mode;
 use clause_translation::modes;
@@ -10,6 +9,7 @@ use form::Form;
 use form::Made;
 use form::Verdict;
 use unite::unite;
+use unite::unite_hidden;
 use unite_checks::checked::checked;
 ghost use lib.ListN.{length};
 ghost use Rattle.text_names.specs.Joint.{joint};
@@ -33,7 +33,7 @@ fn renamed(
     let seen = seen_made(library, text, work, t, m, g, g, b);
     let notes = b.visible_notes;
     formals_noted(library, text, work, t, m, seen, notes);
-    let f = hidden_made(library, text, work, t, m, g, g, seen, b);
+    let f = unite_hidden(library, text, work, t, m, g, seen, b, notes);
     checked(library, text, work, t, f, b)
 }
 

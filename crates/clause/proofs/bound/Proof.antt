@@ -16,14 +16,14 @@ bound-spec =
     let noted = c .before .before .before in
     let seen = noted .before .before .before .before in
     let start = seen .before .before .before .before .before in
-    hidden-step _ _ _ _ _ _ _ (start .pre) _ _ (seen .seen-made .ensures) _ (noted .formals-noted .ensures))  -- hidden-made-requires
+    hidden-step _ _ _ _ _ _ _ (start .pre) _ _ (seen .seen-made .ensures) _ (noted .formals-noted .ensures))  -- bound-hidden-requires
     (λ c κs.
     let hidden = c .before .before .before in
     let noted = hidden .before .before .before .before in
     let seen = noted .before .before .before .before in
     let start = seen .before .before .before .before .before in
     check-step _ _ _ _ _ _ _ (start .pre) _ _ (seen .seen-made .ensures) _ (noted .formals-noted .ensures) _ _
-    (hidden .hidden-made .ensures))  -- checked-requires
+    (hidden .bound-hidden .ensures))  -- checked-requires
     (λ c. search needs)  -- same-length
     (λ c.
     let checked = c .before .before in
@@ -31,6 +31,6 @@ bound-spec =
     let noted = hidden .before .before .before .before in
     let seen = noted .before .before .before .before in
     let start = seen .before .before .before .before .before in
-    bound-form _ _ _ _ _ _ _ (start .pre) _ _ (seen .seen-made .ensures) _ (noted .formals-noted .ensures) _ _ (hidden .hidden-made .ensures) _ _
+    bound-form _ _ _ _ _ _ _ (start .pre) _ _ (seen .seen-made .ensures) _ (noted .formals-noted .ensures) _ _ (hidden .bound-hidden .ensures) _ _
     (checked .checked .ensures))  -- returns
     )

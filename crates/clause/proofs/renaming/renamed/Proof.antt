@@ -14,14 +14,14 @@ renamed-spec =
     let noted = c .before .before .before in
     let seen = noted .before .before .before .before in
     let start = seen .before .before .before .before .before in
-    make-hidden _ _ _ _ _ _ (start .pre .0) (start .pre .1) _ _ (seen .seen-made .ensures) _ (noted .formals-noted .ensures))  -- hidden-made-requires
+    make-hidden _ _ _ _ _ _ (start .pre .0) (start .pre .1) _ _ (seen .seen-made .ensures) _ (noted .formals-noted .ensures))  -- unite-hidden-requires
     (λ c κs.
     let hidden = c .before .before .before in
     let noted = hidden .before .before .before .before in
     let seen = noted .before .before .before .before in
     let start = seen .before .before .before .before .before in
     make-check _ _ _ _ _ _ (start .pre .0) (start .pre .1) _ _ (seen .seen-made .ensures) _ (noted .formals-noted .ensures) _ _
-    (hidden .hidden-made .ensures))  -- checked-requires
+    (hidden .unite-hidden .ensures))  -- checked-requires
     (λ c. search needs)  -- same-length
     (λ c.
     let checked = c .before .before in
@@ -30,5 +30,5 @@ renamed-spec =
     let seen = noted .before .before .before .before in
     let start = seen .before .before .before .before .before in
     renamed-made _ _ _ _ _ _ (start .pre .0) (start .pre .1) _ _ (seen .seen-made .ensures) _ (noted .formals-noted .ensures) _ _
-    (hidden .hidden-made .ensures) _ _ (checked .checked .ensures))  -- returns
+    (hidden .unite-hidden .ensures) _ _ (checked .checked .ensures))  -- returns
     )
