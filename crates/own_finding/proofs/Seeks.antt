@@ -2,7 +2,8 @@
 use mathlib.Core.Path.{_≡_, refl, sym, ap, _∙_}
 use mathlib.Core.Bool.{Bool, true, false}
 use mathlib.Core.List.{List, map}
-use Prim.Native.Nat.{ℕ, _+_, _-_, _*_, _<_, _≤_, min}
+use Prim.Native.Nat.{ℕ, zero, suc, _+_, _-_, _*_, _<_, _≤_, min}
+use native.Mathlib.Nat.{add-zero}
 use native.Mathlib.Omega.{arith}
 use lib.Dec.{eqb}
 use lib.ListN.{length, getD, take, length-take, length-map}
@@ -15,11 +16,46 @@ use Rattle.meaning.specs.Normal.{is-called}
 use Rattle.meaning.specs.Typing.{takes, is-variable}
 use Rattle.text_names.specs.Word.{name-of}
 use Rattle.form_rows.specs.declared.Row.{Row}
-use Rattle.form_rows.specs.Rows.{sort-of, type-of, shape-of, item-of, row-at, row-size}
+use Rattle.form_rows.specs.Rows.{sort-of, type-of, shape-of, item-of, words-from, row-at, row-size}
 use Rattle.form_walks.specs.Shapes.{shape-function, by-kind}
 use Rattle.form_walks.specs.Rows.{find-start, find-end, find-again, find-here}
 use Rattle.own_finding.specs.Known.{variable-called, function-called}
-use Rattle.form_rows.specs.RowLaws.{take-nine, agree-lengths}
+use Rattle.form_rows.specs.RowLaws.{length-words, take-nine, agree-lengths}
+use Rattle.form_rows.proofs.Auto.{on, done}
+use Rattle.form_comparing.proofs.Alike.{AgreeFrom, agree-on, agree-off, agree-all}
+
+-- ---- the sorts of one row: those before j are the first of a
+
+word-read : (w : List ℕ) (b c i : ℕ) → i < c → getD (words-from w b c) i 0 ≡ getD w (b + i) 0
+unfolding words-from
+word-read w b zero i h = absurd (omega arith)
+word-read w b (suc c) zero h = rw (add-zero b)
+word-read w b (suc c) (suc i) h = let e : b + suc i ≡ suc b + i = omega arith in rw e (word-read w (suc b) c i (omega arith))
+
+nine-sorts : (w : List ℕ) (p : ℕ) → length (row-at w p .sorts) ≡ 9
+unfolding row-at
+nine-sorts w p = length-words w (p + 6) 9
+
+module _ (text tape w a : List ℕ) (p n : ℕ) where
+  -- what is left to compare
+  abbrev pub SortsFrom : ℕ → Bool
+  SortsFrom j = AgreeFrom text tape a (row-at w p .sorts) n j
+
+  module _ (j : ℕ) (la : length a ≡ 9) where
+    pub sorts-all : n ≤ j → SortsFrom j ≡ true
+    sorts-all h = agree-all text tape a (row-at w p .sorts) n j la (nine-sorts w p) h
+
+    module _ (h : j < n) (k : n ≤ 9) (q v : ℕ) (e : q ≡ p + 6) (f : v ≡ getD w (q + j) 0) (r : Bool)
+        (t : r ≡ same-sort (sort-of text tape (getD a j 0)) (sort-of text tape v)) where
+      there : r ≡ same-sort (sort-of text tape (getD a j 0)) (sort-of text tape (getD (row-at w p .sorts) j 0))
+      unfolding row-at
+      there = rw (word-read w (p + 6) 9 j (omega arith), ← e, ← f) t
+
+      pub sorts-on : r ≡ true → SortsFrom j ≡ SortsFrom (j + 1)
+      sorts-on g = agree-on text tape a (row-at w p .sorts) n j la (nine-sorts w p) h (omega arith) r there g
+
+      pub sorts-off : r ≡ false → SortsFrom j ≡ false
+      sorts-off g = agree-off text tape a (row-at w p .sorts) n j la (nine-sorts w p) h (omega arith) r there g
 
 -- ---- one row
 
@@ -42,7 +78,7 @@ module _ (text tape : List ℕ) (kind : ℕ) (b a : List ℕ) (n : ℕ) where
   abbrev taken : Bool
   taken = takes (map (sort-of text tape) (take n a)) (shape-of text tape kind b)
 
-  pub takes-none : kind < 2 → false ≡ taken
+  takes-none : kind < 2 → false ≡ taken
   unfolding takes
   takes-none h =
       by-kind text tape kind b (λ (s : Shape). false ≡ takes (map (sort-of text tape) (take n a)) s) (λ e. refl) (λ e. refl) (λ l. absurd (omega (arith, h, l)))
@@ -51,7 +87,7 @@ module _ (text tape : List ℕ) (kind : ℕ) (b a : List ℕ) (n : ℕ) where
     function-here : shape-of text tape kind b ≡ function-shape (type-of text tape (kind - 2) b)
     function-here = shape-function text tape kind b h
 
-    pub takes-fewer : (m ≡ n → ⊥) → false ≡ taken
+    takes-fewer : (m ≡ n → ⊥) → false ≡ taken
     unfolding takes type-of
     takes-fewer d =
         let s = sort-of text tape in
@@ -59,7 +95,7 @@ module _ (text tape : List ℕ) (kind : ℕ) (b a : List ℕ) (n : ℕ) where
         let y : length (map s (take (kind - 2) b)) ≡ m = length-map (take (kind - 2) b) s ∙ omega (arith, length-take (kind - 2) b) in
         rw (function-here, agree-lengths same-sort (map s (take n a)) (map s (take (kind - 2) b)) (λ q. d (sym (sym x ∙ q ∙ y))))
 
-    pub takes-told : (r : Bool) → m ≡ n → r ≡ agree same-sort (map (sort-of text tape) (take n a)) (map (sort-of text tape) (take n b)) → r ≡ taken
+    takes-told : (r : Bool) → m ≡ n → r ≡ agree same-sort (map (sort-of text tape) (take n a)) (map (sort-of text tape) (take n b)) → r ≡ taken
     unfolding takes type-of
     takes-told r d t =
         let y : take n b ≡ take (kind - 2) b = ap (λ (i : ℕ). take i b) (sym d ∙ e) ∙ take-nine (kind - 2) b lb in
@@ -100,11 +136,27 @@ module _ (text tape w : List ℕ) (a b i v : ℕ) (c : Bool) (e : v ≡ getD w (
     pub function-off : c ≡ false → false ≡ such-there
     function-off h = function-other text tape a sorts n row c called h
 
-    pub function-there : (y : Row) (r : Bool) → y ≡ row → c ≡ true → r ≡ takes (map (sort-of text tape) (take n sorts)) (shape-of text tape (y .kind) (y .sorts))
-        → r ≡ such-there
-    function-there y r g h t = function-told text tape a sorts n row c called r h (rw g at t)
+    module _ (h : c ≡ true) (kind : ℕ) (g : kind ≡ getD w (b + i * row-size + 2) 0) where
+      kind-there : row .kind ≡ kind
+      unfolding row-at
+      kind-there = sym g
+
+      told : (r : Bool) → r ≡ takes (map (sort-of text tape) (take n sorts)) (shape-of text tape kind (row .sorts)) → r ≡ such-there
+      told r t = function-told text tape a sorts n row c called r h (rw kind-there t)
+
+      pub function-none : kind < 2 → false ≡ such-there
+      function-none l = told false (takes-none text tape kind (row .sorts) sorts n l)
+
+      module _ (l : 2 ≤ kind) (la : length sorts ≡ 9) (k : n ≤ 9) (m : ℕ) (q : m ≡ min (kind - 2) 9) where
+        pub function-fewer : (m ≡ n → ⊥) → false ≡ such-there
+        function-fewer d = told false (takes-fewer text tape kind (row .sorts) sorts n l la (nine-sorts w (b + i * row-size)) k m q d)
+
+        pub function-there : (r : Bool) → m ≡ n → r ≡ SortsFrom text tape w sorts (b + i * row-size) n 0 → r ≡ such-there
+        function-there r d t = told r (takes-told text tape kind (row .sorts) sorts n l la (nine-sorts w (b + i * row-size)) k m q r d t)
 
 -- what the answers of the search hand to `search`
-pub ruleset tests = (variable-off, variable-there, takes-none, takes-fewer, takes-told, function-off, function-there, needs)
+pub ruleset tests = (variable-off, variable-there, function-off, function-none, function-fewer, function-there, needs)
+
+pub ruleset sorts-turn = (on, done, sorts-on, sorts-off, sorts-all, needs)
 
 pub ruleset seeks = (find-start, find-again, find-end, find-here, needs)

@@ -1,20 +1,19 @@
 // The first known item that a name can be: a variable, or a function that takes given sorts.
 use form_comparing::sorts::inputs_of;
-use form_comparing::sorts::same_sorts;
+use form_comparing::sorts::same_sort;
 use form_rows::ROW_STEP;
 use form_rows::entries::same_word;
 use form_rows::entries::word_at;
 use form_rows::kinds;
-use form_rows::rows::read_row;
 ghost use mathlib.Core.Path.{_≡_};
 ghost use mathlib.Core.List.{map};
 ghost use Prim.Native.Nat.{_+_, _*_, _≤_};
 ghost use lib.ListN.{length, getD, take};
-ghost use Rattle.meaning.specs.Lists.{before};
-ghost use Rattle.meaning.specs.Typing.{takes};
+ghost use Rattle.meaning.specs.Lists.{before, agree};
+ghost use Rattle.meaning.specs.Origins.{same-sort};
 ghost use Rattle.text_names.specs.Word.{name-of};
 ghost use Rattle.text_names.specs.Joint.{joint};
-ghost use Rattle.form_rows.specs.Rows.{sort-of, shape-of, item-of, row-at, row-size};
+ghost use Rattle.form_rows.specs.Rows.{sort-of, item-of, row-at, row-size};
 ghost use Rattle.form.specs.Memory.{part};
 ghost use Rattle.form.specs.Forms.{items-at};
 ghost use Rattle.own_finding.specs.Known.{variable-called, function-called};
@@ -45,27 +44,31 @@ fn is_such_variable(
     false
 }
 
-// Does an item of the kind and the sorts b take arguments of the first n sorts of a?
+// Are the first n sorts of row i of those from b on the given ones, in turn? They are compared where they lie.
 fn takes(
     library: &[u8],
     text: &[u8],
-    tape: &[u32],
-    kind: u32,
-    b: [u32; 9],
-    a: [u32; 9],
+    work: &[u32],
+    t: usize,
+    b: u32,
+    i: u32,
+    sorts: [u32; 9],
     n: usize,
 ) -> bool
-    requires { ⌜ n ≤ 9 ⌝ }
-    ensures { λ r. ⌜ r ≡ takes (map (sort-of (joint (now (library .entry)) (now (text .entry))) (now (tape .entry))) (take n a)) (shape-of (joint (now (library .entry)) (now (text .entry))) (now (tape .entry)) kind b) ⌝ }
+    requires { ⌜ (t ≤ length (now work)) × (n ≤ 9) ⌝ }
+    ensures { λ r. ⌜ r ≡ agree same-sort (map (sort-of (joint (now (library .entry)) (now (text .entry))) (part (now (work .entry)) 0 t)) (take n sorts)) (map (sort-of (joint (now (library .entry)) (now (text .entry))) (part (now (work .entry)) 0 t)) (take n (row-at (now (work .entry)) (b + i * row-size) .sorts))) ⌝ }
 {
-    if kind < kinds::FUNCTION {
-        return false;
+    let place = b as usize + i as usize * ROW_STEP + 6;
+    let mut j = 0;
+    while j < n {
+        let own = word_at(work, place + j);
+        if same_sort(library, text, &work[0..t], sorts[j], own) {
+            j += 1;
+        } else {
+            return false;
+        }
     }
-    let inputs = inputs_of(kind);
-    if inputs != n {
-        return false;
-    }
-    same_sorts(library, text, tape, a, b, n)
+    true
 }
 
 // Is row i of those from b on a function called w that takes the first n sorts?
@@ -84,10 +87,14 @@ fn is_such_function(
     ensures { λ r. ⌜ r ≡ function-called (name-of (joint (now (library .entry)) (now (text .entry))) w) (map (sort-of (joint (now (library .entry)) (now (text .entry))) (part (now (work .entry)) 0 t)) (take n sorts)) (item-of (joint (now (library .entry)) (now (text .entry))) (part (now (work .entry)) 0 t) (row-at (now (work .entry)) (b + i * row-size))) ⌝ }
 {
     if same_word(library, text, w, row_name(work, b, i)) {
-        let row = read_row(work, b, i);
-        let kind = row.kind;
-        let own = row.sorts;
-        return takes(library, text, &work[0..t], kind, own, sorts, n);
+        let kind = word_at(work, b as usize + i as usize * ROW_STEP + 2);
+        if kind < kinds::FUNCTION {
+            return false;
+        }
+        if inputs_of(kind) != n {
+            return false;
+        }
+        return takes(library, text, work, t, b, i, sorts, n);
     }
     false
 }

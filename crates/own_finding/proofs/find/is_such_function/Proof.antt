@@ -11,11 +11,14 @@ is-such-function-spec =
     (tie.spec
     (λ c κs. search needs)  -- row-name-requires
     (λ c κs. search needs)  -- same-word-requires
-    (λ c κs. search needs)  -- read-row-requires
-    (λ c. search needs)  -- sub-takes
-    (λ c. search needs)  -- part-takes-start
-    (λ c. search needs)  -- part-takes-end
-    (λ c κs. search needs)  -- takes-requires
+    (λ c. search needs)  -- mul-word-at
+    (λ c. search needs)  -- add-word-at
+    (λ c. search needs)  -- add-word-at-2
+    (λ c κs. search needs)  -- word-at-requires
     (λ c. search tests)  -- returns
+    (λ c κs. search needs)  -- inputs-of-requires
     (λ c. search tests)  -- returns-2
+    (λ c κs. search needs)  -- takes-requires
+    (λ c. search tests)  -- returns-3
+    (λ c. search tests)  -- returns-4
     )
