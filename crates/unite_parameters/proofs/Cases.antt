@@ -8,10 +8,10 @@ use lib.Dec.{ltb}
 use lib.ListN.{getD, take}
 use borrow.Author.Needs.{needs}
 use borrow.Author.Tests.{eq-eqb, ne-eqb, lt-ltb, le-ltb}
-use Rattle.meaning.specs.Lists.{pick, any, before, all-among}
+use Rattle.meaning.specs.Lists.{pick, any, before}
 use Rattle.meaning.specs.Names.{Name}
 use Rattle.meaning.specs.Origins.{same-origin, FunctionType, Shape, Item, in-parameter, one-item}
-use Rattle.meaning.specs.Normal.{Visible, origin-of, formals, same-slot, origins-agree, sort-agrees, shape-agrees, types-agree, same-formals, is-parameter-of}
+use Rattle.meaning.specs.Normal.{Visible, origin-of, same-slot, origins-agree, sort-agrees, shape-agrees, same-formals, is-parameter-of}
 use Rattle.text_names.specs.Word.{name-of}
 use Rattle.form_rows.specs.declared.Row.{Row}
 use Rattle.form_rows.specs.Rows.{section-of, origin-of as row-origin, sort-of, type-of, shape-of, item-of, row-at, row-size}
@@ -22,78 +22,73 @@ use Rattle.clause_checks.specs.SortOrigins.{origin-among, origin-there, origin-
 use Rattle.form_walks.specs.Shapes.{shape-function, by-kind}
 use Rattle.form_walks.specs.Rows.{Finding, find-start, find-again, nowhere, somewhere, found-below}
 use Rattle.clause_checks.specs.Walks.{all-pass, inputs-pass, fitting-start, fitting-again, fitting-not, fitting-all, fitting-end}
-use Rattle.unite_parameters.specs.Formals.{missing, at-odds, none-missing, none-at-odds}
+use Rattle.unite_parameters.specs.Formals.{other, formals-among, none-other, same-both}
 
--- ---- a row that stands in the parameter
+-- ---- the rows that stand in the parameter
 
-module _ (text tape : List ℕ) (p : ℕ) (x : Row) (b : Bool) (e : b ≡ in-parameter (name-of text p) (section-of text (x .standing))) where
-  abbrev item : Item
-  item = item-of text tape x
+module _ (text tape w : List ℕ) (p : ℕ) (f g : Form) (typed : Bool) where
+  abbrev same-type : Shape → Bool
+  same-type s = shape-agrees (visible-at text tape w f) (visible-at text tape w g) s
 
-  standing : in-parameter (name-of text p) (item .standing) ≡ b
-  unfolding item-of
-  standing = sym e
+  abbrev test : Item → Bool
+  test = other typed (name-of text p) (visible-at text tape w f) (visible-at text tape w g)
 
-  module _ (w : List ℕ) (base count : ℕ) where
-    abbrev others : List Item
-    others = items-at text tape w base count
+  module _ (x : Row) (b : Bool) (e : b ≡ in-parameter (name-of text p) (section-of text (x .standing))) where
+    abbrev item : Item
+    item = item-of text tape x
 
-    abbrev lost : Bool
-    lost = missing (name-of text p) others item
+    abbrev shape : Shape
+    shape = shape-of text tape (x .kind) (x .sorts)
 
-    pub missing-elsewhere : b ≡ false → false ≡ lost
-    unfolding missing pick
-    missing-elsewhere h = rw (standing, h)
+    pub other-elsewhere : b ≡ false → false ≡ test item
+    unfolding other pick item-of
+    other-elsewhere h = rw (← e, h)
 
-    module _ (at : ℕ) (h : b ≡ true) (f : at ≡ before (one-item item) others) where
-      sought : lost ≡ not (ltb at count)
-      unfolding missing pick
-      sought = rw (standing, h) (ap not (sym (found-below text tape w base count at (one-item item) f)))
+    module _ (at : ℕ) (h : b ≡ true) (q : at ≡ before (one-item item) (items-at text tape w (g .visible) (g .«visible_count»))) where
+      below : any (one-item item) (visible-at text tape w g .items) ≡ ltb at (g .«visible_count»)
+      unfolding visible-at
+      below = sym (found-below text tape w (g .visible) (g .«visible_count») at (one-item item) q)
 
-      pub missing-not : at < count → false ≡ lost
-      missing-not l = sym (sought ∙ ap not (lt-ltb at count l))
+      sought : test item ≡ pick (ltb at (g .«visible_count»)) (pick typed (not (same-type shape)) false) true
+      unfolding other pick item-of
+      sought = rw (← e, h) (ap (λ (c : Bool). pick c (pick typed (not (same-type shape)) false) true) below)
 
-      pub missing-one : count ≤ at → true ≡ lost
-      missing-one l = sym (sought ∙ ap not (le-ltb at count l))
+      pub other-missing : g .«visible_count» ≤ at → true ≡ test item
+      unfolding pick
+      other-missing l = rw (sought, le-ltb at (g .«visible_count») l)
 
--- ---- all rows: those before i do not pass the test
+      module _ (l : at < g .«visible_count») where
+        had : test item ≡ pick typed (not (same-type shape)) false
+        unfolding pick
+        had = rw (sought, lt-ltb at (g .«visible_count») l)
 
-module _ (text tape w : List ℕ) (p : ℕ) (f g : Form) (i : ℕ) where
-  abbrev name : Name
-  name = name-of text p
+        pub other-untyped : typed ≡ false → false ≡ test item
+        unfolding pick
+        other-untyped k = rw (had, k)
 
-  abbrev one : Visible
-  one = visible-at text tape w f
+        pub other-same : (r : Bool) → typed ≡ true → r ≡ same-type shape → r ≡ true → false ≡ test item
+        unfolding pick
+        other-same r k d z = rw (had, k, ← d, z)
 
-  abbrev other : Visible
-  other = visible-at text tape w g
+        pub other-changed : (r : Bool) → typed ≡ true → r ≡ same-type shape → r ≡ false → true ≡ test item
+        unfolding pick
+        other-changed r k d z = rw (had, k, ← d, z)
 
-  module _ (inv : Finding (missing name (items-at text tape w (g .visible) (g .«visible_count»))) text tape w (f .visible) (f .«visible_count») i) where
-    abbrev test : Item → Bool
-    test = missing name (items-at text tape w (g .visible) (g .«visible_count»))
+  -- all of them: those before i do not pass the test
+  module _ (i : ℕ) (inv : Finding test text tape w (f .visible) (f .«visible_count») i) where
+    abbrev all : Bool
+    all = formals-among typed (name-of text p) (visible-at text tape w f) (visible-at text tape w g)
 
-    among : not (any test (items-at text tape w (f .visible) (f .«visible_count»))) ≡ all-among one-item (formals name one) (formals name other)
+    among : not (any test (items-at text tape w (f .visible) (f .«visible_count»))) ≡ all
     unfolding visible-at
-    among = none-missing name one other
+    among = none-other (name-of text p) typed (visible-at text tape w f) (visible-at text tape w g)
 
-    pub among-all : f .«visible_count» ≤ i → true ≡ all-among one-item (formals name one) (formals name other)
+    pub among-all : f .«visible_count» ≤ i → true ≡ all
     among-all h = ap not (nowhere test text tape w (f .visible) (f .«visible_count») i h inv) ∙ among
 
     pub among-not : (y : Row) (r : Bool) → i < f .«visible_count» → y ≡ row-at w (f .visible + i * row-size) → r ≡ test (item-of text tape y) → r ≡ true
-        → false ≡ all-among one-item (formals name one) (formals name other)
+        → false ≡ all
     among-not y r h e q z = ap not (somewhere test text tape w (f .visible) (f .«visible_count») i y r h inv e q z) ∙ among
-
-  module _ (inv : Finding (at-odds name one other) text tape w (f .visible) (f .«visible_count») i) where
-    agreeing : not (any (at-odds name one other) (items-at text tape w (f .visible) (f .«visible_count»))) ≡ types-agree name one other
-    unfolding visible-at
-    agreeing = none-at-odds name one other
-
-    pub types-all : f .«visible_count» ≤ i → true ≡ types-agree name one other
-    types-all h = ap not (nowhere (at-odds name one other) text tape w (f .visible) (f .«visible_count») i h inv) ∙ agreeing
-
-    pub types-not : (y : Row) (r : Bool) → i < f .«visible_count» → y ≡ row-at w (f .visible + i * row-size) → r ≡ at-odds name one other (item-of text tape y)
-        → r ≡ true → false ≡ types-agree name one other
-    types-not y r h e q z = ap not (somewhere (at-odds name one other) text tape w (f .visible) (f .«visible_count») i y r h inv e q z) ∙ agreeing
 
 -- ---- the sort of one name in both
 
@@ -163,19 +158,12 @@ module _ (text tape : List ℕ) (u v : Visible) where
 
 -- ---- the parameter in both
 
-module _ (p : Name) (u v : Visible) (a : Bool) (e : a ≡ all-among one-item (formals p u) (formals p v)) where
+module _ (p : Name) (u v : Visible) (a : Bool) (e : a ≡ formals-among true p u v) where
   pub formals-not : a ≡ false → false ≡ same-formals p u v
-  unfolding same-formals
-  formals-not h = rw (← e, h)
+  formals-not h = rw (same-both p u v, ← e, h)
 
-  module _ (h : a ≡ true) (b : Bool) (f : b ≡ all-among one-item (formals p v) (formals p u)) where
-    pub formals-back : b ≡ false → false ≡ same-formals p u v
-    unfolding same-formals
-    formals-back q = rw (← e, h, ← f, q)
-
-    pub formals-types : (r : Bool) → b ≡ true → r ≡ types-agree p u v → r ≡ same-formals p u v
-    unfolding same-formals
-    formals-types r q g = rw (← e, h, ← f, q) g
+  pub formals-back : (r : Bool) → a ≡ true → r ≡ formals-among false p v u → r ≡ same-formals p u v
+  formals-back r h q = rw (same-both p u v, ← e, h) q
 
 -- ---- whether it is one of f's
 
@@ -200,12 +188,12 @@ module _ (text tape w : List ℕ) (f : Form) (v : Visible) (q : ℕ) (b : Bool)
   unfolding is-parameter-of
   parameter-one p r h g k = rw (← there, h) (k ∙ ap (λ (a : Name). same-formals a (visible-at text tape w f) v) (named p g))
 
-pub ruleset rows = (missing-elsewhere, missing-not, missing-one, needs)
+pub ruleset rows = (other-elsewhere, other-missing, other-untyped, other-same, other-changed, needs)
 
-pub ruleset walks = (find-start, find-again, among-all, among-not, types-all, types-not, needs)
+pub ruleset walks = (find-start, find-again, among-all, among-not, needs)
 
 pub ruleset sorts = (agree-both, agree-first, agree-none, sort-visible, sort-hidden, shape-other, shape-output, shape-inputs, needs)
 
 pub ruleset fittings = (fitting-start, fitting-again, fitting-not, fitting-all, fitting-end, needs)
 
-pub ruleset both = (formals-not, formals-back, formals-types, parameter-none, parameter-one, needs)
+pub ruleset both = (formals-not, formals-back, parameter-none, parameter-one, needs)

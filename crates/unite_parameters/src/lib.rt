@@ -13,60 +13,14 @@ use unite_slots::has_slot;
 ghost use mathlib.Core.Path.{_≡_};
 ghost use Prim.Native.Nat.{_-_, _^_, _≤_};
 ghost use lib.ListN.{length, take};
-ghost use Rattle.meaning.specs.Lists.{all-among};
-ghost use Rattle.meaning.specs.Origins.{one-item};
-ghost use Rattle.meaning.specs.Normal.{origin-of, formals, origins-agree, sort-agrees, shape-agrees, types-agree, same-formals, is-parameter-of};
+ghost use Rattle.meaning.specs.Normal.{origin-of, origins-agree, sort-agrees, shape-agrees, same-formals, is-parameter-of};
 ghost use Rattle.text_names.specs.Word.{name-of};
 ghost use Rattle.text_names.specs.Joint.{joint};
 ghost use Rattle.form_rows.specs.Rows.{sort-of, shape-of, item-of};
 ghost use Rattle.form.specs.Memory.{part};
-ghost use Rattle.form.specs.Forms.{slot-at, items-at, visible-at};
+ghost use Rattle.form.specs.Forms.{slot-at, visible-at};
 ghost use Rattle.clause_checks.specs.Walks.{inputs-pass};
-ghost use Rattle.unite_parameters.specs.Formals.{missing, at-odds};
-
-// Stands the row in the parameter p, and is it one with no row of g?
-fn is_missing(
-    library: &[u8],
-    text: &[u8],
-    work: &[u32],
-    t: usize,
-    p: u32,
-    row: Row,
-    g: Form,
-) -> bool
-    requires { ⌜ t ≤ length (now work) ⌝ }
-    ensures { λ r. ⌜ r ≡ missing (name-of (joint (now (library .entry)) (now (text .entry))) p) (items-at (joint (now (library .entry)) (now (text .entry))) (part (now (work .entry)) 0 t) (now (work .entry)) (g .visible) (g .«visible_count»)) (item-of (joint (now (library .entry)) (now (text .entry))) (part (now (work .entry)) 0 t) row) ⌝ }
-{
-    let standing = row.standing;
-    if in_parameter(library, text, p, standing) {
-        let base = g.visible;
-        let count = g.visible_count;
-        let at = find_item(library, text, work, t, base, count, row);
-        if at < count {
-            return false;
-        }
-        return true;
-    }
-    false
-}
-
-// Is each row of f that stands in the parameter p one with a row of g?
-fn all_among(library: &[u8], text: &[u8], work: &[u32], t: usize, p: u32, f: Form, g: Form) -> bool
-    requires { ⌜ t ≤ length (now work) ⌝ }
-    ensures { λ r. ⌜ r ≡ all-among one-item (formals (name-of (joint (now (library .entry)) (now (text .entry))) p) (visible-at (joint (now (library .entry)) (now (text .entry))) (part (now (work .entry)) 0 t) (now (work .entry)) f)) (formals (name-of (joint (now (library .entry)) (now (text .entry))) p) (visible-at (joint (now (library .entry)) (now (text .entry))) (part (now (work .entry)) 0 t) (now (work .entry)) g)) ⌝ }
-{
-    let base = f.visible;
-    let count = f.visible_count;
-    let mut i = 0;
-    while i < count {
-        let row = read_row(work, base, i);
-        if is_missing(library, text, work, t, p, row, g) {
-            return false;
-        }
-        i += 1;
-    }
-    true
-}
+ghost use Rattle.unite_parameters.specs.Formals.{other, formals-among};
 
 // Have f and g the sort called a from one place, where both have it?
 fn origins_agree(
@@ -169,8 +123,8 @@ fn shape_agrees(
     false
 }
 
-// Stands the row in the parameter p, with a type that is not the same?
-fn is_at_odds(
+// Stands the row of f in the parameter p, and is it one with no row of g, or, where `typed` says so, of a type that is not the same in both?
+fn is_other(
     library: &[u8],
     text: &[u8],
     work: &[u32],
@@ -179,13 +133,23 @@ fn is_at_odds(
     f: Form,
     g: Form,
     row: Row,
+    typed: bool,
 ) -> bool
     requires { ⌜ t ≤ length (now work) ⌝ }
-    ensures { λ r. ⌜ r ≡ at-odds (name-of (joint (now (library .entry)) (now (text .entry))) p) (visible-at (joint (now (library .entry)) (now (text .entry))) (part (now (work .entry)) 0 t) (now (work .entry)) f) (visible-at (joint (now (library .entry)) (now (text .entry))) (part (now (work .entry)) 0 t) (now (work .entry)) g) (item-of (joint (now (library .entry)) (now (text .entry))) (part (now (work .entry)) 0 t) row) ⌝ }
+    ensures { λ r. ⌜ r ≡ other typed (name-of (joint (now (library .entry)) (now (text .entry))) p) (visible-at (joint (now (library .entry)) (now (text .entry))) (part (now (work .entry)) 0 t) (now (work .entry)) f) (visible-at (joint (now (library .entry)) (now (text .entry))) (part (now (work .entry)) 0 t) (now (work .entry)) g) (item-of (joint (now (library .entry)) (now (text .entry))) (part (now (work .entry)) 0 t) row) ⌝ }
 {
     let standing = row.standing;
     if in_parameter(library, text, p, standing) {
-        if shape_agrees(library, text, work, t, f, g, row) {
+        let base = g.visible;
+        let count = g.visible_count;
+        let at = find_item(library, text, work, t, base, count, row);
+        if at < count {
+            if typed {
+                if shape_agrees(library, text, work, t, f, g, row) {
+                    return false;
+                }
+                return true;
+            }
             return false;
         }
         return true;
@@ -193,8 +157,8 @@ fn is_at_odds(
     false
 }
 
-// Are the types of all rows of f that stand in the parameter p the same in f and g?
-fn types_agree(
+// Is each row of f that stands in the parameter p one with a row of g and, where `typed` says so, of a type that is the same in both?
+fn all_among(
     library: &[u8],
     text: &[u8],
     work: &[u32],
@@ -202,16 +166,17 @@ fn types_agree(
     p: u32,
     f: Form,
     g: Form,
+    typed: bool,
 ) -> bool
     requires { ⌜ t ≤ length (now work) ⌝ }
-    ensures { λ r. ⌜ r ≡ types-agree (name-of (joint (now (library .entry)) (now (text .entry))) p) (visible-at (joint (now (library .entry)) (now (text .entry))) (part (now (work .entry)) 0 t) (now (work .entry)) f) (visible-at (joint (now (library .entry)) (now (text .entry))) (part (now (work .entry)) 0 t) (now (work .entry)) g) ⌝ }
+    ensures { λ r. ⌜ r ≡ formals-among typed (name-of (joint (now (library .entry)) (now (text .entry))) p) (visible-at (joint (now (library .entry)) (now (text .entry))) (part (now (work .entry)) 0 t) (now (work .entry)) f) (visible-at (joint (now (library .entry)) (now (text .entry))) (part (now (work .entry)) 0 t) (now (work .entry)) g) ⌝ }
 {
     let base = f.visible;
     let count = f.visible_count;
     let mut i = 0;
     while i < count {
         let row = read_row(work, base, i);
-        if is_at_odds(library, text, work, t, p, f, g, row) {
+        if is_other(library, text, work, t, p, f, g, row, typed) {
             return false;
         }
         i += 1;
@@ -232,11 +197,8 @@ fn same_formals(
     requires { ⌜ t ≤ length (now work) ⌝ }
     ensures { λ r. ⌜ r ≡ same-formals (name-of (joint (now (library .entry)) (now (text .entry))) p) (visible-at (joint (now (library .entry)) (now (text .entry))) (part (now (work .entry)) 0 t) (now (work .entry)) f) (visible-at (joint (now (library .entry)) (now (text .entry))) (part (now (work .entry)) 0 t) (now (work .entry)) g) ⌝ }
 {
-    if all_among(library, text, work, t, p, f, g) {
-        if all_among(library, text, work, t, p, g, f) {
-            return types_agree(library, text, work, t, p, f, g);
-        }
-        return false;
+    if all_among(library, text, work, t, p, f, g, true) {
+        return all_among(library, text, work, t, p, g, f, false);
     }
     false
 }

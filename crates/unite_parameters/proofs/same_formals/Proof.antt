@@ -11,8 +11,6 @@ same-formals-spec =
     (tie.spec
     (λ c κs. search needs)  -- all-among-requires
     (λ c κs. search needs)  -- all-among-requires-2
-    (λ c κs. search needs)  -- types-agree-requires
     (λ c. search both)  -- returns
     (λ c. search both)  -- returns-2
-    (λ c. search both)  -- returns-3
     )
