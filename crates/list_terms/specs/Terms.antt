@@ -5,6 +5,7 @@ use Prim.Native.Nat.{ℕ, zero, suc, _+_, _-_, _*_, _/_, _%_, _<_, _≤_}
 use mathlib.Core.List.{List, [], _∷_, _++_}
 use lib.Dec.{eqb, ltb}
 use lib.ListN.{length, getD}
+use denote.Ref.{RefT, at-last, now}
 use Rattle.meaning.specs.Lists.{pick}
 use Rattle.meaning.specs.Names.{bytes}
 use Rattle.meaning.specs.Written.{numbered}
@@ -116,18 +117,23 @@ pub record Shown (limit at : ℕ) (s : Spelt) (o : List ℕ) (r : Printed) (o′
 abbrev pub reached : List ℕ → Printed
 reached p = record { at = getD p 0 0; next = getD p 1 0 }
 
--- s was written at the places p: they became p′, the output o became o′
-pub record Placed (s : Spelt) (p o p′ o′ : List ℕ) : Type 0 where
+-- a reference to the output
+abbrev pub Lent : Type 0
+Lent = RefT (List ℕ)
+
+-- s was written at the places p: they became p′, the output that o lends became o′, by the same reference
+pub record Placed (s : Spelt) (p : List ℕ) (o : Lent) (p′ : List ℕ) (o′ : Lent) : Type 0 where
+  pub same : o′ ≡ at-last o (now o′)
   pub limit : getD p′ 2 0 ≡ getD p 2 0
   pub visible : getD p′ 3 0 ≡ getD p 3 0
-  pub shown : Shown (getD p 2 0) (getD p 0 0) s o (reached p′) o′
+  pub shown : Shown (getD p 2 0) (getD p 0 0) s (now o) (reached p′) (now o′)
 
 -- the items of n nodes from i on have arguments
 abbrev pub Applied : List ℕ → ℕ → ℕ → Type 0
 Applied w i n = (m : ℕ) → m < n → getD w (i + m) 0 % 16 ≡ 0 → ⊥
 
 -- the way down was written at the places p, where n items with arguments have their brackets open
-pub record Headed (text w : List ℕ) (depth n : ℕ) (p o p′ o′ : List ℕ) : Type 0 where
+pub record Headed (text w : List ℕ) (depth n : ℕ) (p : List ℕ) (o : Lent) (p′ : List ℕ) (o′ : Lent) : Type 0 where
   pub within : n ≤ depth
   pub applied : Applied w (getD p 1 0) n
   pub placed : Placed (down-at text w (getD p 3 0) depth n (getD p 1 0)) p o p′ o′

@@ -1,5 +1,6 @@
 // Terms, written as `f(a,b)`. Their nodes stand in prefix order in the memory, and the visible items' rows from `visible` on.
-// A level of a term takes little stack: what goes down is lent, in four places, and what only a node needs is out of its way.
+// A level of a term takes little stack: what goes down is lent, in four places and the output by one reference, and what only a node
+// needs is out of its way.
 use super::Printed;
 use form_rows::ROW_STEP;
 use form_rows::entries::word_at;
@@ -66,28 +67,34 @@ fn put_single(
 }
 
 // The same at four places, which are those of the output, the node, the limit and the visible rows.
-fn put_node(out: &mut [u8], library: &&[u8], text: &&[u8], work: &&[u32], places: &mut [usize; 4])
+fn put_node(
+    out: &mut &mut [u8],
+    library: &&[u8],
+    text: &&[u8],
+    work: &&[u32],
+    places: &mut [usize; 4],
+)
     ensures { λ _. ⌜ Placed (item-at (joint (now (now (library .entry))) (now (now (text .entry)))) (now (now (work .entry))) (getD (now (places .entry)) 3 0) (getD (now (places .entry)) 1 0)) (now (places .entry)) (now (out .entry)) (now (places .exit)) (now (out .exit)) ⌝ }
 {
     let at = places[0];
     let i = places[1];
     let limit = places[2];
     let visible = places[3];
-    let p = put_single(out, at, limit, *library, *text, *work, visible, i);
+    let p = put_single(*out, at, limit, *library, *text, *work, visible, i);
     let to = p.at;
     let next = p.next;
     *places = [to, next, limit, visible];
 }
 
 // One byte.
-fn put_mark(out: &mut [u8], places: &mut [usize; 4], byte: u8)
+fn put_mark(out: &mut &mut [u8], places: &mut [usize; 4], byte: u8)
     ensures { λ _. ⌜ Placed (alone byte (getD (now (places .entry)) 1 0)) (now (places .entry)) (now (out .entry)) (now (places .exit)) (now (out .exit)) ⌝ }
 {
     let at = places[0];
     let i = places[1];
     let limit = places[2];
     let visible = places[3];
-    let to = list_pen::put(out, at, limit, byte);
+    let to = list_pen::put(*out, at, limit, byte);
     *places = [to, i, limit, visible];
 }
 
@@ -108,7 +115,13 @@ fn others_at(work: &[u32], i: usize, n: usize) -> usize
 }
 
 // An item that has arguments, and the bracket before them.
-fn put_opened(out: &mut [u8], library: &&[u8], text: &&[u8], work: &&[u32], places: &mut [usize; 4])
+fn put_opened(
+    out: &mut &mut [u8],
+    library: &&[u8],
+    text: &&[u8],
+    work: &&[u32],
+    places: &mut [usize; 4],
+)
     ensures { λ _. ⌜ Placed (opened (item-at (joint (now (now (library .entry))) (now (now (text .entry)))) (now (now (work .entry))) (getD (now (places .entry)) 3 0) (getD (now (places .entry)) 1 0))) (now (places .entry)) (now (out .entry)) (now (places .exit)) (now (out .exit)) ⌝ }
 {
     put_node(out, library, text, work, places);
@@ -118,7 +131,7 @@ fn put_opened(out: &mut [u8], library: &&[u8], text: &&[u8], work: &&[u32], plac
 // The items from the node on, each with its bracket, and the first that has no arguments, unless the depth ends before it; how many
 // brackets are open.
 fn put_heads(
-    out: &mut [u8],
+    out: &mut &mut [u8],
     library: &&[u8],
     text: &&[u8],
     work: &&[u32],
@@ -142,7 +155,7 @@ fn put_heads(
 
 // What follows an item's first argument: the others from the node on, `left` of them, each behind a comma, and the closing bracket.
 fn put_more(
-    out: &mut [u8],
+    out: &mut &mut [u8],
     library: &&[u8],
     text: &&[u8],
     work: &&[u32],
@@ -164,7 +177,7 @@ fn put_more(
 // The term at the node, down to a depth. First arguments stand straight behind their items, so a loop goes down them and one goes back:
 // only the other arguments take a level.
 fn put_deep(
-    out: &mut [u8],
+    out: &mut &mut [u8],
     library: &&[u8],
     text: &&[u8],
     work: &&[u32],
@@ -182,6 +195,24 @@ fn put_deep(
     }
 }
 
+// The same for the slice itself, which is lent on by one reference. The borrow checker covers that where the slice is moved, so it is
+// moved, and handed back: by that the caller knows what became of it.
+fn put_lent<'a>(
+    out: &'a mut [u8],
+    library: &[u8],
+    text: &[u8],
+    work: &[u32],
+    places: &mut [usize; 4],
+    depth: usize,
+) -> &'a mut [u8]
+    ensures { λ r. ⌜ Placed (term-at (joint (now (library .entry)) (now (text .entry))) (now (work .entry)) (getD (now (places .entry)) 3 0) depth (getD (now (places .entry)) 1 0)) (now (places .entry)) (out .entry) (now (places .exit)) r ⌝ }
+{
+    let mut lent = out;
+    put_deep(&mut lent, &library, &text, &work, places, depth);
+    let back = lent;
+    back
+}
+
 // The term at node i, down to a depth.
 pub fn put_term(
     out: &mut [u8],
@@ -197,7 +228,7 @@ pub fn put_term(
     ensures { λ r. ⌜ Shown limit at (term-at (joint (now (library .entry)) (now (text .entry))) (now (work .entry)) visible depth i) (now (out .entry)) r (now (out .exit)) ⌝ }
 {
     let mut places = [at, i, limit, visible as usize];
-    put_deep(out, &library, &text, &work, &mut places, depth);
+    let _back = put_lent(out, library, text, work, &mut places, depth);
     Printed {
         at: places[0],
         next: places[1],

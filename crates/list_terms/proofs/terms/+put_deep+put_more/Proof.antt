@@ -21,25 +21,25 @@ use Rattle.list_terms.proofs.terms.put_mark.Reads as put-mark-reads
 use Rattle.list_terms.proofs.terms.+put_deep+put_more.{statement}
 use Rattle.list_terms.proofs.terms.+put_deep+put_more.Tie.{close}
 
-abbrev μ-put-deep : Measures 8 put-deep-kinds.ps ℕ
+abbrev μ-put-deep : Measures 9 put-deep-kinds.ps ℕ
 μ-put-deep κs a = a .1 .1 .1 .1 .1 .0 * 2
 
-abbrev μ-put-more : Measures 8 put-more-kinds.ps ℕ
+abbrev μ-put-more : Measures 9 put-more-kinds.ps ℕ
 μ-put-more κs a = a .1 .1 .1 .1 .1 .0 * 2 + 1
 
-abbrev put-deep-at : ℕ → In 8 put-deep-kinds.ps
-put-deep-at t = and 8 put-deep-kinds.ps (is 8 put-deep-kinds.ps μ-put-deep t) put-deep.Pre
+abbrev put-deep-at : ℕ → In 9 put-deep-kinds.ps
+put-deep-at t = and 9 put-deep-kinds.ps (is 9 put-deep-kinds.ps μ-put-deep t) put-deep.Pre
 
-abbrev put-deep-below : ℕ → In 8 put-deep-kinds.ps
+abbrev put-deep-below : ℕ → In 9 put-deep-kinds.ps
 put-deep-below t =
-    and 8 put-deep-kinds.ps (falls 8 put-deep-kinds.ps _<_ μ-put-deep t) put-deep.Pre
+    and 9 put-deep-kinds.ps (falls 9 put-deep-kinds.ps _<_ μ-put-deep t) put-deep.Pre
 
-abbrev put-more-at : ℕ → In 8 put-more-kinds.ps
-put-more-at t = and 8 put-more-kinds.ps (is 8 put-more-kinds.ps μ-put-more t) put-more.Pre
+abbrev put-more-at : ℕ → In 9 put-more-kinds.ps
+put-more-at t = and 9 put-more-kinds.ps (is 9 put-more-kinds.ps μ-put-more t) put-more.Pre
 
-abbrev put-more-below : ℕ → In 8 put-more-kinds.ps
+abbrev put-more-below : ℕ → In 9 put-more-kinds.ps
 put-more-below t =
-    and 8 put-more-kinds.ps (falls 8 put-more-kinds.ps _<_ μ-put-more t) put-more.Pre
+    and 9 put-more-kinds.ps (falls 9 put-more-kinds.ps _<_ μ-put-more t) put-more.Pre
 
 abbrev put-deep-Inv-loop : put-deep-lts.InvT-loop
 put-deep-Inv-loop out₀ library text work places₀ depth i n₀ out places n =
@@ -71,7 +71,7 @@ pub +put-deep+put-more-spec : {M : Type 1} → statement M
     put-deep-μ-loop
     (λ c. search needs)  -- put-deep-element-copy-out-i
     (λ c κs. search needs)  -- put-deep-put-heads-requires
-    (λ c. search (backing-first, c .before .before .put-heads .ensures))  -- put-deep-loop-holds
+    (λ c. search (backing-first, c .put-heads .ensures))  -- put-deep-loop-holds
     (λ c. search needs)  -- put-deep-sub-n
     (λ c κs. let turn = c .before in search (backing-some, turn .before .loop .inv, turn .loop-test .taken))  -- put-deep-others-at-requires
     (λ c. search needs)  -- put-deep-sub-put-more
@@ -79,15 +79,13 @@ pub +put-deep+put-more-spec : {M : Type 1} → statement M
     (λ c κs. search needs)  -- put-deep-put-more-requires
     (λ c. search needs)  -- put-deep-loop-less
     (λ c.
-    let called = c .before .before in
-    let counted = called .before .before .before in
+    let counted = c .before .before .before in
     let turn = counted .before .before in
-    backing-again _ _ _ _ _ _ _ _ _ _ (turn .before .loop .inv) (turn .loop-test .taken) _ _ _ (counted .others-at .ensures) (search needs)
-    (called .put-more .ensures))  -- put-deep-loop-again
-    (λ c. search needs)  -- put-deep-same-length
+    backing-again _ _ _ _ _ _ _ _ _ _ (turn .before .loop .inv) (turn .loop-test .taken) _ _ _ (counted .others-at .ensures)
+    (c .put-more .ensures))  -- put-deep-loop-again
     (λ c.
     let loop = c .before in
-    search (backing-end, loop .before .before .before .put-heads .ensures, loop .loop .inv, c .loop-test .left))  -- put-deep-returns
+    search (backing-end, loop .before .put-heads .ensures, loop .loop .inv, c .loop-test .left))  -- put-deep-returns
     )
     λ t. put-more-lts.spec
     (put-mark-reads.Asked, put-mark-reads.Learnt, put-deep-below t, put-deep.Post)
@@ -101,11 +99,9 @@ pub +put-deep+put-more-spec : {M : Type 1} → statement M
     (λ c. search needs)  -- put-more-sub-more
     (λ c. search needs)  -- put-more-loop-less
     (λ c.
-    let called = c .before .before in
-    let marked = called .before .before .before .before .before in
+    let marked = c .before .before .before in
     let turn = marked .before .before .before in
-    closing-again _ _ _ _ _ _ _ _ _ (turn .before .loop .inv) _ _ _ _ (turn .loop-test .taken) (search needs) (marked .put-mark .ensures)
-    (called .put-deep .ensures))  -- put-more-loop-again
+    closing-again _ _ _ _ _ _ _ _ _ (turn .before .loop .inv) _ _ _ _ (turn .loop-test .taken) (marked .put-mark .ensures)
+    (c .put-deep .ensures))  -- put-more-loop-again
     (λ c κs. search needs)  -- put-more-put-mark-requires-2
-    (λ c. search needs)  -- put-more-same-length
     (λ c. search (closing-end, needs))  -- put-more-returns

@@ -23,12 +23,10 @@ put-heads-spec =
     (λ c. search needs)  -- element-copy-out-i
     (λ c κs. search places)  -- arguments-at-requires
     (λ c κs. search places)  -- put-node-requires
-    (λ c. search places)  -- same-length
     (λ c. search places)  -- returns
     (λ c κs. search places)  -- put-opened-requires
     (λ c. search places)  -- add-n
     (λ c. search places)  -- loop-less
     (λ c. search places)  -- loop-again
-    (λ c. search places)  -- same-length-2
     (λ c. search places)  -- returns-2
     )

@@ -13,7 +13,7 @@ put-mark-spec =
     (λ c. search needs)  -- element-copy-out-i
     (λ c. search needs)  -- element-copy-out-limit
     (λ c. search needs)  -- element-copy-out-visible
+    (λ c. search needs)  -- slice-aggregate-put
     (λ c κs. search needs)  -- put-requires
-    (λ c. search needs)  -- same-length
     (λ c. search places)  -- returns
     )

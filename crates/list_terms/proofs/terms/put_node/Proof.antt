@@ -13,7 +13,7 @@ put-node-spec =
     (λ c. search needs)  -- element-copy-out-i
     (λ c. search needs)  -- element-copy-out-limit
     (λ c. search needs)  -- element-copy-out-visible
+    (λ c. search needs)  -- slice-aggregate-put-single
     (λ c κs. search needs)  -- put-single-requires
-    (λ c. search needs)  -- same-length
     (λ c. search places)  -- returns
     )

@@ -11,6 +11,5 @@ put-opened-spec =
     (tie.spec
     (λ c κs. search needs)  -- put-node-requires
     (λ c κs. search needs)  -- put-mark-requires
-    (λ c. search needs)  -- same-length
     (λ c. search places)  -- returns
     )
