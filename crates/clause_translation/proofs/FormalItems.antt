@@ -3,6 +3,8 @@ use mathlib.Core.Path.{_≡_, refl, sym, _∙_}
 use mathlib.Core.Bool.{Bool, true, false, _&&_}
 use mathlib.Core.List.{List, [], _∷_}
 use Prim.Native.Nat.{ℕ, _+_, _*_, _<_, _≤_}
+use lib.Dec.{eqb}
+use lib.ListN.{getD}
 use borrow.Author.Needs.{needs}
 use borrow.Author.Tests.{eq-eqb, ne-eqb}
 use Rattle.meaning.specs.Lists.{pick, keep, any}
@@ -13,6 +15,7 @@ use Rattle.meaning.specs.Clauses.{is-formal-sort}
 use Rattle.text_names.specs.Word.{name-of}
 use Rattle.form_sections.specs.declared.Section.{Section}
 use Rattle.form_sections.specs.declared.Section.the-variants.{Export, Hidden, Parameter}
+use Rattle.form_sections.specs.Sections.{word-section}
 use Rattle.form_rows.specs.declared.Row.{Row}
 use Rattle.form_rows.specs.Rows.{section-of, shape-of, item-of, row-at, row-size}
 use Rattle.form.specs.Forms.{items-at}
@@ -31,22 +34,35 @@ standing-told text p Export r e = e
 standing-told text p Hidden r e = e
 standing-told text p (Parameter q) r e = e
 
-module _ (text tape : List ℕ) (p a : ℕ) (x : Row) where
+-- row i of a table, by the words of its kind, its section and its name
+module _ (text tape w : List ℕ) (b i p a kind : ℕ) (e : kind ≡ getD w (b + i * row-size + 2) 0) where
+  abbrev row : Row
+  row = row-at w (b + i * row-size)
+
   abbrev wanted : Bool
-  wanted = formal-sort (name-of text p) (name-of text a) (item-of text tape x)
+  wanted = formal-sort (name-of text p) (name-of text a) (item-of text tape row)
 
-  pub such-no-sort : (x .kind ≡ 0 → ⊥) → false ≡ wanted
+  sort-here : is-sort (shape-of text tape (row .kind) (row .sorts)) ≡ eqb kind 0
+  unfolding row-at
+  sort-here = rw e (is-sort-kind text tape (row .kind) (row .sorts))
+
+  pub such-no-sort : (kind ≡ 0 → ⊥) → false ≡ wanted
   unfolding formal-sort item-of pick
-  such-no-sort h = rw (is-sort-kind text tape (x .kind) (x .sorts), ne-eqb (x .kind) 0 h)
+  such-no-sort h = rw (sort-here, ne-eqb kind 0 h)
 
-  module _ (h : x .kind ≡ 0) (b : Bool) (g : b ≡ in-parameter (name-of text p) (section-of text (x .standing))) where
-    pub such-sort : (r : Bool) → b ≡ true → r ≡ same (name-of text a) (name-of text (x .name)) → r ≡ wanted
-    unfolding formal-sort item-of pick
-    such-sort r q o = rw (is-sort-kind text tape (x .kind) (x .sorts), eq-eqb (x .kind) 0 h, ← g, q) o
+  module _ (h : kind ≡ 0) (v : ℕ) (f : v ≡ getD w (b + i * row-size) 0) (s : Section) (g : s ≡ word-section v) (c : Bool)
+      (k : c ≡ in-parameter (name-of text p) (section-of text s)) where
+    inside-here : in-parameter (name-of text p) (section-of text (row .standing)) ≡ c
+    unfolding row-at
+    inside-here = sym (rw (g, f) at k)
 
-    pub such-elsewhere : b ≡ false → false ≡ wanted
+    pub such-sort : (n : ℕ) (r : Bool) → n ≡ getD w (b + i * row-size + 1) 0 → c ≡ true → r ≡ same (name-of text a) (name-of text n) → r ≡ wanted
+    unfolding formal-sort item-of row-at pick
+    such-sort n r l q o = rw (sort-here, eq-eqb kind 0 h, inside-here, q) (rw l at o)
+
+    pub such-elsewhere : c ≡ false → false ≡ wanted
     unfolding formal-sort item-of pick
-    such-elsewhere q = rw (is-sort-kind text tape (x .kind) (x .sorts), eq-eqb (x .kind) 0 h, ← g, q)
+    such-elsewhere q = rw (sort-here, eq-eqb kind 0 h, inside-here, q)
 
 module _ (text tape w : List ℕ) (p k : ℕ) (x y : Row) (e : y ≡ row-at w k) (b : Bool)
     (f : b ≡ in-parameter (name-of text p) (section-of text (y .standing))) where
@@ -109,14 +125,21 @@ module _ (text tape w : List ℕ) (b n p a : ℕ) where
       ∙ any-same _ (formal-function (name-of text p) (name-of text a) s) (λ i. refl) rows
 
 module _ (text tape w : List ℕ) (b n p a : ℕ) where
+  abbrev sought : Item → Bool
+  sought = formal-sort (name-of text p) (name-of text a)
+
   abbrev formal-sort-there : Bool
   formal-sort-there = is-formal-sort (formals-at text tape w b n (name-of text p)) (name-of text a)
 
-  pub sort-there : (i : ℕ) (y : Row) (r : Bool) → i < n → Finding (formal-sort (name-of text p) (name-of text a)) text tape w b n i
-      → y ≡ row-at w (b + i * row-size) → r ≡ formal-sort (name-of text p) (name-of text a) (item-of text tape y) → r ≡ true → true ≡ formal-sort-there
-  sort-there i y r h inv e f q = somewhere _ text tape w b n i y r h inv e f q ∙ sym (sorts-asked text tape w b n p a)
+  module _ (i : ℕ) (r : Bool) (h : i < n) (inv : Finding sought text tape w b n i)
+      (f : (t : List ℕ) → r ≡ sought (item-of text t (row-at w (b + i * row-size)))) where
+    pub sort-there : r ≡ true → true ≡ formal-sort-there
+    sort-there q = somewhere _ text tape w b n i _ r h inv refl (f tape) q ∙ sym (sorts-asked text tape w b n p a)
 
-  pub sort-nowhere : (i : ℕ) → n ≤ i → Finding (formal-sort (name-of text p) (name-of text a)) text tape w b n i → false ≡ formal-sort-there
+    pub sort-again : r ≡ false → Finding sought text tape w b n (i + 1)
+    sort-again q = find-again _ text tape w b n i _ r h inv refl (f tape) q
+
+  pub sort-nowhere : (i : ℕ) → n ≤ i → Finding sought text tape w b n i → false ≡ formal-sort-there
   sort-nowhere i h inv = nowhere _ text tape w b n i h inv ∙ sym (sorts-asked text tape w b n p a)
 
 module _ (text tape w : List ℕ) (b n p a : ℕ) (s : Shape) where
@@ -133,4 +156,4 @@ module _ (text tape w : List ℕ) (b n p a : ℕ) (s : Shape) where
 
 pub ruleset tests = (standing-told, such-no-sort, such-sort, such-elsewhere, like-elsewhere, like-other, like-shaped, needs)
 
-pub ruleset asks = (find-start, find-again, sort-there, sort-nowhere, function-there, function-nowhere, needs)
+pub ruleset asks = (find-start, find-again, sort-there, sort-again, sort-nowhere, function-there, function-nowhere, needs)

@@ -1,14 +1,18 @@
 // Which items of a table stand in the parameter that is bound: the formal ones.
 use super::Mode;
 use form_comparing::sorts::same_shape;
+use form_rows::ROW_STEP;
 use form_rows::Row;
 use form_rows::entries::same_word;
+use form_rows::entries::word_at;
 use form_rows::kinds;
 use form_rows::rows::read_row;
 use form_rows::sections::same_section;
 use form_sections::Section;
+use form_sections::word_section;
 ghost use mathlib.Core.Path.{_≡_};
-ghost use Prim.Native.Nat.{_+_, _*_, _≤_};
+ghost use mathlib.Core.List.{List};
+ghost use Prim.Native.Nat.{ℕ, _+_, _*_, _≤_};
 ghost use lib.ListN.{length};
 ghost use Rattle.meaning.specs.Origins.{in-parameter};
 ghost use Rattle.meaning.specs.Clauses.{is-formal-sort};
@@ -26,16 +30,15 @@ pub fn in_parameter(library: &[u8], text: &[u8], p: u32, s: Section) -> bool
     same_section(library, text, Section::Parameter(p), s)
 }
 
-// Is the row a sort called w that stands in the parameter p?
-fn is_such_sort(library: &[u8], text: &[u8], tape: &[u32], p: u32, w: u32, row: Row) -> bool
-    ensures { λ r. ⌜ r ≡ formal-sort (name-of (joint (now (library .entry)) (now (text .entry))) p) (name-of (joint (now (library .entry)) (now (text .entry))) w) (item-of (joint (now (library .entry)) (now (text .entry))) (now (tape .entry)) row) ⌝ }
+// Is row i of those from b on a sort called w that stands in the parameter p? Its words are read where they lie: none asks for the tape.
+fn is_such_sort(library: &[u8], text: &[u8], work: &[u32], b: u32, i: u32, p: u32, w: u32) -> bool
+    ensures { λ r. ⌜ ((tape : List ℕ) → r ≡ formal-sort (name-of (joint (now (library .entry)) (now (text .entry))) p) (name-of (joint (now (library .entry)) (now (text .entry))) w) (item-of (joint (now (library .entry)) (now (text .entry))) tape (row-at (now (work .entry)) (b + i * row-size)))) ⌝ }
 {
-    let kind = row.kind;
-    if kind == kinds::SORT {
-        let standing = row.standing;
+    let place = b as usize + i as usize * ROW_STEP;
+    if word_at(work, place + 2) == kinds::SORT {
+        let standing = word_section(word_at(work, place));
         if in_parameter(library, text, p, standing) {
-            let name = row.name;
-            return same_word(library, text, w, name);
+            return same_word(library, text, w, word_at(work, place + 1));
         }
     }
     false
@@ -51,8 +54,7 @@ pub fn is_formal_sort(library: &[u8], text: &[u8], work: &[u32], t: usize, m: Mo
     let p = m.parameter;
     let mut i = 0;
     while i < count {
-        let row = read_row(work, visible, i);
-        if is_such_sort(library, text, &work[0..t], p, w, row) {
+        if is_such_sort(library, text, work, visible, i, p, w) {
             return true;
         }
         i += 1;

@@ -23,10 +23,6 @@ is-formal-sort-spec =
     Inv-loop
     μ-loop
     (λ c. search asks)  -- loop-holds
-    (λ c κs. search asks)  -- read-row-requires
-    (λ c. search asks)  -- sub-is-such-sort
-    (λ c. search asks)  -- part-is-such-sort-start
-    (λ c. search asks)  -- part-is-such-sort-end
     (λ c κs. search asks)  -- is-such-sort-requires
     (λ c. search asks)  -- returns
     (λ c. search asks)  -- add-i
