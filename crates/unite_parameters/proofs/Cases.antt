@@ -1,16 +1,17 @@
 -- Laws of one parameter in two normal forms, in the code's terms.
 use mathlib.Core.Path.{_≡_, refl, sym, ap, _∙_}
-use Prim.Native.Nat.{ℕ, _+_, _-_, _*_, _/_, _%_, _≤_, _<_}
+use Prim.Native.Nat.{ℕ, suc, _+_, _-_, _*_, _/_, _%_, _≤_, _<_}
 use mathlib.Core.Bool.{Bool, true, false, not}
 use mathlib.Core.List.{List, _∷_}
 use native.Mathlib.Omega.{arith}
 use lib.Dec.{ltb}
-use lib.ListN.{getD, take}
+use lib.ListN.{length, getD, take, drop, length-take, drop-of-length-le}
+use lib.Seq.{drop-cons, getD-take}
 use borrow.Author.Needs.{needs}
 use borrow.Author.Tests.{eq-eqb, ne-eqb, lt-ltb, le-ltb}
 use Rattle.meaning.specs.Lists.{pick, any, before}
 use Rattle.meaning.specs.Names.{Name}
-use Rattle.meaning.specs.Origins.{same-origin, FunctionType, Shape, Item, in-parameter, one-item}
+use Rattle.meaning.specs.Origins.{same-origin, Shape, Item, in-parameter, one-item}
 use Rattle.meaning.specs.Normal.{Visible, origin-of, same-slot, origins-agree, sort-agrees, shape-agrees, same-formals, is-parameter-of}
 use Rattle.text_names.specs.Word.{name-of}
 use Rattle.form_rows.specs.declared.Row.{Row}
@@ -21,7 +22,7 @@ use Rattle.clause_checks.specs.Searches.{sort-called}
 use Rattle.clause_checks.specs.SortOrigins.{origin-among, origin-there, origin-nowhere}
 use Rattle.form_walks.specs.Shapes.{shape-function, by-kind}
 use Rattle.form_walks.specs.Rows.{Finding, find-start, find-again, nowhere, somewhere, found-below}
-use Rattle.clause_checks.specs.Walks.{all-pass, inputs-pass, fitting-start, fitting-again, fitting-not, fitting-all, fitting-end}
+use Rattle.clause_checks.specs.Walks.{all-pass, inputs-pass}
 use Rattle.unite_parameters.specs.Formals.{other, formals-among, none-other, same-both}
 
 -- ---- the rows that stand in the parameter
@@ -134,27 +135,59 @@ module _ (text tape : List ℕ) (u v : Visible) where
   sort-hidden s h = rw (ne-eqb (s % 2) 0 h)
 
   module _ (kind : ℕ) (sorts : List ℕ) where
-    abbrev type : FunctionType
-    type = type-of text tape (kind - 2) sorts
-
     pub shape-other : kind < 2 → true ≡ shape-agrees u v (shape-of text tape kind sorts)
     unfolding shape-agrees
     shape-other h =
         by-kind text tape kind sorts (λ (s : Shape). true ≡ shape-agrees u v s) (λ e. refl) (λ e. refl) (λ l. absurd (omega (arith, h, l)))
 
-    module _ (h : 2 ≤ kind) (b : Bool) (e : b ≡ sort-agrees u v (sort-of text tape (getD sorts 8 0))) where
-      typed : shape-agrees u v (shape-of text tape kind sorts) ≡ all-pass (sort-agrees u v) (type .output ∷ type .inputs)
-      unfolding shape-agrees all-pass
-      typed = rw (shape-function text tape kind sorts h)
+    abbrev passes : List ℕ → Bool
+    passes = inputs-pass text tape (sort-agrees u v)
 
-      pub shape-output : b ≡ false → false ≡ shape-agrees u v (shape-of text tape kind sorts)
-      unfolding all-pass type-of any pick
-      shape-output q = rw (typed, ← e, q)
+    abbrev inputs : List ℕ
+    inputs = take (kind - 2) sorts
 
-      pub shape-inputs : (r : Bool) → b ≡ true → r ≡ inputs-pass text tape (sort-agrees u v) (take (kind - 2) sorts)
-          → r ≡ shape-agrees u v (shape-of text tape kind sorts)
-      unfolding all-pass inputs-pass type-of any pick
-      shape-inputs r q f = rw (typed, ← e, q) f
+    pub shape-sorts : (r : Bool) → 2 ≤ kind → r ≡ passes (getD sorts 8 0 ∷ inputs) → r ≡ shape-agrees u v (shape-of text tape kind sorts)
+    unfolding shape-agrees inputs-pass all-pass type-of
+    shape-sorts r h e = rw (shape-function text tape kind sorts h) e
+
+    -- the output and the inputs before `at` pass, so that all do where those from `at` on do
+    pub record Agreeing (at next : ℕ) : Type 0 where
+      pub place : at < 9
+      pub inside : next ≤ 9
+      pub left : passes (getD sorts 8 0 ∷ inputs) ≡ passes (getD sorts at 0 ∷ drop next inputs)
+
+    pub agreeing-start : Agreeing 8 0
+    agreeing-start = record { place = omega arith; inside = omega arith; left = refl }
+
+    module _ (at next : ℕ) (inv : Agreeing at next) (r : Bool) (e : r ≡ sort-agrees u v (sort-of text tape (getD sorts at 0))) where
+      pub agreeing-not : r ≡ false → false ≡ passes (getD sorts 8 0 ∷ inputs)
+      unfolding inputs-pass all-pass any pick
+      agreeing-not q = sym (inv .left ∙ rw (← e, q))
+
+      module _ (q : r ≡ true) where
+        behind : passes (getD sorts 8 0 ∷ inputs) ≡ passes (drop next inputs)
+        unfolding inputs-pass all-pass any pick
+        behind = inv .left ∙ rw (← e, q)
+
+        ended : length inputs ≤ next → true ≡ passes (getD sorts 8 0 ∷ inputs)
+        unfolding inputs-pass all-pass any
+        ended h = sym (behind ∙ rw (drop-of-length-le inputs h))
+
+        pub agreeing-all : length sorts ≡ 9 → next ≡ 9 → true ≡ passes (getD sorts 8 0 ∷ inputs)
+        agreeing-all nine h = ended (omega (arith, length-take (kind - 2) sorts, nine, h))
+
+        pub agreeing-end : kind ≤ next + 2 → true ≡ passes (getD sorts 8 0 ∷ inputs)
+        agreeing-end h = ended (omega (arith, length-take (kind - 2) sorts, h))
+
+        pub agreeing-again : length sorts ≡ 9 → (next ≡ 9 → ⊥) → next + 2 < kind → Agreeing next (next + 1)
+        agreeing-again nine h l =
+            let more : next + 1 ≡ suc next = omega arith in
+            let first = drop-cons inputs next 0 (omega (arith, length-take (kind - 2) sorts, nine, inv .inside, h, l)) in
+            record {
+              place = omega (arith, inv .inside, h);
+              inside = omega (arith, inv .inside, h);
+              left = rw (more, ← getD-take (kind - 2) sorts next 0 (omega (arith, l)), ← first) behind;
+            }
 
 -- ---- the parameter in both
 
@@ -192,8 +225,8 @@ pub ruleset rows = (other-elsewhere, other-missing, other-untyped, other-same, o
 
 pub ruleset walks = (find-start, find-again, among-all, among-not, needs)
 
-pub ruleset sorts = (agree-both, agree-first, agree-none, sort-visible, sort-hidden, shape-other, shape-output, shape-inputs, needs)
+pub ruleset sorts = (agree-both, agree-first, agree-none, sort-visible, sort-hidden, shape-other, shape-sorts, needs)
 
-pub ruleset fittings = (fitting-start, fitting-again, fitting-not, fitting-all, fitting-end, needs)
+pub ruleset turns = (agreeing-start, agreeing-again, agreeing-not, agreeing-all, agreeing-end, needs)
 
 pub ruleset both = (formals-not, formals-back, parameter-none, parameter-one, needs)

@@ -12,7 +12,8 @@ use unite_finding::find_item;
 use unite_slots::has_slot;
 ghost use mathlib.Core.Path.{_≡_};
 ghost use Prim.Native.Nat.{_-_, _^_, _≤_};
-ghost use lib.ListN.{length, take};
+ghost use mathlib.Core.List.{_∷_};
+ghost use lib.ListN.{length, getD, take};
 ghost use Rattle.meaning.specs.Normal.{origin-of, origins-agree, sort-agrees, shape-agrees, same-formals, is-parameter-of};
 ghost use Rattle.text_names.specs.Word.{name-of};
 ghost use Rattle.text_names.specs.Joint.{joint};
@@ -69,8 +70,8 @@ fn sort_agrees(
     true
 }
 
-// Are the inputs of a function of the kind the same?
-fn inputs_agree(
+// Are the output of a function of the kind and then its inputs the same?
+fn sorts_agree(
     library: &[u8],
     text: &[u8],
     work: &[u32],
@@ -81,22 +82,22 @@ fn inputs_agree(
     sorts: [u32; 9],
 ) -> bool
     requires { ⌜ t ≤ length (now work) ⌝ }
-    ensures { λ r. ⌜ r ≡ inputs-pass (joint (now (library .entry)) (now (text .entry))) (part (now (work .entry)) 0 t) (sort-agrees (visible-at (joint (now (library .entry)) (now (text .entry))) (part (now (work .entry)) 0 t) (now (work .entry)) f) (visible-at (joint (now (library .entry)) (now (text .entry))) (part (now (work .entry)) 0 t) (now (work .entry)) g)) (take (kind - 2) sorts) ⌝ }
+    ensures { λ r. ⌜ r ≡ inputs-pass (joint (now (library .entry)) (now (text .entry))) (part (now (work .entry)) 0 t) (sort-agrees (visible-at (joint (now (library .entry)) (now (text .entry))) (part (now (work .entry)) 0 t) (now (work .entry)) f) (visible-at (joint (now (library .entry)) (now (text .entry))) (part (now (work .entry)) 0 t) (now (work .entry)) g)) (getD sorts 8 0 ∷ take (kind - 2) sorts) ⌝ }
 {
     let end = kind as usize;
-    let mut i = 0;
-    while i < 9 {
-        if i + 2 < end {
-            if sort_agrees(library, text, work, t, f, g, sorts[i]) {
-                i += 1;
-            } else {
-                return false;
-            }
-        } else {
+    let mut at = 8;
+    let mut next = 0;
+    while sort_agrees(library, text, work, t, f, g, sorts[at]) {
+        if next == 9 {
             return true;
         }
+        if end <= next + 2 {
+            return true;
+        }
+        at = next;
+        next += 1;
     }
-    true
+    false
 }
 
 // Are the sorts of the row's type the same? A row that is no function has none.
@@ -117,10 +118,7 @@ fn shape_agrees(
     if kind < kinds::FUNCTION {
         return true;
     }
-    if sort_agrees(library, text, work, t, f, g, sorts[8]) {
-        return inputs_agree(library, text, work, t, f, g, kind, sorts);
-    }
-    false
+    sorts_agree(library, text, work, t, f, g, kind, sorts)
 }
 
 // Stands the row of f in the parameter p, and is it one with no row of g, or, where `typed` says so, of a type that is not the same in both?

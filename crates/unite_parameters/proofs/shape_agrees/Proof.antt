@@ -10,9 +10,6 @@ shape-agrees-spec =
     tie.close
     (tie.spec
     (λ c. search sorts)  -- returns
-    (λ c. search needs)  -- array-read-sort-agrees
-    (λ c κs. search needs)  -- sort-agrees-requires
-    (λ c κs. search needs)  -- inputs-agree-requires
+    (λ c κs. search needs)  -- sorts-agree-requires
     (λ c. search sorts)  -- returns-2
-    (λ c. search sorts)  -- returns-3
     )
