@@ -1,4 +1,4 @@
--- One law for each way through the code, in the code's terms.
+-- One law for each way through the code, in the code's terms; those of digits are apart.
 use mathlib.Core.Path.{_≡_, refl, sym, ap, _∙_}
 use mathlib.Core.List.{List, [], _∷_, _++_}
 use Prim.Native.Nat.{ℕ, zero, suc, _+_, _-_, _/_, _%_, _<_, _≤_, min}
@@ -6,10 +6,8 @@ use native.Mathlib.Nat.{not-suc-le-zero}
 use native.Mathlib.Numerals.{sub-one, add-one}
 use native.Mathlib.Omega.{arith}
 use borrow.Author.Needs.{needs}
-use borrow.Author.Tests.{lt-ltb, le-ltb}
 use lib.ListN.{length, getD, take, drop, drop-of-length-le, length-drop}
 use lib.Seq.{drop-cons, take-nil, take-length, take-all, drop-append-le, drop-append-add, take-append-le, take-append-add}
-use Rattle.meaning.specs.Lists.{pick}
 use Rattle.meaning.specs.Written.{digits, decimal}
 use Rattle.meaning.specs.Names.{bytes}
 use Rattle.meaning.specs.Numbers.{name-size}
@@ -47,22 +45,6 @@ module _ (l : ℕ) (s : List ℕ) where
     pub copy-past : length s ≤ i → pen t o ≡ written l (part s start size) (pen at o₀)
     unfolding written
     copy-past h = sym (v .comes ∙ rw (drop-of-length-le s h, take-nil n))
-
-module _ (l : ℕ) (p : Pen) where
-  pub digits-none : (n k : ℕ) → k ≡ 0 → p ≡ written l (digits k n) p
-  unfolding written digits
-  digits-none n k z = rw z
-
-  pub digits-one : (n k : ℕ) (q : Pen) → (k ≡ 0 → ⊥) → n < 10 → q ≡ written l ((48 + n) ∷ []) p → q ≡ written l (digits k n) p
-  unfolding digits pick
-  digits-one n zero q z h e = absurd (z refl)
-  digits-one n (suc k) q z h e = rw (lt-ltb n 10 h) e
-
-  pub digits-more : (n k : ℕ) (q w : Pen) → (k ≡ 0 → ⊥) → 10 ≤ n → q ≡ written l (digits (k - 1) (n / 10)) p → w ≡ written l ((48 + n % 10) ∷ []) q → w ≡ written l (digits k n) p
-  unfolding digits pick
-  digits-more n zero q w z h e f = absurd (z refl)
-  digits-more n (suc k) q w z h e f =
-      rw (le-ltb n 10 h, written-append l (digits k (n / 10)) ((48 + n % 10) ∷ []) p, ← rw sub-one at e) f
 
 pub text-done : (l : ℕ) (s : List ℕ) (p q : Pen) → q ≡ written l (part s 0 (length s)) p → q ≡ written l s p
 text-done l s p q e = e ∙ ap (λ (x : List ℕ). written l x p) (take-length s)

@@ -7,7 +7,7 @@ ghost use mathlib.Core.Path.{_≡_};
 ghost use Rattle.meaning.specs.Written.{digits, decimal, numbered};
 ghost use Rattle.text_names.specs.Word.{token-of, name-of};
 ghost use Rattle.text_names.specs.Joint.{joint};
-ghost use Rattle.list_pen.specs.Pen.{pen, written, part};
+ghost use Rattle.list_pen.specs.Pen.{pen, written, part, first-power};
 
 // The text's bytes from `start` on, `size` of them or as many as there are.
 pub fn put_bytes(
@@ -75,6 +75,23 @@ pub fn put_name(
     put_bytes(out, b, limit, b"_", 0, trailing(w))
 }
 
+// The power of ten of the first digit that is written of n, where at most so many stand behind it.
+fn first_power(n: usize, behind: usize) -> usize
+    ensures { λ r. ⌜ r ≡ first-power behind n ⌝ }
+{
+    let mut power = 1;
+    let mut left = behind;
+    while 0 < left {
+        // ten times the power may not fit, so n is divided
+        if n / 10 < power {
+            return power;
+        }
+        power *= 10;
+        left -= 1;
+    }
+    power
+}
+
 // The digits of n, `size` of them at most.
 pub fn put_digits(out: &mut [u8], at: usize, limit: usize, n: usize, size: usize) -> usize
     ensures { λ r. ⌜ pen r (now (out .exit)) ≡ written limit (digits size n) (pen at (now (out .entry))) ⌝ }
@@ -82,11 +99,13 @@ pub fn put_digits(out: &mut [u8], at: usize, limit: usize, n: usize, size: usize
     if size == 0 {
         return at;
     }
-    if n < 10 {
-        return put(out, at, limit, (48 + n) as u8);
+    let mut to = at;
+    let mut power = first_power(n, size - 1);
+    while 0 < power {
+        to = put(out, to, limit, (48 + n / power % 10) as u8);
+        power /= 10;
     }
-    let to = put_digits(out, at, limit, n / 10, size - 1);
-    put(out, to, limit, (48 + n % 10) as u8)
+    to
 }
 
 // A number in decimal.
