@@ -1,4 +1,4 @@
--- From one step of a call to the next: what is read, found, evaluated and listed, and how the call ends.
+-- From one step of a call to the next: what is read, found and evaluated, and what is sought.
 use mathlib.Core.Path.{_≡_, sym, ap, subst, _∙_}
 use Prim.Native.Nat.{ℕ, _+_, _-_, _<_, _≤_}
 use native.Mathlib.Omega.{arith}
@@ -15,7 +15,7 @@ use Rattle.meaning.specs.Texts.{Reading, two-texts, refused-in, read-texts}
 use Rattle.meaning.specs.Normal.{Normal, empty}
 use Rattle.meaning.specs.Checks.{lone}
 use Rattle.meaning.specs.Reached.{normalised, refused-at, in-turn, reached, module-names, short-or-blank, normalise}
-use Rattle.meaning.specs.Answer.{refusal, of-ended, unread, of-read, within, output-after}
+use Rattle.meaning.specs.Answer.{refusal, of-ended, unread, of-read}
 use Rattle.text_names.specs.Word.{name-of}
 use Rattle.text_names.specs.Joint.{joint}
 use Rattle.read_both.specs.declared.Both.{Both}
@@ -40,30 +40,18 @@ use Rattle.form_keeping.specs.Environment.{LastStands}
 use Rattle.evaluate_module.specs.Sofar.{Told}
 use Rattle.evaluate_turns.specs.declared.Ended.{Ended}
 use Rattle.evaluate_turns.specs.Turns.{EndsAs, Given, AllTurned}
-use Rattle.answer.specs.declared.Answer.{Answer}
-use Rattle.answer.specs.Answers.{told}
-use Rattle.answer.specs.Told.{refusal-within, refusal-leaves, unread-within, unread-leaves}
-use Rattle.answer_listing.specs.Answered.{Answered, Evaluated}
-use Rattle.asf.specs.Steps.{Spoken, Found}
+use Rattle.answer_listing.specs.Answered.{Evaluated}
+use Rattle.asf.specs.Steps.{Spoken, Found, Refusing, Holding, SoughtAs, ModuleSought}
+use Rattle.asf.specs.declared.Sought.{Sought}
+use Rattle.asf.specs.declared.Sought.the-variants as Sought
 use Rattle.evaluate_turns.specs.ByNumber.{name-there}
-use Rattle.meaning.specs.Checks as Checks
 use Rattle.meaning.specs.Reached as Reached
-use Rattle.meaning.specs.Answer as Meaning
 use Rattle.read_both.specs.Both as TwoTexts
 use Rattle.evaluate_turns.specs.declared.Ended.the-variants as Ended
 
--- ---- a refusal leaves the output
-
-pub refusal-answered : (asked : Name) (x : Reading) (o : List ℕ) (r : Answer) (number count : ℕ) (m : Name) (c : Checks.Culprit) (at : ℕ)
-    → of-read asked x ≡ refusal number count m c at → r ≡ told (refusal number count m c at) → Answered asked x o r o
-refusal-answered asked x o r number count m c at e h =
-    let whole : within (length o) asked (of-read asked x) ≡ refusal number count m c at =
-    ap (within (length o) asked) e ∙ refusal-within (length o) asked number count m c at in
-    record { answer = h ∙ ap told (sym whole); output = sym (ap (λ (a : Meaning.Answer). output-after a o) whole ∙ refusal-leaves number count m c at o) }
-
 -- ---- what is read
 
-module _ (library text w : List ℕ) (end : ℕ) (there : memory-size ≤ length w) (last : end ≡ tape-end) where
+module _ (library text w : List ℕ) (size : ℕ) (sized : size ≡ memory-size) (there : size ≤ length w) (end : ℕ) (last : end ≡ tape-end) where
   abbrev tape : List ℕ
   tape = part w 0 end
 
@@ -72,23 +60,22 @@ module _ (library text w : List ℕ) (end : ℕ) (there : memory-size ≤ length
 
   pub end-within : end ≤ length w
   unfolding memory-size tape-end
-  end-within = omega (arith, last)
+  end-within = omega (arith, sized, there, last)
 
   pub tape-room : 65536 ≤ length tape
   unfolding tape-end
   tape-room = omega (arith, length-take-le (end - 0) w (omega (arith, end-within)), last)
 
   module _ (q : Both) (tape′ : List ℕ) (e : TwoTexts.Told library text tape′ q) where
-    pub unread-answered : (in-library : Bool) (number place : ℕ) (asked : Name) (o : List ℕ) (r : Answer) → q ≡ Refused in-library number place
-        → r ≡ told (unread in-library number place) → Answered asked x o r o
+    pub unread-sought : (in-library : Bool) (number place : ℕ) (asked : Name) → length tape′ ≡ length tape → q ≡ Refused in-library number place
+        → Refusing asked x (tape′ ++ drop (end - 0) (drop 0 w)) (unread in-library number place)
     unfolding of-read
-    unread-answered in-library number place asked o r d h =
+    unread-sought in-library number place asked same-size d =
         let so : x ≡ refused-in in-library number place = subst (TwoTexts.Told library text tape′) d e in
-        let whole : within (length o) asked (of-read asked x) ≡ unread in-library number place =
-        ap (λ (y : Reading). within (length o) asked (of-read asked y)) so ∙ unread-within (length o) asked in-library number place in
+        let rest = drop (end - 0) (drop 0 w) in
         record {
-          answer = h ∙ ap told (sym whole);
-          output = sym (ap (λ (a : Meaning.Answer). output-after a o) whole ∙ unread-leaves in-library number place o);
+          size = omega (arith, length-append tape′ rest, same-size, length-take-le (end - 0) w (omega (arith, end-within)), length-drop (end - 0) w, sized, there);
+          so = ap (of-read asked) so;
         }
 
     pub read-spoken : (t : ℕ) → q ≡ Done t → Spoken x (joint library text) t (tape′ ++ drop (end - 0) (drop 0 w))
@@ -101,7 +88,7 @@ module _ (library text w : List ℕ) (end : ℕ) (there : memory-size ≤ length
         let front : take t (part (tape′ ++ rest) 0 t) ≡ take t tape′ =
         take-take t (t - 0) (tape′ ++ rest) (omega arith) ∙ take-append-le t tape′ rest (omega (arith, says .within, says .room)) in
         record {
-          size = omega (arith, whole, there);
+          size = omega (arith, whole, sized, there);
           tape = says .within;
           modules = says .modules;
           read-so = says .read-so;
@@ -150,17 +137,20 @@ module _ (x : Reading) (text : List ℕ) (t : ℕ) (w : List ℕ) (spoken : Spok
       number-so : k ≡ before (same asked) (module-names all)
       number-so = e ∙ asked-number asked (declared text (part w 0 t) h) ∙ ap (before (same asked)) (declared-names text (part w 0 t) t all h (spoken-told .spells))
 
-      pub asked-found : (count : ℕ) → count ≡ h .count → k < count → Found asked x text t w h k
+      asked-found : (count : ℕ) → count ≡ h .count → k < count → Found asked x text t w h k
       asked-found count c l = record { spoken = spoken; heads = heads; number = number-so; there = omega (arith, c, l, count-so) }
 
-      pub absent-answered : (o : List ℕ) (r : Answer) (count : ℕ) → count ≡ h .count → count ≤ k
-          → r ≡ told (refusal asked-absent 0 asked (lone (short-or-blank asked)) 0) → Answered asked x o r o
+      pub asked-meant : (count : ℕ) → count ≡ h .count → k < count → (w′ : List ℕ) (what : Sought) → ModuleSought text t w h k w′ what
+          → SoughtAs asked x text w′ what
+      asked-meant count c l w′ what s = s .meant asked x (asked-found count c l)
+
+      pub absent-sought : (count : ℕ) → count ≡ h .count → count ≤ k
+          → Refusing asked x w (refusal asked-absent 0 asked (lone (short-or-blank asked)) 0)
       unfolding of-read of-ended normalise pick
-      absent-answered o r count c l q =
+      absent-sought count c l =
           let none : member asked (module-names all) ≡ false = member-absent asked (module-names all) (omega (arith, c, l, count-so, number-so)) in
           let ended : normalise asked all ≡ refused-at asked-absent 0 asked (lone (short-or-blank asked)) = rw none in
-          refusal-answered asked x o r asked-absent 0 asked (lone (short-or-blank asked)) 0
-          (ap (of-read asked) (spoken .read-so) ∙ ap (of-ended asked) ended) q
+          record { size = spoken .size; so = ap (of-read asked) (spoken .read-so) ∙ ap (of-ended asked) ended }
 
 -- ---- what is evaluated
 
@@ -188,11 +178,8 @@ module _ (asked : List ℕ) (x : Reading) (text : List ℕ) (t : ℕ) (w : List 
   abbrev ms : List Module
   ms = found .spoken .modules
 
-  pub found-within : t ≤ length w
+  found-within : t ≤ length w
   found-within = tape-within x text t w (found .spoken)
-
-  pub found-given : Given text t w h
-  found-given = spoken-given x text t w (found .spoken) h (found .heads)
 
   called-asked : name-at text (part w 0 t) (getD (h .places) k 0) ≡ asked
   unfolding declared
@@ -216,29 +203,45 @@ module _ (asked : List ℕ) (x : Reading) (text : List ℕ) (t : ℕ) (w : List 
   unfolding of-read
   answering = ap (of-read asked) (found .spoken .read-so)
 
-  module _ (e : Ended) (w′ : List ℕ) (turned : AllTurned text t w h k e w′) where
+  module _ (e : Ended) (w′ : List ℕ) (turned : AllTurned text t w h k e w′) (size : length w′ ≡ length w) where
+    enough : memory-size ≤ length w′
+    enough = omega (arith, size, found .spoken .size)
+
     ends : EndsAs text t w′ e (normalise asked ms)
     ends =
         subst (EndsAs text t w′ e) (sym ending)
         (turned .meant ms asked (spoken-told x text t w (found .spoken) h (found .heads)) (found .number))
 
-    pub refused-answered : (number count m : ℕ) (c : Culprit) (o : List ℕ) (r : Answer) → e ≡ Ended.Refused number count m c
-        → r ≡ told (refusal number count (name-of text m) (culprit-of text c) 0) → Answered asked x o r o
+    refused-found : (number count m : ℕ) (c : Culprit) → e ≡ Ended.Refused number count m c
+        → Refusing asked x w′ (refusal number count (name-of text m) (culprit-of text c) 0)
     unfolding of-ended
-    refused-answered number count m c o r d q =
+    refused-found number count m c d =
         let end = refused-end text t w′ number count m c (normalise asked ms) (subst (λ (x : Ended). EndsAs text t w′ x (normalise asked ms)) d ends) in
-        refusal-answered asked x o r number count (name-of text m) (culprit-of text c) 0 (answering ∙ ap (of-ended asked) end) q
+        record { size = enough; so = answering ∙ ap (of-ended asked) end }
 
-    pub form-evaluated : (name count last : ℕ) → name ≡ word-at (part w 0 t) (getD (h .places) k 0) → length w′ ≡ length w
-        → e ≡ Ended.Normalised count last → Evaluated asked x text t w′ name count last
-    form-evaluated name count last n size d =
+    form-found : (name count last : ℕ) → name ≡ word-at (part w 0 t) (getD (h .places) k 0) → e ≡ Ended.Normalised count last
+        → Holding asked x text w′ t name count last
+    form-found name count last n d =
         let end = normal-end text t w′ count last (normalise asked ms) (normalise-sound asked ms)
         (subst (λ (x : Ended). EndsAs text t w′ x (normalise asked ms)) d ends) in
-        record {
+        let form : Evaluated asked x text t w′ name count last = record {
           tape = omega (arith, size, found-within);
           normal = end .normal;
           stands = end .stands;
           sound = end .sound;
           called = ap (name-of text) n ∙ called-asked;
           ended = answering ∙ ap (of-ended asked) (end .ended);
-        }
+        } in
+        record { size = enough; form = form }
+
+module _ (text : List ℕ) (t : ℕ) (w : List ℕ) (h : Heads) (k : ℕ) (e : Ended) (w′ : List ℕ) (turned : AllTurned text t w h k e w′)
+    (size : length w′ ≡ length w) where
+  pub refused-sought : (number count m : ℕ) (c : Culprit) → e ≡ Ended.Refused number count m c
+      → ModuleSought text t w h k w′ (Sought.Refused number count m c)
+  refused-sought number count m c d =
+      record { meant = λ asked x found. refused-found asked x text t w h k found e w′ turned size number count m c d }
+
+  pub form-sought : (name count last : ℕ) → name ≡ word-at (part w 0 t) (getD (h .places) k 0) → e ≡ Ended.Normalised count last
+      → ModuleSought text t w h k w′ (Sought.Normalised t name count last)
+  form-sought name count last n d =
+      record { meant = λ asked x found. form-found asked x text t w h k found e w′ turned size name count last n d }
