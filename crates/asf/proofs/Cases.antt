@@ -94,7 +94,8 @@ module _ (asked : Name) (library text w : List ℕ) (what : Sought) (so : Sought
         refusal-answered asked (two-texts library text) w o r (unread in-library number place) (unread-within (length o) asked in-library number place)
         (unread-leaves in-library number place o) (subst As d so) q
 
-    refusal-given : (number count : ℕ) (m : Name) (c : Checks.Culprit) → Refusing asked x w (refusal number count m c 0) → r ≡ told (refusal number count m c 0) → Gives o
+    refusal-given : (number count : ℕ) (m : Name) (c : Checks.Culprit) → Refusing asked x w (refusal number count m c 0)
+        → r ≡ told (refusal number count m c 0) → Gives o
     refusal-given number count m c =
         refusal-answered asked (two-texts library text) w o r (refusal number count m c 0) (refusal-within (length o) asked number count m c 0)
         (refusal-leaves number count m c 0 o)

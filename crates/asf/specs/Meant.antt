@@ -73,8 +73,9 @@ module _ (library text w : List ℕ) (size : ℕ) (sized : size ≡ memory-size)
     unread-sought in-library number place asked same-size d =
         let so : x ≡ refused-in in-library number place = subst (TwoTexts.Told library text tape′) d e in
         let rest = drop (end - 0) (drop 0 w) in
+        let front = length-take-le (end - 0) w (omega (arith, end-within)) in
         record {
-          size = omega (arith, length-append tape′ rest, same-size, length-take-le (end - 0) w (omega (arith, end-within)), length-drop (end - 0) w, sized, there);
+          size = omega (arith, length-append tape′ rest, same-size, front, length-drop (end - 0) w, sized, there);
           so = ap (of-read asked) so;
         }
 

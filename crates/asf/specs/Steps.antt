@@ -43,7 +43,7 @@ pub record Found (asked : List ℕ) (x : Reading) (text : List ℕ) (t : ℕ) (w
   pub number : k ≡ before (same asked) (module-names (spoken .modules))
   pub there : k < length (module-names (spoken .modules))
 
--- there is enough memory, and the answer to what was read, x, is a refusal
+-- there is enough memory, and the answer to what was read, x, is the refusal a
 pub record Refusing (asked : Name) (x : Reading) (w : List ℕ) (a : Answer) : Type 0 where
   pub size : memory-size ≤ length w
   pub so : of-read asked x ≡ a

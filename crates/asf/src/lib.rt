@@ -28,7 +28,7 @@ ghost use Rattle.modules.specs.Modules.{heads-in};
 ghost use Rattle.asf.specs.Steps.{Spoken, SoughtAs, ModuleSought};
 
 // What comes of a call before it is answered: too little memory is lent; a text is not read; no module is called as asked; a module is refused; or
-// the asked module, called `name`, is normalised after `count` others and itself, and its form is kept for number `last`, on a tape of t entries.
+// `count` modules are normalised, the asked one, called `name`, among them, and its form is kept for number `last`, on a tape of t entries.
 enum Sought {
     Short,
     Unread {
