@@ -9,6 +9,7 @@ use borrow.Author.Needs.{needs}
 use borrow.Author.Tests.{eq-eqb, ne-eqb, lt-ltb, le-ltb, ltb-true, ltb-false}
 use lib.Dec.{ltb}
 use lib.ListN.{length, getD, set, take, drop, length-take, length-drop, List·getD-eq-default}
+use denote.Ref.{at-last, now}
 use Rattle.meaning.specs.Lists.{pick, before}
 use Rattle.text_names.specs.Word.{name-of}
 use Rattle.tape.specs.Tape.{alone-role}
@@ -19,7 +20,15 @@ use Rattle.own_finding.specs.Known.{variable-called, function-called}
 use Rattle.own_finding.specs.Arguments.{node-word, arguments-of, closers-of, ends-at}
 use Rattle.own_terms.specs.declared.Answer.{Answer}
 use Rattle.own_terms.specs.declared.Answer.the-variants.{Sorted, Ill}
-use Rattle.own_terms.specs.Typing.{Out, out, tape-in, items-in, settled, resolved, no-sorts, variable-row, variable-at, function-row, alone-at, applied-at, further, args-by, term-by, term-at, args-at}
+use Rattle.own_terms.specs.Typing.{Out, out, tape-in, items-in, settled, resolved, no-sorts, variable-row, variable-at, function-row, alone-at, applied-at, further, args-by, term-by, term-at, args-at, Lent, Stays}
+
+-- ---- the reference to the memory
+
+pub stays-here : (w : Lent) → Stays w w
+stays-here w = record { same = refl; size = refl }
+
+pub stays-on : (w x y : Lent) → Stays w x → Stays x y → Stays w y
+stays-on w x y h k = record { same = k .same ∙ ap (λ (z : Lent). at-last z (now y)) (h .same); size = k .size ∙ h .size }
 
 -- ---- one node
 
@@ -98,26 +107,26 @@ module _ (text : List ℕ) (k : Known) (d head place c i q n : ℕ) (sorts w : L
           ap (λ (x : ℕ). args-at text k d head place c x i q n sorts w) onward ∙ rw (h, ← f, g, ← m)
 
 -- what is wanted is what is wanted from here
-pub record Arguing (text : List ℕ) (k : Known) (d head place c left₀ i₀ q₀ n₀ : ℕ) (sorts₀ w₀ : List ℕ) (left i q n : ℕ) (sorts w : List ℕ) : Type 0 where
-  pub size : length w ≡ length w₀
+pub record Arguing (text : List ℕ) (k : Known) (d head place c left₀ i₀ q₀ n₀ : ℕ) (sorts₀ : List ℕ) (w₀ : Lent) (left i q n : ℕ) (sorts : List ℕ) (w : Lent) : Type 0 where
+  pub stays : Stays w₀ w
   pub few : n + left ≤ 9
-  pub rest : args-at text k d head place c left₀ i₀ q₀ n₀ sorts₀ w₀ ≡ args-at text k d head place c left i q n sorts w
+  pub rest : args-at text k d head place c left₀ i₀ q₀ n₀ sorts₀ (now w₀) ≡ args-at text k d head place c left i q n sorts (now w)
 
-module _ (text : List ℕ) (k : Known) (d head place c left₀ i₀ q₀ n₀ : ℕ) (sorts₀ w₀ : List ℕ) where
+module _ (text : List ℕ) (k : Known) (d head place c left₀ i₀ q₀ n₀ : ℕ) (sorts₀ : List ℕ) (w₀ : Lent) where
   pub args-start : n₀ + left₀ ≤ 9 → Arguing text k d head place c left₀ i₀ q₀ n₀ sorts₀ w₀ left₀ i₀ q₀ n₀ sorts₀ w₀
-  args-start h = record { size = refl; few = h; rest = refl }
+  args-start h = record { stays = stays-here w₀; few = h; rest = refl }
 
-  module _ (left i q n : ℕ) (sorts w : List ℕ) (inv : Arguing text k d head place c left₀ i₀ q₀ n₀ sorts₀ w₀ left i q n sorts w) where
-    pub args-end : (o : Out) → o ≡ args-at text k d head place c left i q n sorts w → o ≡ args-at text k d head place c left₀ i₀ q₀ n₀ sorts₀ w₀
+  module _ (left i q n : ℕ) (sorts : List ℕ) (w : Lent) (inv : Arguing text k d head place c left₀ i₀ q₀ n₀ sorts₀ w₀ left i q n sorts w) where
+    pub args-end : (o : Out) → o ≡ args-at text k d head place c left i q n sorts (now w) → o ≡ args-at text k d head place c left₀ i₀ q₀ n₀ sorts₀ (now w₀)
     args-end o e = e ∙ sym (inv .rest)
 
-    pub args-again : (b : Bool) (r : Answer) (u : List ℕ) (s next free : ℕ) (more : List ℕ) → b ≡ ends-at (tape-in k w) c left i → b ≡ false → (left ≡ 0 → ⊥)
-        → out r u ≡ term-at text k d i q w → r ≡ Sorted s next free → length u ≡ length w → more ≡ set sorts n s
+    pub args-again : (b : Bool) (r : Answer) (u : Lent) (s next free : ℕ) (more : List ℕ) → b ≡ ends-at (tape-in k (now w)) c left i → b ≡ false → (left ≡ 0 → ⊥)
+        → out r (now u) ≡ term-at text k d i q (now w) → r ≡ Sorted s next free → Stays w u → more ≡ set sorts n s
         → Arguing text k d head place c left₀ i₀ q₀ n₀ sorts₀ w₀ (left - 1) next free (n + 1) more u
     args-again b r u s next free more e z y f g l m = record {
-      size = l ∙ inv .size;
+      stays = stays-on w₀ w u (inv .stays) l;
       few = omega (arith, inv .few);
-      rest = inv .rest ∙ args-more text k d head place c i q n sorts w left b e z r u f y s next free more g m;
+      rest = inv .rest ∙ args-more text k d head place c i q n sorts (now w) left b e z r (now u) f y s next free more g m;
     }
 
 -- ---- the term

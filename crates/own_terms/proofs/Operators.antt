@@ -169,22 +169,22 @@ module _ (k : List ℕ) (d i q : ℕ) (w : List ℕ) (n word : ℕ) (row : Row (
   abbrev words : List ℕ
   words = (i + n) ∷ (q + n) ∷ word ∷ (d - n) ∷ []
 
-  stands : Ended (known-of k) words w → Operators (known-of k) d i q w words
-  stands e = record { n = n; stand = row; entry = refl; place = refl; deep = refl; ended = e }
+  stands : Ended (known-of k) words w → Operators (known-of k) d i q w words w
+  stands e = record { n = n; stand = row; entry = refl; place = refl; deep = refl; ended = e; kept = refl }
 
   pub row-doubles : (n ≡ 63 → ⊥) → word * 2 < 2 ^ 64
   row-doubles f = omega (arith, row-word (known-of k) d i q w n word row f)
 
-  pub row-full : n ≡ 63 → Operators (known-of k) d i q w words
+  pub row-full : n ≡ 63 → Operators (known-of k) d i q w words w
   row-full e =
       let many : 2 ^ 63 ≤ word = rw e at (row .low) in
       stands (record { none = λ f z. absurd (omega arith) })
 
-  pub row-deep : d ≤ n → Operators (known-of k) d i q w words
+  pub row-deep : d ≤ n → Operators (known-of k) d i q w words w
   row-deep h = stands (record { none = λ f z. absurd (z (omega arith)) })
 
   module _ (a : ℕ) (e : a ≡ operands-at (getD k 0 0) (i + n) (q + n) w) where
-    pub row-stops : a ≡ 0 → Operators (known-of k) d i q w words
+    pub row-stops : a ≡ 0 → Operators (known-of k) d i q w words w
     unfolding known-of
     row-stops y = stands (record { none = λ f z. sym e ∙ y })
 

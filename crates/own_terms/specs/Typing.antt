@@ -6,6 +6,7 @@ use mathlib.Core.Bool.{Bool, true}
 use mathlib.Core.List.{List, [], _∷_, map}
 use lib.Dec.{eqb, ltb}
 use lib.ListN.{length, getD, set, take, replicate}
+use denote.Ref.{RefT, at-last, now}
 use Rattle.meaning.specs.Lists.{pick, before}
 use Rattle.meaning.specs.Origins.{Item}
 use Rattle.tape.specs.Tape.{alone-role, head-role, prefix-role, infix-role}
@@ -160,13 +161,15 @@ shortened row = getD row 0 0 ∷ getD row 1 0 ∷ (getD row 2 0 / 2) ∷ (getD r
 pub record Ended (k : Known) (row w : List ℕ) : Type 0 where
   pub none : getD row 2 0 ≤ 1 → (getD row 3 0 ≡ 0 → ⊥) → operands-at (k .tape) (getD row 0 0) (getD row 1 0) w ≡ 0
 
-pub record Operators (k : Known) (depth i q : ℕ) (w row : List ℕ) : Type 0 where
+-- the operators of the row stand in the memory w, which stays
+pub record Operators (k : Known) (depth i q : ℕ) (w row w′ : List ℕ) : Type 0 where
   pub n : ℕ
   pub stand : Row k depth i q w n (getD row 2 0)
   pub entry : getD row 0 0 ≡ i + n
   pub place : getD row 1 0 ≡ q + n
   pub deep : getD row 3 0 ≡ depth - n
   pub ended : Ended k row w
+  pub kept : w′ ≡ w
 
 -- ---- what a level of a term is given and gives back: words
 
@@ -180,6 +183,11 @@ pub record Words (k : List ℕ) : Type 0 where
   pub visible : getD k 3 0 < 4294967296
   pub hidden : getD k 4 0 ≤ 65536
 
+-- the tape is in the memory, whose places are words
+pub record Room (k w : List ℕ) : Type 0 where
+  pub tape : getD k 0 0 ≤ length w
+  pub fits : length w < 2 ^ 64
+
 -- an answer of a number, which is one more than the sort, and of the two places; 0 is none
 unfoldable pub answered : ℕ → ℕ → ℕ → Answer
 answered zero next free = Ill
@@ -190,9 +198,27 @@ pub record Told (a : Answer) (r : ℕ) (p : List ℕ) : Type 0 where
   pub fits : r ≤ 4294967296
 
 -- what comes out, so told
-pub record Reached (o : Out) (r : ℕ) (p w : List ℕ) : Type 0 where
+pub record Typed (o : Out) (r : ℕ) (p w : List ℕ) : Type 0 where
   pub told : Told (o .answer) r p
   pub memory : w ≡ o .memory
+
+-- a reference to the memory; and one of them is the other at another time
+abbrev pub Lent : Type 0
+Lent = RefT (List ℕ)
+
+pub record Stays (w w′ : Lent) : Type 0 where
+  pub same : w′ ≡ at-last w (now w′)
+  pub size : length (now w′) ≡ length (now w)
+
+-- what comes out where the memory was lent by w: it is now as w′ lends it
+pub record Reached (o : Out) (w : Lent) (r : ℕ) (p : List ℕ) (w′ : Lent) : Type 0 where
+  pub stays : Stays w w′
+  pub typed : Typed o r p (now w′)
+
+-- what was read of the memory w, which stays
+pub record Read {A : Type 0} (v : A) (w : List ℕ) (r : A) (w′ : List ℕ) : Type 0 where
+  pub value : r ≡ v
+  pub kept : w′ ≡ w
 
 -- the row of the variable that the name at i is, if it stands alone
 unfoldable pub variable-at : List ℕ → Known → Bool → ℕ → List ℕ → ℕ

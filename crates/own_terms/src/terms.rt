@@ -1,4 +1,5 @@
-// The typer of terms: a term and its arguments call each other, with the depth falling.
+// The typer of terms: a term and its arguments call each other, with the depth falling. The memory goes down by one reference, which takes a register:
+// a slice is handed over as a copy in memory, of which each level would keep one.
 use super::Answer;
 use form_rows::ROW_STEP;
 use form_rows::entries::name_at;
@@ -18,7 +19,10 @@ ghost use mathlib.Core.Path.{_≡_};
 ghost use Prim.Native.Nat.{_+_, _-_, _^_, _≤_, _<_};
 ghost use lib.ListN.{length, getD};
 ghost use Rattle.text_names.specs.Joint.{joint};
-ghost use Rattle.own_terms.specs.Typing.{out, settled, variable-at, function-row, alone-at, applied-at, no-sorts, args-at, term-at, operated, returned, Backed, stepped, shortened, operands-at, Operators, Ended, known-of, Words, answered, Told, Reached, item-at};
+ghost use Rattle.form_rows.specs.Entries.{role-at};
+ghost use Rattle.form.specs.Memory.{part};
+ghost use Rattle.own_finding.specs.Arguments.{ends-at};
+ghost use Rattle.own_terms.specs.Typing.{out, settled, variable-at, function-row, alone-at, applied-at, no-sorts, args-at, term-at, operated, returned, Backed, stepped, shortened, operands-at, Operators, Ended, known-of, Words, Room, answered, Told, Typed, Reached, Read, item-at};
 
 // So many operators are gone over at once at the most: behind its highest bit a word tells of each whether it is infix, and a term of 64 nodes has no more.
 const ROW: usize = 63;
@@ -147,9 +151,9 @@ fn tell(a: Answer, places: &mut [usize; 2]) -> usize
 
 // The name at the row: a variable if it stands alone, or else a function of the first n sorts; its node is written at the row's place. The one call
 // of `type_applied` is compiled into it, so that it is too large to be compiled into a level, whatever `alone` is there.
-fn type_item(
-    library: &&[u8],
-    text: &&[u8],
+fn item_in(
+    library: &[u8],
+    text: &[u8],
     work: &mut [u32],
     k: &[usize; 5],
     places: &mut [usize; 2],
@@ -159,7 +163,7 @@ fn type_item(
     n: usize,
 ) -> usize
     requires { ⌜ (getD (now k) 0 0 ≤ length (now work)) × Words (now k) × (n ≤ 9) ⌝ }
-    ensures { λ r. ⌜ Reached (item-at (joint (now (now (library .entry))) (now (now (text .entry)))) (known-of (now (k .entry))) alone (getD (now (row .entry)) 0 0) (getD (now (row .entry)) 1 0) n (now (sorts .entry)) (getD (now (places .entry)) 0 0) (getD (now (places .entry)) 1 0) (now (work .entry))) r (now (places .exit)) (now (work .exit)) ⌝ }
+    ensures { λ r. ⌜ Typed (item-at (joint (now (library .entry)) (now (text .entry))) (known-of (now (k .entry))) alone (getD (now (row .entry)) 0 0) (getD (now (row .entry)) 1 0) n (now (sorts .entry)) (getD (now (places .entry)) 0 0) (getD (now (places .entry)) 1 0) (now (work .entry))) r (now (places .exit)) (now (work .exit)) ⌝ }
 {
     let known = known_of(k);
     let count = known.count;
@@ -167,27 +171,45 @@ fn type_item(
     let q = row[1];
     let next = places[0];
     let free = places[1];
-    let v = variable_row(*library, *text, work, known, i, alone);
+    let v = variable_row(library, text, work, known, i, alone);
     if v < count {
         let a = settle(work, known, q, v, n, next, free);
         return tell(a, places);
     }
-    let a = type_applied(*library, *text, work, known, i, q, n, *sorts, next, free);
+    let a = type_applied(library, text, work, known, i, q, n, *sorts, next, free);
     tell(a, places)
+}
+
+// The same by the reference to the memory.
+fn type_item(
+    library: &&[u8],
+    text: &&[u8],
+    work: &mut &mut [u32],
+    k: &[usize; 5],
+    places: &mut [usize; 2],
+    row: &[usize; 4],
+    alone: bool,
+    sorts: &[u32; 9],
+    n: usize,
+) -> usize
+    requires { ⌜ (getD (now k) 0 0 ≤ length (now (now work))) × Words (now k) × (n ≤ 9) ⌝ }
+    ensures { λ r. ⌜ Reached (item-at (joint (now (now (library .entry))) (now (now (text .entry)))) (known-of (now (k .entry))) alone (getD (now (row .entry)) 0 0) (getD (now (row .entry)) 1 0) n (now (sorts .entry)) (getD (now (places .entry)) 0 0) (getD (now (places .entry)) 1 0) (now (now (work .entry)))) (now (work .entry)) r (now (places .exit)) (now (work .exit)) ⌝ }
+{
+    item_in(*library, *text, *work, k, places, row, alone, sorts, n)
 }
 
 // The name at the row, alone.
 fn type_leaf(
     library: &&[u8],
     text: &&[u8],
-    work: &mut [u32],
+    work: &mut &mut [u32],
     k: &[usize; 5],
     places: &mut [usize; 2],
     row: &[usize; 4],
     sorts: &[u32; 9],
 ) -> usize
-    requires { ⌜ (getD (now k) 0 0 ≤ length (now work)) × Words (now k) × (getD (now row) 0 0 < getD (now k) 0 0) × (getD (now row) 1 0 < length (now work)) × (now sorts ≡ no-sorts) ⌝ }
-    ensures { λ r. ⌜ Reached (alone-at (joint (now (now (library .entry))) (now (now (text .entry)))) (known-of (now (k .entry))) (getD (now (row .entry)) 0 0) (getD (now (row .entry)) 1 0) (now (work .entry))) r (now (places .exit)) (now (work .exit)) ⌝ }
+    requires { ⌜ Room (now k) (now (now work)) × Words (now k) × (getD (now row) 0 0 < getD (now k) 0 0) × (getD (now row) 1 0 < length (now (now work))) × (now sorts ≡ no-sorts) ⌝ }
+    ensures { λ r. ⌜ Reached (alone-at (joint (now (now (library .entry))) (now (now (text .entry)))) (known-of (now (k .entry))) (getD (now (row .entry)) 0 0) (getD (now (row .entry)) 1 0) (now (now (work .entry)))) (now (work .entry)) r (now (places .exit)) (now (work .exit)) ⌝ }
 {
     let i = row[0];
     let q = row[1];
@@ -199,15 +221,15 @@ fn type_leaf(
 fn type_named(
     library: &&[u8],
     text: &&[u8],
-    work: &mut [u32],
+    work: &mut &mut [u32],
     k: &[usize; 5],
     places: &mut [usize; 2],
     row: &[usize; 4],
     sorts: &[u32; 9],
     n: usize,
 ) -> usize
-    requires { ⌜ (getD (now k) 0 0 ≤ length (now work)) × Words (now k) × (n ≤ 9) ⌝ }
-    ensures { λ r. ⌜ Reached (applied-at (joint (now (now (library .entry))) (now (now (text .entry)))) (known-of (now (k .entry))) (getD (now (row .entry)) 0 0) (getD (now (row .entry)) 1 0) n (now (sorts .entry)) (getD (now (places .entry)) 0 0) (getD (now (places .entry)) 1 0) (now (work .entry))) r (now (places .exit)) (now (work .exit)) ⌝ }
+    requires { ⌜ (getD (now k) 0 0 ≤ length (now (now work))) × Words (now k) × (n ≤ 9) ⌝ }
+    ensures { λ r. ⌜ Reached (applied-at (joint (now (now (library .entry))) (now (now (text .entry)))) (known-of (now (k .entry))) (getD (now (row .entry)) 0 0) (getD (now (row .entry)) 1 0) n (now (sorts .entry)) (getD (now (places .entry)) 0 0) (getD (now (places .entry)) 1 0) (now (now (work .entry)))) (now (work .entry)) r (now (places .exit)) (now (work .exit)) ⌝ }
 {
     type_item(library, text, work, k, places, row, false, sorts, n)
 }
@@ -233,9 +255,9 @@ fn operands_at(work: &[u32], t: usize, i: usize, q: usize) -> usize
 // The operators that stand one behind the other from i on, as far as the depth, the room and a word go: the entry and the place behind them, a
 // word that tells which are infix, of the last one in its lowest bit, and the depth there. It is kept, as the tape is not read again: nodes may have
 // been written there. All that a level keeps of its row is in this one array, which is lent, so that no frame has any of it twice.
-fn operators_from(work: &[u32], k: &[usize; 5], i: usize, q: usize, depth: usize) -> [usize; 4]
+fn operators_from(work: &mut [u32], k: &[usize; 5], i: usize, q: usize, depth: usize) -> [usize; 4]
     requires { ⌜ getD (now k) 0 0 ≤ length (now work) ⌝ }
-    ensures { λ r. ⌜ Operators (known-of (now (k .entry))) depth i q (now (work .entry)) r ⌝ }
+    ensures { λ r. ⌜ Operators (known-of (now (k .entry))) depth i q (now (work .entry)) r (now (work .exit)) ⌝ }
 {
     let t = k[0];
     let mut n = 0;
@@ -258,15 +280,15 @@ fn operators_from(work: &[u32], k: &[usize; 5], i: usize, q: usize, depth: usize
 fn type_operator(
     library: &&[u8],
     text: &&[u8],
-    work: &mut [u32],
+    work: &mut &mut [u32],
     k: &[usize; 5],
     places: &mut [usize; 2],
     row: &[usize; 4],
     sorts: &mut [u32; 9],
     first: usize,
 ) -> usize
-    requires { ⌜ (getD (now k) 0 0 ≤ length (now work)) × Words (now k) × (first ≡ 0 → ⊥) × (first ≤ 4294967296) ⌝ }
-    ensures { λ r. ⌜ Reached (operated (joint (now (now (library .entry))) (now (now (text .entry)))) (known-of (now (k .entry))) (getD (now (row .entry)) 3 0) (getD (now (row .entry)) 2 0) (getD (now (row .entry)) 0 0) (getD (now (row .entry)) 1 0) (out (answered first (getD (now (places .entry)) 0 0) (getD (now (places .entry)) 1 0)) (now (work .entry)))) r (now (places .exit)) (now (work .exit)) ⌝ }
+    requires { ⌜ Room (now k) (now (now work)) × Words (now k) × (first ≡ 0 → ⊥) × (first ≤ 4294967296) ⌝ }
+    ensures { λ r. ⌜ Reached (operated (joint (now (now (library .entry))) (now (now (text .entry)))) (known-of (now (k .entry))) (getD (now (row .entry)) 3 0) (getD (now (row .entry)) 2 0) (getD (now (row .entry)) 0 0) (getD (now (row .entry)) 1 0) (out (answered first (getD (now (places .entry)) 0 0) (getD (now (places .entry)) 1 0)) (now (now (work .entry))))) (now (work .entry)) r (now (places .exit)) (now (work .exit)) ⌝ }
 {
     *sorts = [0; 9];
     sorts[0] = (first - 1) as u32;
@@ -309,15 +331,15 @@ fn shorten(row: &mut [usize; 4])
 fn type_back(
     library: &&[u8],
     text: &&[u8],
-    work: &mut [u32],
+    work: &mut &mut [u32],
     k: &[usize; 5],
     places: &mut [usize; 2],
     row: &mut [usize; 4],
     sorts: &mut [u32; 9],
     first: usize,
 ) -> usize
-    requires { ⌜ (getD (now k) 0 0 ≤ length (now work)) × Words (now k) × (first ≤ 4294967296) × Backed (now row) ⌝ }
-    ensures { λ r. ⌜ Reached (returned (joint (now (now (library .entry))) (now (now (text .entry)))) (known-of (now (k .entry))) (now (row .entry)) (out (answered first (getD (now (places .entry)) 0 0) (getD (now (places .entry)) 1 0)) (now (work .entry)))) r (now (places .exit)) (now (work .exit)) ⌝ }
+    requires { ⌜ Room (now k) (now (now work)) × Words (now k) × (first ≤ 4294967296) × Backed (now row) ⌝ }
+    ensures { λ r. ⌜ Reached (returned (joint (now (now (library .entry))) (now (now (text .entry)))) (known-of (now (k .entry))) (now (row .entry)) (out (answered first (getD (now (places .entry)) 0 0) (getD (now (places .entry)) 1 0)) (now (now (work .entry))))) (now (work .entry)) r (now (places .exit)) (now (work .exit)) ⌝ }
 {
     let mut sort = first;
     while 1 < row[2] {
@@ -331,18 +353,35 @@ fn type_back(
     sort
 }
 
+// Whether the arguments in brackets end before the entry, where so many more may follow. What only reads the memory is lent the slice itself, as no part of
+// it can be lent by the reference to it.
+fn ends_in(work: &mut [u32], t: usize, left: usize, at: usize) -> bool
+    requires { ⌜ t ≤ length (now work) ⌝ }
+    ensures { λ r. ⌜ Read (ends-at (part (now (work .entry)) 0 t) 1 left at) (now (work .entry)) r (now (work .exit)) ⌝ }
+{
+    ends_at(&work[0..t], 1, left, at)
+}
+
+// The role of the entry.
+fn role_in(work: &mut [u32], t: usize, i: usize) -> u32
+    requires { ⌜ t ≤ length (now work) ⌝ }
+    ensures { λ r. ⌜ Read (role-at (part (now (work .entry)) 0 t) i) (now (work .entry)) r (now (work .exit)) ⌝ }
+{
+    role_at(&work[0..t], i)
+}
+
 // The name at the row with the arguments in its brackets. Where the tape ends is read at each turn: no level keeps it.
 fn type_args(
     library: &&[u8],
     text: &&[u8],
-    work: &mut [u32],
+    work: &mut &mut [u32],
     k: &[usize; 5],
     places: &mut [usize; 2],
     row: &[usize; 4],
     sorts: &mut [u32; 9],
 ) -> usize
-    requires { ⌜ (getD (now k) 0 0 ≤ length (now work)) × Words (now k) × (getD (now row) 0 0 < getD (now k) 0 0) × (getD (now row) 1 0 < length (now work)) × (getD (now row) 3 0 ≡ 0 → ⊥) × (now sorts ≡ no-sorts) ⌝ }
-    ensures { λ r. ⌜ Reached (args-at (joint (now (now (library .entry))) (now (now (text .entry)))) (known-of (now (k .entry))) (getD (now (row .entry)) 3 0 - 1) (getD (now (row .entry)) 0 0) (getD (now (row .entry)) 1 0) 1 9 (getD (now (row .entry)) 0 0 + 1) (getD (now (row .entry)) 1 0 + 1) 0 no-sorts (now (work .entry))) r (now (places .exit)) (now (work .exit)) ⌝ }
+    requires { ⌜ Room (now k) (now (now work)) × Words (now k) × (getD (now row) 0 0 < getD (now k) 0 0) × (getD (now row) 1 0 < length (now (now work))) × (getD (now row) 3 0 ≡ 0 → ⊥) × (now sorts ≡ no-sorts) ⌝ }
+    ensures { λ r. ⌜ Reached (args-at (joint (now (now (library .entry))) (now (now (text .entry)))) (known-of (now (k .entry))) (getD (now (row .entry)) 3 0 - 1) (getD (now (row .entry)) 0 0) (getD (now (row .entry)) 1 0) 1 9 (getD (now (row .entry)) 0 0 + 1) (getD (now (row .entry)) 1 0 + 1) 0 no-sorts (now (now (work .entry)))) (now (work .entry)) r (now (places .exit)) (now (work .exit)) ⌝ }
 {
     let head = row[0];
     let place = row[1];
@@ -351,7 +390,7 @@ fn type_args(
     loop {
         let t = k[0];
         let at = places[0];
-        if ends_at(&work[0..t], 1, 9 - count, at) {
+        if ends_in(*work, t, 9 - count, at) {
             let free = places[1];
             *places = [behind(at, 1), free];
             return type_named(library, text, work, k, places, row, sorts, count);
@@ -372,13 +411,13 @@ fn type_args(
 fn type_onward(
     library: &&[u8],
     text: &&[u8],
-    work: &mut [u32],
+    work: &mut &mut [u32],
     k: &[usize; 5],
     places: &mut [usize; 2],
     depth: usize,
 ) -> usize
-    requires { ⌜ (getD (now k) 0 0 ≤ length (now work)) × Words (now k) ⌝ }
-    ensures { λ r. ⌜ Reached (term-at (joint (now (now (library .entry))) (now (now (text .entry)))) (known-of (now (k .entry))) depth (getD (now (places .entry)) 0 0) (getD (now (places .entry)) 1 0) (now (work .entry))) r (now (places .exit)) (now (work .exit)) ⌝ }
+    requires { ⌜ Room (now k) (now (now work)) × Words (now k) ⌝ }
+    ensures { λ r. ⌜ Reached (term-at (joint (now (now (library .entry))) (now (now (text .entry)))) (known-of (now (k .entry))) depth (getD (now (places .entry)) 0 0) (getD (now (places .entry)) 1 0) (now (now (work .entry)))) (now (work .entry)) r (now (places .exit)) (now (work .exit)) ⌝ }
 {
     type_deep(library, text, work, k, places, depth)
 }
@@ -387,14 +426,14 @@ fn type_onward(
 fn type_primary(
     library: &&[u8],
     text: &&[u8],
-    work: &mut [u32],
+    work: &mut &mut [u32],
     k: &[usize; 5],
     places: &mut [usize; 2],
     row: &[usize; 4],
     sorts: &mut [u32; 9],
 ) -> usize
-    requires { ⌜ (getD (now k) 0 0 ≤ length (now work)) × Words (now k) × (now sorts ≡ no-sorts) × Ended (known-of (now k)) (now row) (now work) ⌝ }
-    ensures { λ r. ⌜ Reached (term-at (joint (now (now (library .entry))) (now (now (text .entry)))) (known-of (now (k .entry))) (getD (now (row .entry)) 3 0) (getD (now (row .entry)) 0 0) (getD (now (row .entry)) 1 0) (now (work .entry))) r (now (places .exit)) (now (work .exit)) ⌝ }
+    requires { ⌜ Room (now k) (now (now work)) × Words (now k) × (now sorts ≡ no-sorts) × Ended (known-of (now k)) (now row) (now (now work)) ⌝ }
+    ensures { λ r. ⌜ Reached (term-at (joint (now (now (library .entry))) (now (now (text .entry)))) (known-of (now (k .entry))) (getD (now (row .entry)) 3 0) (getD (now (row .entry)) 0 0) (getD (now (row .entry)) 1 0) (now (now (work .entry)))) (now (work .entry)) r (now (places .exit)) (now (work .exit)) ⌝ }
 {
     let depth = row[3];
     if depth == 0 {
@@ -405,7 +444,7 @@ fn type_primary(
     let q = row[1];
     if i < t {
         if q < work.len() {
-            let role = role_at(&work[0..t], i);
+            let role = role_in(*work, t, i);
             if role == roles::ALONE {
                 return type_leaf(library, text, work, k, places, row, sorts);
             }
@@ -428,20 +467,40 @@ fn type_primary(
 fn type_deep(
     library: &&[u8],
     text: &&[u8],
-    work: &mut [u32],
+    work: &mut &mut [u32],
     k: &[usize; 5],
     places: &mut [usize; 2],
     depth: usize,
 ) -> usize
-    requires { ⌜ (getD (now k) 0 0 ≤ length (now work)) × Words (now k) ⌝ }
-    ensures { λ r. ⌜ Reached (term-at (joint (now (now (library .entry))) (now (now (text .entry)))) (known-of (now (k .entry))) depth (getD (now (places .entry)) 0 0) (getD (now (places .entry)) 1 0) (now (work .entry))) r (now (places .exit)) (now (work .exit)) ⌝ }
+    requires { ⌜ Room (now k) (now (now work)) × Words (now k) ⌝ }
+    ensures { λ r. ⌜ Reached (term-at (joint (now (now (library .entry))) (now (now (text .entry)))) (known-of (now (k .entry))) depth (getD (now (places .entry)) 0 0) (getD (now (places .entry)) 1 0) (now (now (work .entry)))) (now (work .entry)) r (now (places .exit)) (now (work .exit)) ⌝ }
 {
     let i = places[0];
     let q = places[1];
-    let mut row = operators_from(work, k, i, q, depth);
+    let mut row = operators_from(*work, k, i, q, depth);
     let mut sorts = [0; 9];
     let first = type_primary(library, text, work, k, places, &row, &mut sorts);
     type_back(library, text, work, k, places, &mut row, &mut sorts, first)
+}
+
+// The same for the slice itself, which is lent on by one reference. The borrow checker covers that where the slice is moved, so it is moved, and handed
+// back: by that the caller knows what became of it.
+fn type_lent<'a>(
+    library: &[u8],
+    text: &[u8],
+    work: &'a mut [u32],
+    k: &[usize; 5],
+    places: &mut [usize; 2],
+    depth: usize,
+    sort: &mut usize,
+) -> &'a mut [u32]
+    requires { ⌜ Room (now k) (now work) × Words (now k) ⌝ }
+    ensures { λ r. ⌜ Reached (term-at (joint (now (library .entry)) (now (text .entry))) (known-of (now (k .entry))) depth (getD (now (places .entry)) 0 0) (getD (now (places .entry)) 1 0) (now (work .entry))) (work .entry) (now (sort .exit)) (now (places .exit)) r ⌝ }
+{
+    let mut lent = work;
+    *sort = type_deep(&library, &text, &mut lent, k, places, depth);
+    let back = lent;
+    back
 }
 
 // The term at i, down to a depth; its nodes are written from q on.
@@ -459,7 +518,8 @@ pub fn type_term(
 {
     let words = known_words(k);
     let mut places = [i, q];
-    let sort = type_deep(&library, &text, work, &words, &mut places, depth);
+    let mut sort: usize = 0;
+    let _back = type_lent(library, text, work, &words, &mut places, depth, &mut sort);
     if sort == 0 {
         return Answer::Ill;
     }

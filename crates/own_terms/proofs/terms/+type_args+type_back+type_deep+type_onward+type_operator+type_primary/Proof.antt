@@ -31,10 +31,10 @@ use Rattle.own_terms.proofs.terms.+type_args+type_back+type_deep+type_o
 use Rattle.own_terms.proofs.terms.type_primary.Reads as type-primary
 use Rattle.own_terms.proofs.terms.type_primary.Kinds as type-primary-kinds
 use Rattle.own_terms.proofs.terms.+type_args+type_back+type_deep+type_onward+type_operator+type_primary.Lts-type_primary as type-primary-lts
-use Rattle.form_rows.proofs.entries.role_at.Reads as role-at-reads
 use Rattle.own_finding.proofs.arguments.behind.Reads as behind-reads
-use Rattle.own_finding.proofs.arguments.ends_at.Reads as ends-at-reads
+use Rattle.own_terms.proofs.terms.ends_in.Reads as ends-in-reads
 use Rattle.own_terms.proofs.terms.operators_from.Reads as operators-from-reads
+use Rattle.own_terms.proofs.terms.role_in.Reads as role-in-reads
 use Rattle.own_terms.proofs.terms.shorten.Reads as shorten-reads
 use Rattle.own_terms.proofs.terms.step_back.Reads as step-back-reads
 use Rattle.own_terms.proofs.terms.type_leaf.Reads as type-leaf-reads
@@ -42,75 +42,75 @@ use Rattle.own_terms.proofs.terms.type_named.Reads as type-named-reads
 use Rattle.own_terms.proofs.terms.+type_args+type_back+type_deep+type_onward+type_operator+type_primary.{statement}
 use Rattle.own_terms.proofs.terms.+type_args+type_back+type_deep+type_onward+type_operator+type_primary.Tie.{close}
 
-abbrev μ-type-args : Measures 9 type-args-kinds.ps ℕ
+abbrev μ-type-args : Measures 10 type-args-kinds.ps ℕ
 μ-type-args κs a = getD (now (a .1 .1 .1 .1 .1 .0)) 3 0 * 3
 
-abbrev μ-type-back : Measures 9 type-back-kinds.ps ℕ
+abbrev μ-type-back : Measures 10 type-back-kinds.ps ℕ
 μ-type-back κs a = (getD (now (a .1 .1 .1 .1 .1 .0)) 3 0 + operators-in (now (a .1 .1 .1 .1 .1 .0))) * 3 + 1
 
-abbrev μ-type-deep : Measures 7 type-deep-kinds.ps ℕ
+abbrev μ-type-deep : Measures 8 type-deep-kinds.ps ℕ
 μ-type-deep κs a = a .1 .1 .1 .1 .1 .0 * 3 + 2
 
-abbrev μ-type-onward : Measures 7 type-onward-kinds.ps ℕ
+abbrev μ-type-onward : Measures 8 type-onward-kinds.ps ℕ
 μ-type-onward κs a = a .1 .1 .1 .1 .1 .0 * 3 + 3
 
-abbrev μ-type-operator : Measures 9 type-operator-kinds.ps ℕ
+abbrev μ-type-operator : Measures 10 type-operator-kinds.ps ℕ
 μ-type-operator κs a = getD (now (a .1 .1 .1 .1 .1 .0)) 3 0 * 3 + 3
 
-abbrev μ-type-primary : Measures 9 type-primary-kinds.ps ℕ
+abbrev μ-type-primary : Measures 10 type-primary-kinds.ps ℕ
 μ-type-primary κs a = (getD (now (a .1 .1 .1 .1 .1 .0)) 3 0 + operators-in (now (a .1 .1 .1 .1 .1 .0))) * 3 + 1
 
-abbrev type-args-at : ℕ → In 9 type-args-kinds.ps
-type-args-at t = and 9 type-args-kinds.ps (is 9 type-args-kinds.ps μ-type-args t) type-args.Pre
+abbrev type-args-at : ℕ → In 10 type-args-kinds.ps
+type-args-at t = and 10 type-args-kinds.ps (is 10 type-args-kinds.ps μ-type-args t) type-args.Pre
 
-abbrev type-args-below : ℕ → In 9 type-args-kinds.ps
+abbrev type-args-below : ℕ → In 10 type-args-kinds.ps
 type-args-below t =
-    and 9 type-args-kinds.ps (falls 9 type-args-kinds.ps _<_ μ-type-args t) type-args.Pre
+    and 10 type-args-kinds.ps (falls 10 type-args-kinds.ps _<_ μ-type-args t) type-args.Pre
 
-abbrev type-back-at : ℕ → In 9 type-back-kinds.ps
-type-back-at t = and 9 type-back-kinds.ps (is 9 type-back-kinds.ps μ-type-back t) type-back.Pre
+abbrev type-back-at : ℕ → In 10 type-back-kinds.ps
+type-back-at t = and 10 type-back-kinds.ps (is 10 type-back-kinds.ps μ-type-back t) type-back.Pre
 
-abbrev type-back-below : ℕ → In 9 type-back-kinds.ps
+abbrev type-back-below : ℕ → In 10 type-back-kinds.ps
 type-back-below t =
-    and 9 type-back-kinds.ps (falls 9 type-back-kinds.ps _<_ μ-type-back t) type-back.Pre
+    and 10 type-back-kinds.ps (falls 10 type-back-kinds.ps _<_ μ-type-back t) type-back.Pre
 
-abbrev type-deep-at : ℕ → In 7 type-deep-kinds.ps
-type-deep-at t = and 7 type-deep-kinds.ps (is 7 type-deep-kinds.ps μ-type-deep t) type-deep.Pre
+abbrev type-deep-at : ℕ → In 8 type-deep-kinds.ps
+type-deep-at t = and 8 type-deep-kinds.ps (is 8 type-deep-kinds.ps μ-type-deep t) type-deep.Pre
 
-abbrev type-deep-below : ℕ → In 7 type-deep-kinds.ps
+abbrev type-deep-below : ℕ → In 8 type-deep-kinds.ps
 type-deep-below t =
-    and 7 type-deep-kinds.ps (falls 7 type-deep-kinds.ps _<_ μ-type-deep t) type-deep.Pre
+    and 8 type-deep-kinds.ps (falls 8 type-deep-kinds.ps _<_ μ-type-deep t) type-deep.Pre
 
-abbrev type-onward-at : ℕ → In 7 type-onward-kinds.ps
+abbrev type-onward-at : ℕ → In 8 type-onward-kinds.ps
 type-onward-at t =
-    and 7 type-onward-kinds.ps (is 7 type-onward-kinds.ps μ-type-onward t) type-onward.Pre
+    and 8 type-onward-kinds.ps (is 8 type-onward-kinds.ps μ-type-onward t) type-onward.Pre
 
-abbrev type-onward-below : ℕ → In 7 type-onward-kinds.ps
+abbrev type-onward-below : ℕ → In 8 type-onward-kinds.ps
 type-onward-below t =
-    and 7 type-onward-kinds.ps (falls 7 type-onward-kinds.ps _<_ μ-type-onward t) type-onward.Pre
+    and 8 type-onward-kinds.ps (falls 8 type-onward-kinds.ps _<_ μ-type-onward t) type-onward.Pre
 
-abbrev type-operator-at : ℕ → In 9 type-operator-kinds.ps
+abbrev type-operator-at : ℕ → In 10 type-operator-kinds.ps
 type-operator-at t =
-    and 9 type-operator-kinds.ps (is 9 type-operator-kinds.ps μ-type-operator t) type-operator.Pre
+    and 10 type-operator-kinds.ps (is 10 type-operator-kinds.ps μ-type-operator t) type-operator.Pre
 
-abbrev type-operator-below : ℕ → In 9 type-operator-kinds.ps
+abbrev type-operator-below : ℕ → In 10 type-operator-kinds.ps
 type-operator-below t =
     and
-    9
+    10
     type-operator-kinds.ps
-    (falls 9 type-operator-kinds.ps _<_ μ-type-operator t)
+    (falls 10 type-operator-kinds.ps _<_ μ-type-operator t)
     type-operator.Pre
 
-abbrev type-primary-at : ℕ → In 9 type-primary-kinds.ps
+abbrev type-primary-at : ℕ → In 10 type-primary-kinds.ps
 type-primary-at t =
-    and 9 type-primary-kinds.ps (is 9 type-primary-kinds.ps μ-type-primary t) type-primary.Pre
+    and 10 type-primary-kinds.ps (is 10 type-primary-kinds.ps μ-type-primary t) type-primary.Pre
 
-abbrev type-primary-below : ℕ → In 9 type-primary-kinds.ps
+abbrev type-primary-below : ℕ → In 10 type-primary-kinds.ps
 type-primary-below t =
     and
-    9
+    10
     type-primary-kinds.ps
-    (falls 9 type-primary-kinds.ps _<_ μ-type-primary t)
+    (falls 10 type-primary-kinds.ps _<_ μ-type-primary t)
     type-primary.Pre
 
 abbrev type-args-Inv-loop : type-args-lts.InvT-loop
@@ -140,8 +140,8 @@ pub +type-args+type-back+type-deep+type-onward+type-operator+type-primary-spec :
     μ-type-operator
     μ-type-primary
     (λ t. type-args-lts.spec (
-      ends-at-reads.Asked,
-      ends-at-reads.Learnt,
+      ends-in-reads.Asked,
+      ends-in-reads.Learnt,
       behind-reads.Asked,
       behind-reads.Learnt,
       type-named-reads.Asked,
@@ -160,28 +160,26 @@ pub +type-args+type-back+type-deep+type-onward+type-operator+type-primary-spec :
     (λ c. search deeper)  -- type-args-loop-holds
     (λ c. search deeper)  -- type-args-element-copy-out-t
     (λ c. search deeper)  -- type-args-element-copy-out-at
-    (λ c. search deeper)  -- type-args-sub-ends-at
-    (λ c. search deeper)  -- type-args-part-ends-at-start
-    (λ c. search deeper)  -- type-args-part-ends-at-end
-    (λ c. search deeper)  -- type-args-sub-ends-at-2
-    (λ c κs. search deeper)  -- type-args-ends-at-requires
+    (λ c. search deeper)  -- type-args-slice-aggregate-ends-in
+    (λ c. search deeper)  -- type-args-sub-ends-in
+    (λ c κs. search deeper)  -- type-args-ends-in-requires
     (λ c. search deeper)  -- type-args-element-copy-out-free
     (λ c κs f.
-    let start = c .before .before .before .before .before .before .before .before .before .before .before .before in
-    let turn = c .before .before .before .before .before .before .before .loop in
-    deep-fits _ _ _ _ _ _ _ _ _ _ _ (turn .inv) _ (c .before .before .ends-at .ensures) (c .before .if1 .taken) (start .good .1 .1 .0 .0))  -- type-args-behind-requires
+    let read = c .before .before in
+    let turn = read .before .before .before .before .loop in
+    deep-fits _ _ _ _ _ _ _ _ _ _ _ (turn .inv) _ _ (read .ends-in .ensures) (c .before .if1 .taken) (search needs))  -- type-args-behind-requires
     (λ c κs. search deeper)  -- type-args-type-named-requires
-    (λ c. search deeper)  -- type-args-same-length
     (λ c. search deeper)  -- type-args-returns
-    (λ c. search deeper)  -- type-args-same-length-2
     (λ c. search deeper)  -- type-args-returns-2
     (λ c. search deeper)  -- type-args-element-copy-out-type-deep
     (λ c. search deeper)  -- type-args-sub-type-deep
     (λ c κs. search deeper)  -- type-args-type-deep-requires
-    (λ c. search deeper)  -- type-args-same-length-3
     (λ c.
-    let turn = c .before .before .before .before .before .before .before .before .before .before .before .before .before .before .loop in
-    deep-ill _ _ _ _ _ _ _ _ _ _ _ (turn .inv) _ (c .before .before .before .before .before .before .before .before .before .ends-at .ensures) (c .before .before .before .before .before .before .before .before .if1 .left) (c .before .before .before .before .before .before .before .if2 .left) _ _ _ (c .before .before .before .type-deep .ensures) (c .if3 .taken))  -- type-args-returns-3
+    let called = c .before in
+    let full = called .before .before .before .before in
+    let read = full .before .before in
+    deep-ill _ _ _ _ _ _ _ _ _ _ _ (read .before .before .before .before .loop .inv) _ _ (read .ends-in .ensures) (full .before .if1 .left) (full .if2 .left) _ _ _
+    (called .type-deep .ensures) (c .if3 .taken))  -- type-args-returns-3
     (λ c. search deeper)  -- type-args-sub-sorts
     (λ c. search deeper)  -- type-args-cast-sorts
     (λ c. search deeper)  -- type-args-mul-sorts
@@ -189,8 +187,11 @@ pub +type-args+type-back+type-deep+type-onward+type-operator+type-primary-spec :
     (λ c. search deeper)  -- type-args-add-count
     (λ c. search deeper)  -- type-args-loop-less
     (λ c.
-    let turn = c .before .before .before .before .before .before .before .before .before .before .before .before .before .before .loop in
-    deep-again _ _ _ _ _ _ _ _ _ _ _ (turn .inv) _ (c .before .before .before .before .before .before .before .before .before .ends-at .ensures) (c .before .before .before .before .before .before .before .before .if1 .left) (c .before .before .before .before .before .before .before .if2 .left) _ _ _ (c .before .before .before .type-deep .ensures) _ (c .if3 .left) (search needs) refl)  -- type-args-loop-again
+    let called = c .before in
+    let full = called .before .before .before .before in
+    let read = full .before .before in
+    deep-again _ _ _ _ _ _ _ _ _ _ _ (read .before .before .before .before .loop .inv) _ _ (read .ends-in .ensures) (full .before .if1 .left) (full .if2 .left) _ _ _
+    (called .type-deep .ensures) _ (c .if3 .left) refl)  -- type-args-loop-again
     )
     (λ t. type-back-lts.spec (
       step-back-reads.Asked,
@@ -206,14 +207,12 @@ pub +type-args+type-back+type-deep+type-onward+type-operator+type-primary-spec :
     type-back-μ-loop
     (λ c. search deeper)  -- type-back-loop-holds
     (λ c. search deeper)  -- type-back-element-copy-out-if1
-    (λ c. search deeper)  -- type-back-same-length
     (λ c. search deeper)  -- type-back-returns
     (λ c κs. search deeper)  -- type-back-step-back-requires
     (λ c κs. search deeper)  -- type-back-type-operator-requires
     (λ c κs. search deeper)  -- type-back-shorten-requires
     (λ c. search deeper)  -- type-back-loop-less
     (λ c. search deeper)  -- type-back-loop-again
-    (λ c. search deeper)  -- type-back-same-length-2
     (λ c. search deeper)  -- type-back-returns-2
     )
     (λ t. type-deep-lts.spec (
@@ -228,10 +227,10 @@ pub +type-args+type-back+type-deep+type-onward+type-operator+type-primary-spec :
     type-deep.Post
     (λ c. search deeper)  -- type-deep-element-copy-out-i
     (λ c. search deeper)  -- type-deep-element-copy-out-q
+    (λ c. search deeper)  -- type-deep-slice-aggregate-operators-from
     (λ c κs. search deeper)  -- type-deep-operators-from-requires
-    (λ c κs. search deeper)  -- type-deep-type-primary-requires
+    (λ c κs. (search deeper, (search deeper, search deeper, search deeper, search deeper)))  -- type-deep-type-primary-requires
     (λ c κs. (search deeper, (search deeper, search deeper, search deeper, search deeper)))  -- type-deep-type-back-requires
-    (λ c. search deeper)  -- type-deep-same-length
     (λ c. search deeper)  -- type-deep-returns
     )
     (λ t. type-onward-lts.spec
@@ -239,7 +238,6 @@ pub +type-args+type-back+type-deep+type-onward+type-operator+type-primary-spec :
     (type-onward-at t)
     type-onward.Post
     (λ c κs. search deeper)  -- type-onward-type-deep-requires
-    (λ c. search deeper)  -- type-onward-same-length
     (λ c. search deeper)  -- type-onward-returns
     )
     (λ t. type-operator-lts.spec (
@@ -255,22 +253,19 @@ pub +type-args+type-back+type-deep+type-onward+type-operator+type-primary-spec :
     (λ c. search deeper)  -- type-operator-element-write-sorts
     (λ c. search deeper)  -- type-operator-element-copy-out-if1
     (λ c κs. search deeper)  -- type-operator-type-named-requires
-    (λ c. search deeper)  -- type-operator-same-length
     (λ c. search deeper)  -- type-operator-returns
     (λ c. search deeper)  -- type-operator-element-copy-out-type-deep
     (λ c κs. search deeper)  -- type-operator-type-deep-requires
-    (λ c. search deeper)  -- type-operator-same-length-2
     (λ c. search deeper)  -- type-operator-returns-2
     (λ c. search deeper)  -- type-operator-sub-sorts-2
     (λ c. search deeper)  -- type-operator-cast-sorts-2
     (λ c. search deeper)  -- type-operator-element-write-sorts-2
     (λ c κs. search deeper)  -- type-operator-type-named-requires-2
-    (λ c. search deeper)  -- type-operator-same-length-3
-    (λ c. search (operator-infix, c .before .before .type-named2 .ensures, c .before .before .before .before .before .before .before .before .before .type-deep .ensures, needs))  -- type-operator-returns-3
+    (λ c. search (operator-infix, c .type-named2 .ensures, c .before .before .before .before .before .type-deep .ensures, needs))  -- type-operator-returns-3
     )
     λ t. type-primary-lts.spec (
-      role-at-reads.Asked,
-      role-at-reads.Learnt,
+      role-in-reads.Asked,
+      role-in-reads.Learnt,
       type-leaf-reads.Asked,
       type-leaf-reads.Learnt,
       type-args-below t,
@@ -285,21 +280,15 @@ pub +type-args+type-back+type-deep+type-onward+type-operator+type-primary-spec :
     (λ c. search deeper)  -- type-primary-element-copy-out-t
     (λ c. search deeper)  -- type-primary-element-copy-out-i
     (λ c. search deeper)  -- type-primary-element-copy-out-q
-    (λ c. search deeper)  -- type-primary-sub-role-at
-    (λ c. search deeper)  -- type-primary-part-role-at-start
-    (λ c. search deeper)  -- type-primary-part-role-at-end
-    (λ c κs. search deeper)  -- type-primary-role-at-requires
-    (λ c κs. search deeper)  -- type-primary-type-leaf-requires
-    (λ c. search deeper)  -- type-primary-same-length
+    (λ c. search deeper)  -- type-primary-slice-aggregate-role-in
+    (λ c κs. search deeper)  -- type-primary-role-in-requires
+    (λ c κs. (search deeper, search deeper, search deeper, search deeper, search deeper))  -- type-primary-type-leaf-requires
     (λ c. search deeper)  -- type-primary-returns-2
-    (λ c κs. search deeper)  -- type-primary-type-args-requires
-    (λ c. search deeper)  -- type-primary-same-length-2
+    (λ c κs. (search deeper, (search deeper, search deeper, search deeper, search deeper, search deeper, search deeper)))  -- type-primary-type-args-requires
     (λ c. search deeper)  -- type-primary-returns-3
     (λ c. search deeper)  -- type-primary-element-copy-out-if6
-    (λ c κs. search deeper)  -- type-primary-type-onward-requires
-    (λ c. search deeper)  -- type-primary-same-length-3
+    (λ c κs. (search deeper, (search deeper, search deeper)))  -- type-primary-type-onward-requires
     (λ c. search deeper)  -- type-primary-returns-4
-    (λ c. search deeper)  -- type-primary-same-length-4
     (λ c. search deeper)  -- type-primary-returns-5
     (λ c. search deeper)  -- type-primary-returns-6
     (λ c. search deeper)  -- type-primary-returns-7

@@ -10,9 +10,8 @@ type-leaf-spec =
     (tie.spec
     (λ c. search deeper)  -- element-copy-out-i
     (λ c. search deeper)  -- element-copy-out-q
-    (λ c. search deeper)  -- add-t11
-    (λ c. search deeper)  -- add-t14
+    (λ c. search deeper)  -- add-t12
+    (λ c. search deeper)  -- add-t15
     (λ c κs. search deeper)  -- type-item-requires
-    (λ c. search deeper)  -- same-length
     (λ c. search deeper)  -- returns
     )

@@ -9,6 +9,5 @@ type-named-spec =
     tie.close
     (tie.spec
     (λ c κs. search deeper)  -- type-item-requires
-    (λ c. search deeper)  -- same-length
     (λ c. search deeper)  -- returns
     )

@@ -1,6 +1,6 @@
 -- `own_terms::terms::type_term` meets its contract.
 -- Assumes nothing.
-use Rattle.own_terms.proofs.Deep.{deeper}
+use Rattle.own_terms.proofs.Deep.{whole-ill, whole-sorted, deeper}
 use Rattle.own_terms.proofs.terms.type_term.Statement.{statement}
 use Rattle.own_terms.proofs.terms.type_term.Tie as tie
 
@@ -9,13 +9,19 @@ type-term-spec =
     tie.close
     (tie.spec
     (λ c κs. search deeper)  -- known-words-requires
-    (λ c κs. search deeper)  -- type-deep-requires
+    (λ c κs. search deeper)  -- type-lent-requires
     (λ c. search deeper)  -- same-length
-    (λ c. search deeper)  -- returns
-    (λ c. search deeper)  -- sub-t21
-    (λ c. search deeper)  -- cast-t22
-    (λ c. search deeper)  -- array-read-t25
-    (λ c. search deeper)  -- array-read-t28
+    (λ c.
+    let back = c .before .before in
+    let called = back .before in
+    whole-ill _ _ _ _ _ _ _ _ _ _ _ (back .work .given .1 .0) (called .before .before .before .before .before .known-words .ensures) (called .type-lent .ensures) (c .if1 .taken))  -- returns
+    (λ c. search deeper)  -- sub-t20
+    (λ c. search deeper)  -- cast-t21
+    (λ c. search deeper)  -- array-read-t24
+    (λ c. search deeper)  -- array-read-t27
     (λ c. search deeper)  -- same-length-2
-    (λ c. search deeper)  -- returns-2
+    (λ c.
+    let back = c .before .before in
+    let called = back .before in
+    whole-sorted _ _ _ _ _ _ _ _ _ _ _ (back .work .given .1 .0) (called .before .before .before .before .before .known-words .ensures) (called .type-lent .ensures) (c .if1 .left))  -- returns-2
     )
