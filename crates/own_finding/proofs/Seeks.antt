@@ -21,7 +21,6 @@ use Rattle.form_walks.specs.Shapes.{shape-function, by-kind}
 use Rattle.form_walks.specs.Rows.{find-start, find-end, find-again, find-here}
 use Rattle.own_finding.specs.Known.{variable-called, function-called}
 use Rattle.form_rows.specs.RowLaws.{length-words, take-nine, agree-lengths}
-use Rattle.form_rows.proofs.Auto.{on, done}
 use Rattle.form_comparing.proofs.Alike.{AgreeFrom, agree-on, agree-off, agree-all}
 
 -- ---- the sorts of one row: those before j are the first of a
@@ -156,7 +155,5 @@ module _ (text tape w : List ℕ) (a b i v : ℕ) (c : Bool) (e : v ≡ getD w (
 
 -- what the answers of the search hand to `search`
 pub ruleset tests = (variable-off, variable-there, function-off, function-none, function-fewer, function-there, needs)
-
-pub ruleset sorts-turn = (on, done, sorts-on, sorts-off, sorts-all, needs)
 
 pub ruleset seeks = (find-start, find-again, find-end, find-here, needs)

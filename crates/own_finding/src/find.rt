@@ -52,11 +52,11 @@ fn takes(
     t: usize,
     b: u32,
     i: u32,
-    sorts: [u32; 9],
+    sorts: &[u32; 9],
     n: usize,
 ) -> bool
-    requires { ⌜ (t ≤ length (now work)) × (n ≤ 9) ⌝ }
-    ensures { λ r. ⌜ r ≡ agree same-sort (map (sort-of (joint (now (library .entry)) (now (text .entry))) (part (now (work .entry)) 0 t)) (take n sorts)) (map (sort-of (joint (now (library .entry)) (now (text .entry))) (part (now (work .entry)) 0 t)) (take n (row-at (now (work .entry)) (b + i * row-size) .sorts))) ⌝ }
+    requires { ⌜ (t ≤ length (now work)) × (n ≤ 9) × (length (now sorts) ≡ 9) ⌝ }
+    ensures { λ r. ⌜ r ≡ agree same-sort (map (sort-of (joint (now (library .entry)) (now (text .entry))) (part (now (work .entry)) 0 t)) (take n (now (sorts .entry)))) (map (sort-of (joint (now (library .entry)) (now (text .entry))) (part (now (work .entry)) 0 t)) (take n (row-at (now (work .entry)) (b + i * row-size) .sorts))) ⌝ }
 {
     let place = b as usize + i as usize * ROW_STEP + 6;
     let mut j = 0;
@@ -80,11 +80,11 @@ fn is_such_function(
     b: u32,
     i: u32,
     w: u32,
-    sorts: [u32; 9],
+    sorts: &[u32; 9],
     n: usize,
 ) -> bool
-    requires { ⌜ (t ≤ length (now work)) × (n ≤ 9) ⌝ }
-    ensures { λ r. ⌜ r ≡ function-called (name-of (joint (now (library .entry)) (now (text .entry))) w) (map (sort-of (joint (now (library .entry)) (now (text .entry))) (part (now (work .entry)) 0 t)) (take n sorts)) (item-of (joint (now (library .entry)) (now (text .entry))) (part (now (work .entry)) 0 t) (row-at (now (work .entry)) (b + i * row-size))) ⌝ }
+    requires { ⌜ (t ≤ length (now work)) × (n ≤ 9) × (length (now sorts) ≡ 9) ⌝ }
+    ensures { λ r. ⌜ r ≡ function-called (name-of (joint (now (library .entry)) (now (text .entry))) w) (map (sort-of (joint (now (library .entry)) (now (text .entry))) (part (now (work .entry)) 0 t)) (take n (now (sorts .entry)))) (item-of (joint (now (library .entry)) (now (text .entry))) (part (now (work .entry)) 0 t) (row-at (now (work .entry)) (b + i * row-size))) ⌝ }
 {
     if same_word(library, text, w, row_name(work, b, i)) {
         let kind = word_at(work, b as usize + i as usize * ROW_STEP + 2);
@@ -131,11 +131,11 @@ pub fn find_function(
     b: u32,
     n: u32,
     w: u32,
-    sorts: [u32; 9],
+    sorts: &[u32; 9],
     count: usize,
 ) -> u32
-    requires { ⌜ (t ≤ length (now work)) × (count ≤ 9) ⌝ }
-    ensures { λ r. ⌜ r ≡ before (function-called (name-of (joint (now (library .entry)) (now (text .entry))) w) (map (sort-of (joint (now (library .entry)) (now (text .entry))) (part (now (work .entry)) 0 t)) (take count sorts))) (items-at (joint (now (library .entry)) (now (text .entry))) (part (now (work .entry)) 0 t) (now (work .entry)) b n) ⌝ }
+    requires { ⌜ (t ≤ length (now work)) × (count ≤ 9) × (length (now sorts) ≡ 9) ⌝ }
+    ensures { λ r. ⌜ r ≡ before (function-called (name-of (joint (now (library .entry)) (now (text .entry))) w) (map (sort-of (joint (now (library .entry)) (now (text .entry))) (part (now (work .entry)) 0 t)) (take count (now (sorts .entry))))) (items-at (joint (now (library .entry)) (now (text .entry))) (part (now (work .entry)) 0 t) (now (work .entry)) b n) ⌝ }
 {
     let mut i = 0;
     while i < n {

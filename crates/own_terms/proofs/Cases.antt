@@ -8,7 +8,7 @@ use native.Mathlib.Omega.{arith}
 use borrow.Author.Needs.{needs}
 use borrow.Author.Tests.{eq-eqb, ne-eqb, lt-ltb, le-ltb, ltb-true, ltb-false}
 use lib.Dec.{ltb}
-use lib.ListN.{length, getD, set, take, drop, length-take, length-drop, List·getD-eq-default}
+use lib.ListN.{length, getD, set, take, drop, length-take, length-drop, length-set, List·getD-eq-default}
 use denote.Ref.{at-last, now}
 use Rattle.meaning.specs.Lists.{pick, before}
 use Rattle.text_names.specs.Word.{name-of}
@@ -110,11 +110,12 @@ module _ (text : List ℕ) (k : Known) (d head place c i q n : ℕ) (sorts w : L
 pub record Arguing (text : List ℕ) (k : Known) (d head place c left₀ i₀ q₀ n₀ : ℕ) (sorts₀ : List ℕ) (w₀ : Lent) (left i q n : ℕ) (sorts : List ℕ) (w : Lent) : Type 0 where
   pub stays : Stays w₀ w
   pub few : n + left ≤ 9
+  pub nine : length sorts ≡ 9
   pub rest : args-at text k d head place c left₀ i₀ q₀ n₀ sorts₀ (now w₀) ≡ args-at text k d head place c left i q n sorts (now w)
 
 module _ (text : List ℕ) (k : Known) (d head place c left₀ i₀ q₀ n₀ : ℕ) (sorts₀ : List ℕ) (w₀ : Lent) where
-  pub args-start : n₀ + left₀ ≤ 9 → Arguing text k d head place c left₀ i₀ q₀ n₀ sorts₀ w₀ left₀ i₀ q₀ n₀ sorts₀ w₀
-  args-start h = record { stays = stays-here w₀; few = h; rest = refl }
+  pub args-start : n₀ + left₀ ≤ 9 → length sorts₀ ≡ 9 → Arguing text k d head place c left₀ i₀ q₀ n₀ sorts₀ w₀ left₀ i₀ q₀ n₀ sorts₀ w₀
+  args-start h l = record { stays = stays-here w₀; few = h; nine = l; rest = refl }
 
   module _ (left i q n : ℕ) (sorts : List ℕ) (w : Lent) (inv : Arguing text k d head place c left₀ i₀ q₀ n₀ sorts₀ w₀ left i q n sorts w) where
     pub args-end : (o : Out) → o ≡ args-at text k d head place c left i q n sorts (now w) → o ≡ args-at text k d head place c left₀ i₀ q₀ n₀ sorts₀ (now w₀)
@@ -126,6 +127,7 @@ module _ (text : List ℕ) (k : Known) (d head place c left₀ i₀ q₀ n₀ : 
     args-again b r u s next free more e z y f g l m = record {
       stays = stays-on w₀ w u (inv .stays) l;
       few = omega (arith, inv .few);
+      nine = rw (m, length-set sorts n s) (inv .nine);
       rest = inv .rest ∙ args-more text k d head place c i q n sorts (now w) left b e z r (now u) f y s next free more g m;
     }
 

@@ -125,6 +125,9 @@ module _ (text k : List ℕ) (i q n : ℕ) (sorts : List ℕ) (next free : ℕ) 
   unfolding item-at pick
   item-function l f = typed-as (item-at text (known-of k) alone i q n sorts next free w) a u r p (rw (← e, ← h, le-ltb v (known .count) l) f) t
 
+pub leaf-nine : (sorts : List ℕ) → sorts ≡ no-sorts → length sorts ≡ 9
+leaf-nine sorts e = rw e refl
+
 pub leaf-told : (text : List ℕ) (k : Known) (i q : ℕ) (sorts : List ℕ) (w : Lent) (r : ℕ) (p : List ℕ) (u : Lent) → sorts ≡ no-sorts
     → Reached (item-at text k true i q 0 sorts (i + 1) (q + 1) (now w)) w r p u → Reached (alone-at text k i q (now w)) w r p u
 unfolding item-at variable-at alone-at pick
@@ -145,11 +148,14 @@ module _ (text k : List ℕ) (d head place : ℕ) (w₀ : Lent) where
   wanted = args-at text (known-of k) d head place 1 9 (head + 1) (place + 1) 0 no-sorts (now w₀)
 
   pub deep-open : (sorts : List ℕ) → sorts ≡ no-sorts → Deep 0 (head + 1) (place + 1) sorts w₀
-  deep-open sorts e = rw e (args-start text (known-of k) d head place 1 9 (head + 1) (place + 1) 0 no-sorts w₀ (omega arith))
+  deep-open sorts e = rw e (args-start text (known-of k) d head place 1 9 (head + 1) (place + 1) 0 no-sorts w₀ (omega arith) refl)
 
   module _ (n i q : ℕ) (sorts : List ℕ) (w : Lent) (inv : Deep n i q sorts w) where
     pub deep-room : Room k (now w₀) → Room k (now w)
     deep-room = room-on k w₀ w (inv .stays)
+
+    pub deep-nine : length sorts ≡ 9
+    deep-nine = inv .nine
 
     module _ (b : Bool) (w′ : List ℕ) (e : Read (ends-at (part (now w) 0 (getD k 0 0)) 1 (9 - n) i) (now w) b w′) where
       pub deep-still : Room k (now w₀) → Room k w′
@@ -539,4 +545,4 @@ module _ (text k : List ℕ) (known : Known) (d i q : ℕ) (w : Lent) (r : ℕ) 
   whole-sorted z = ap (λ (a : Answer). out a u) (sym (answered-sorted r (getD p 0 0) (getD p 1 0) z)) ∙ came-back
 
 -- what the answers of a level hand to `search`
-pub ruleset deeper = (known-told, known-kept, known-tape, known-count, known-row, known-hidden, words-tape, words-kept, room-known, room-tape, tell-ill, tell-sorted, reached-lent, reached-word, reached-room, item-variable, item-function, leaf-told, named-told, deep-open, deep-room, deep-still, deep-done, deep-many, deep-ill, deep-again, operator-prefix, operator-ill, operator-infix, back-open, back-room, back-entry, back-place, back-less, back-deeper, back-fewer, back-ill, back-end, back-again, row-backed, row-ended, row-room, row-less, onward-less, read-room, read-within, read-onward, deep-none, deep-past, deep-full, deep-leaf, deep-args, deep-other, deep-row, needs)
+pub ruleset deeper = (known-told, known-kept, known-tape, known-count, known-row, known-hidden, words-tape, words-kept, room-known, room-tape, tell-ill, tell-sorted, reached-lent, reached-word, reached-room, item-variable, item-function, leaf-nine, leaf-told, named-told, deep-open, deep-room, deep-nine, deep-still, deep-done, deep-many, deep-ill, deep-again, operator-prefix, operator-ill, operator-infix, back-open, back-room, back-entry, back-place, back-less, back-deeper, back-fewer, back-ill, back-end, back-again, row-backed, row-ended, row-room, row-less, onward-less, read-room, read-within, read-onward, deep-none, deep-past, deep-full, deep-leaf, deep-args, deep-other, deep-row, needs)

@@ -69,11 +69,11 @@ fn function_row(
     work: &[u32],
     k: Known,
     i: usize,
-    sorts: [u32; 9],
+    sorts: &[u32; 9],
     n: usize,
 ) -> u32
-    requires { ⌜ (k .tape ≤ length (now work)) × (n ≤ 9) ⌝ }
-    ensures { λ r. ⌜ r ≡ function-row (joint (now (library .entry)) (now (text .entry))) k i sorts n (now (work .entry)) ⌝ }
+    requires { ⌜ (k .tape ≤ length (now work)) × (n ≤ 9) × (length (now sorts) ≡ 9) ⌝ }
+    ensures { λ r. ⌜ r ≡ function-row (joint (now (library .entry)) (now (text .entry))) k i (now (sorts .entry)) n (now (work .entry)) ⌝ }
 {
     let t = k.tape;
     let b = k.base;
@@ -91,12 +91,12 @@ fn type_applied(
     i: usize,
     q: usize,
     n: usize,
-    sorts: [u32; 9],
+    sorts: &[u32; 9],
     next: usize,
     free: usize,
 ) -> Answer
-    requires { ⌜ (k .tape ≤ length (now work)) × (n ≤ 9) × (k .count ≤ 65536) × (k .hidden ≤ 65536) ⌝ }
-    ensures { λ r. ⌜ out r (now (work .exit)) ≡ applied-at (joint (now (library .entry)) (now (text .entry))) k i q n sorts next free (now (work .entry)) ⌝ }
+    requires { ⌜ (k .tape ≤ length (now work)) × (n ≤ 9) × (length (now sorts) ≡ 9) × (k .count ≤ 65536) × (k .hidden ≤ 65536) ⌝ }
+    ensures { λ r. ⌜ out r (now (work .exit)) ≡ applied-at (joint (now (library .entry)) (now (text .entry))) k i q n (now (sorts .entry)) next free (now (work .entry)) ⌝ }
 {
     let count = k.count;
     let f = function_row(library, text, work, k, i, sorts, n);
@@ -162,7 +162,7 @@ fn item_in(
     sorts: &[u32; 9],
     n: usize,
 ) -> usize
-    requires { ⌜ (getD (now k) 0 0 ≤ length (now work)) × Words (now k) × (n ≤ 9) ⌝ }
+    requires { ⌜ (getD (now k) 0 0 ≤ length (now work)) × Words (now k) × (n ≤ 9) × (length (now sorts) ≡ 9) ⌝ }
     ensures { λ r. ⌜ Typed (item-at (joint (now (library .entry)) (now (text .entry))) (known-of (now (k .entry))) alone (getD (now (row .entry)) 0 0) (getD (now (row .entry)) 1 0) n (now (sorts .entry)) (getD (now (places .entry)) 0 0) (getD (now (places .entry)) 1 0) (now (work .entry))) r (now (places .exit)) (now (work .exit)) ⌝ }
 {
     let known = known_of(k);
@@ -176,7 +176,7 @@ fn item_in(
         let a = settle(work, known, q, v, n, next, free);
         return tell(a, places);
     }
-    let a = type_applied(library, text, work, known, i, q, n, *sorts, next, free);
+    let a = type_applied(library, text, work, known, i, q, n, sorts, next, free);
     tell(a, places)
 }
 
@@ -192,7 +192,7 @@ fn type_item(
     sorts: &[u32; 9],
     n: usize,
 ) -> usize
-    requires { ⌜ (getD (now k) 0 0 ≤ length (now (now work))) × Words (now k) × (n ≤ 9) ⌝ }
+    requires { ⌜ (getD (now k) 0 0 ≤ length (now (now work))) × Words (now k) × (n ≤ 9) × (length (now sorts) ≡ 9) ⌝ }
     ensures { λ r. ⌜ Reached (item-at (joint (now (now (library .entry))) (now (now (text .entry)))) (known-of (now (k .entry))) alone (getD (now (row .entry)) 0 0) (getD (now (row .entry)) 1 0) n (now (sorts .entry)) (getD (now (places .entry)) 0 0) (getD (now (places .entry)) 1 0) (now (now (work .entry)))) (now (work .entry)) r (now (places .exit)) (now (work .exit)) ⌝ }
 {
     item_in(*library, *text, *work, k, places, row, alone, sorts, n)
@@ -228,7 +228,7 @@ fn type_named(
     sorts: &[u32; 9],
     n: usize,
 ) -> usize
-    requires { ⌜ (getD (now k) 0 0 ≤ length (now (now work))) × Words (now k) × (n ≤ 9) ⌝ }
+    requires { ⌜ (getD (now k) 0 0 ≤ length (now (now work))) × Words (now k) × (n ≤ 9) × (length (now sorts) ≡ 9) ⌝ }
     ensures { λ r. ⌜ Reached (applied-at (joint (now (now (library .entry))) (now (now (text .entry)))) (known-of (now (k .entry))) (getD (now (row .entry)) 0 0) (getD (now (row .entry)) 1 0) n (now (sorts .entry)) (getD (now (places .entry)) 0 0) (getD (now (places .entry)) 1 0) (now (now (work .entry)))) (now (work .entry)) r (now (places .exit)) (now (work .exit)) ⌝ }
 {
     type_item(library, text, work, k, places, row, false, sorts, n)
