@@ -37,7 +37,7 @@ use Rattle.imports.specs.Spelling.{ImportsAt}
 use Rattle.imports.specs.Expressions.{ImportsRoom, ImportsMade, all-imported}
 use Rattle.evaluate_module.specs.Steps.{first-checks, ImportedRoom, Imported}
 use Rattle.evaluate_module.specs.FirstSteps.{imported-room, started-refused, started-on}
-use Rattle.evaluate_module.specs.LastSteps.{complete-room, finished-refused, finished-done}
+use Rattle.evaluate_module.specs.LastSteps.{complete-room, joined-refused, joined-done, finished-refused, finished-never, equations-room, equations-counted, equations-right, finished-done}
 
 -- ---- one check after the other
 
@@ -107,4 +107,6 @@ all-made text t w w′ h from end i j b f r e q z g x = record {
       (subst (λ (k : Form). Stands text (part w 0 t) w k empty) (sym g) (empty-stands text (part w 0 t) w b)));
 }
 
-pub ruleset cases = (names-stop, names-fine, place-fits, imports-room, all-made, imported-room, started-refused, started-on, complete-room, finished-refused, finished-done, needs)
+pub ruleset cases = (names-stop, names-fine, place-fits, imports-room, all-made, imported-room, started-refused, started-on, complete-room, joined-refused, joined-done, needs)
+
+pub ruleset last-cases = (finished-refused, finished-never, equations-room, equations-counted, equations-right, finished-done, needs)

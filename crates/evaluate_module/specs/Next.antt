@@ -35,6 +35,7 @@ use Rattle.form_keeping.specs.Environment.{number-of, EnvStands, env-stays, Tab
 use Rattle.form_keeping.specs.Growing.{below-right}
 use Rattle.imports.specs.Clausal.{Ground, number-within, kept-table}
 use Rattle.own_completing.specs.declared.Totals.{Totals}
+use Rattle.own_completing.specs.declared.complete.Joined.{Joined}
 use Rattle.own_completing.specs.Room.{StillRight, TotalsMeant, size-meant}
 use Rattle.own_completing.specs.Completed.{KeptDone, MakesIn}
 use Rattle.evaluate_storing.specs.Places.{StoreRoom, form-space}
@@ -47,7 +48,7 @@ use Rattle.evaluate_module.specs.Sofar.{Told, Ready, Sofar}
 use Rattle.evaluate_module.specs.Stepping.{evaluated-as, Stepping}
 use Rattle.evaluate_module.specs.Heads.{module-there}
 use Rattle.evaluate_module.specs.FirstSteps.{begun, StartedRoom, Started, short-part}
-use Rattle.evaluate_module.specs.LastSteps.{FinishedRoom, all-joined, Finished, steps-ordered, joined-distinct, ordered-size}
+use Rattle.evaluate_module.specs.LastSteps.{JoinedRoom, FinishedRoom, OwnJoined, all-joined, Finished, steps-ordered, joined-distinct, ordered-size}
 use Rattle.form_frames.specs.Changes.{onward, tape-kept}
 
 -- ---- places
@@ -112,42 +113,50 @@ totals-next text tape w f a env totals r x e stands meant =
 
 -- ---- what comes of them
 
--- the memory is w at first, then w₁, then w₂, and w′ where a form is kept
+-- the memory is w at first, then w₁, w₂ and w₃, and w′ where a form is kept
 module _ (text : List ℕ) (t : ℕ) (w : List ℕ) (h : Heads) (k : ℕ) (s : State) (number : k < h .count) (ready : Ready t w h k s)
     (so-far : Made) (w₁ : List ℕ) (x : Started text t w h k so-far w₁) where
   laid : Laid (length w) t
   laid = ready .laid
 
-  pub finish-room : FinishedRoom (length w₁) t h k so-far (s .totals)
-  finish-room = record {
+  pub join-room : JoinedRoom (length w₁) t h k so-far
+  join-room = record {
     laid = subst (λ (n : ℕ). Laid n t) (sym (x .kept .size)) laid;
     tape = ready .tape;
     within = ready .within k number;
     few-entries = ready .few-entries k number;
     there = x .made-in;
-    right = ready .right;
   }
 
-  module _ (made : Made) (w₂ : List ℕ) (y : Finished text t w₁ h k so-far (s .totals) made w₂) where
+  module _ (rows : Joined) (w₂ : List ℕ) (z : OwnJoined text t w₁ h k so-far rows w₂) where
+    pub finish-room : FinishedRoom (length w₂) t h k so-far rows (s .totals)
+    finish-room = record { joined = rw (z .kept .size) join-room; rows-within = z .rows-within; right = ready .right }
+
+  module _ (rows : Joined) (w₂ : List ℕ) (z : OwnJoined text t w₁ h k so-far rows w₂) (made : Made) (w₃ : List ℕ)
+      (y : Finished text t w₂ h k so-far rows (s .totals) made w₃) where
+    joined-kept : KeptOutside (joining-block .low) (second-block .high) w w₂
+    joined-kept = onward (x .kept) (z .kept)
+
     made-so : (ms : List Module) (env : List Evaluated) (m : Module) (ys : List Module) (earlier : List Name) → Sofar text t w h s ms env
         → drop k ms ≡ m ∷ ys → Earlier (module-names ms) k earlier
-        → MakesIn text t (joining-block .low) (second-block .high) w₁ w₂ made (all-joined (begun (module-names ms) earlier env m) k (total-of env) m)
+        → MakesIn text t (joining-block .low) (second-block .high) w₂ w₃ made (all-joined (begun (module-names ms) earlier env m) k (total-of env) m)
     unfolding begun
     made-so ms env m ys earlier sofar e f =
         let there = module-there text (part w 0 t) t h ms (sofar .told) (short-part w t) k m ys e in
-        y .made m (begun (module-names ms) earlier env m) (total-of env)
+        let o = begun (module-names ms) earlier env m in
+        y .made m o (total-of env) (sofar .totals)
+        (z .so m o
         (subst (λ (tape : List ℕ). ModuleAt text tape (getD (h .places) k 0) (getD (h .places) (k + 1) 0) m)
         (sym (tape-kept (laid .joining .tape) (x .kept))) there)
-        (sofar .totals) (gives-then AllSeen _ _ (λ c. imported-seen env (sofar .seen) (m .imports)))
-        (x .made ms env m ys earlier (sofar .told) (sofar .stands) e f)
+        (gives-then AllSeen _ _ (λ c. imported-seen env (sofar .seen) (m .imports))) (x .made ms env m ys earlier (sofar .told) (sofar .stands) e f))
 
-    pub steps-refused : (j : ℕ) (c : Culprit) → made ≡ NotMade j c → Stepping text t w h k s (Refused j c) w₂
+    pub steps-refused : (j : ℕ) (c : Culprit) → made ≡ NotMade j c → Stepping text t w h k s (Refused j c) w₃
     steps-refused j c q = record {
       meant = λ ms env m ys earlier sofar e f.
           let o = all-joined (begun (module-names ms) earlier env m) k (total-of env) m in
-          let z = subst (λ (u : Made). Makes text (part w₂ 0 t) w₂ u o) q (made-so ms env m ys earlier sofar e f .makes) in
+          let z = subst (λ (u : Made). Makes text (part w₃ 0 t) w₃ u o) q (made-so ms env m ys earlier sofar e f .makes) in
           steps-ordered (module-names ms) earlier k (total-of env) env m
-          ∙ then-stops o (λ (a : Normal). fine (in-order a)) j (culprit-of text c) (refused-outcome text (part w₂ 0 t) w₂ j c o z);
+          ∙ then-stops o (λ (a : Normal). fine (in-order a)) j (culprit-of text c) (refused-outcome text (part w₃ 0 t) w₃ j c o z);
     }
 
     module _ (f : Form) (q : made ≡ Done f) where
@@ -157,18 +166,18 @@ module _ (text : List ℕ) (t : ℕ) (w : List ℕ) (h : Heads) (k : ℕ) (s : S
       still-right : StillRight (s .totals) (Done f)
       still-right = subst (StillRight (s .totals)) q (y .right)
 
-      pub keep-room : (size : ℕ) → size ≡ length w₁ → KeptRoom size t k f s
-      keep-room size z = record { store = store-fits t w h k s number ready size f (z ∙ x .kept .size) made-there still-right; right = still-right }
+      pub keep-room : (size : ℕ) → size ≡ length w₂ → KeptRoom size t k f s
+      keep-room size e = record { store = store-fits t w h k s number ready size f (e ∙ joined-kept .size) made-there still-right; right = still-right }
 
-      module _ (r : State) (w′ : List ℕ) (stored : KeptState text t k f s r w₂ w′) (kept : KeptOutside (joining-block .low) (second-block .high) w w₂) where
-        store-room : StoreRoom (length w₂) t k f (s .cursor)
-        store-room = keep-room (length w₂) (kept .size ∙ sym (x .kept .size)) .store
+      module _ (r : State) (w′ : List ℕ) (stored : KeptState text t k f s r w₃ w′) (kept : KeptOutside (joining-block .low) (second-block .high) w w₃) where
+        store-room : StoreRoom (length w₃) t k f (s .cursor)
+        store-room = keep-room (length w₃) (kept .size ∙ sym (joined-kept .size)) .store
 
         behind : second-block .high ≤ table-start
         behind = omega (arith, laid .second-kept, kept-table (length w) t laid)
 
-        below : TableBelow w₂ (s .cursor)
-        below = table-stays (joining-block .low) (second-block .high) (s .cursor) w w₂ behind kept (ready .below)
+        below : TableBelow w₃ (s .cursor)
+        below = table-stays (joining-block .low) (second-block .high) (s .cursor) w w₃ behind kept (ready .below)
 
         length-still : length w′ ≡ length w
         length-still = stored .stored .grown .size ∙ kept .size
@@ -183,7 +192,7 @@ module _ (text : List ℕ) (t : ℕ) (w : List ℕ) (h : Heads) (k : ℕ) (s : S
           ordered = ready .ordered;
           within = ready .within;
           few-entries = ready .few-entries;
-          below = stored-table text t k f (s .cursor) (r .cursor) w₂ w′ store-room (stored .stored) below;
+          below = stored-table text t k f (s .cursor) (r .cursor) w₃ w′ store-room (stored .stored) below;
           start = omega (arith, stored .stored .cursor, ready .start);
           space = rw (stored .totals, stored .stored .cursor) (next-space t w h k s f ready made-there);
           right = rw (stored .totals) (record { items = still-right .0; equations = still-right .1; nodes = still-right .2 });
@@ -191,7 +200,7 @@ module _ (text : List ℕ) (t : ℕ) (w : List ℕ) (h : Heads) (k : ℕ) (s : S
 
         module _ (ms : List Module) (env : List Evaluated) (m : Module) (ys : List Module) (earlier : List Name) (sofar : Sofar text t w h s ms env)
             (e : drop k ms ≡ m ∷ ys) (a : Normal) (joined : all-joined (begun (module-names ms) earlier env m) k (total-of env) m ≡ fine a)
-            (stands : Stands text (part w₂ 0 t) w₂ f a) where
+            (stands : Stands text (part w₃ 0 t) w₃ f a) where
           abbrev ds : List Name
           ds = declared text (part w 0 t) h
 
@@ -207,14 +216,14 @@ module _ (text : List ℕ) (t : ℕ) (w : List ℕ) (h : Heads) (k : ℕ) (s : S
               ∙ ap (number-of (module-names ms)) (sym (name-by-number k ms ys m e))
               ∙ names-distinct ms (sofar .told .fresh) k (omega (arith, drop-some k ms ys m e, names-number ms))
 
-          env-then : EnvStands text (part w₂ 0 t) w₂ ds env
+          env-then : EnvStands text (part w₃ 0 t) w₃ ds env
           env-then =
-              env-stays text t (joining-block .low) (second-block .high) w w₂ ds env (laid .joining .tape) (laid .second-kept) (kept-table (length w) t laid)
+              env-stays text t (joining-block .low) (second-block .high) w w₃ ds env (laid .joining .tape) (laid .second-kept) (kept-table (length w) t laid)
               kept (number-within text (part w 0 t) h (ready .heads)) (ground t w h k s number ready .table) (sofar .stands)
 
           env-next : EnvStands text (part w′ 0 t) w′ ds (evaluated-as m (in-order a) ∷ env)
           env-next =
-              stored-env text t k f (s .cursor) (r .cursor) w₂ w′ store-room (stored .stored) below ds env (m .name) a own-number
+              stored-env text t k f (s .cursor) (r .cursor) w₃ w′ store-room (stored .stored) below ds env (m .name) a own-number
               (omega (arith, ap length names, names-number ms, drop-some k ms ys m e)) (number-within text (part w 0 t) h (ready .heads)) stands
               (joined-distinct (module-names ms) earlier env (sofar .sound) k (total-of env) m a joined) env-then
 
@@ -229,16 +238,16 @@ module _ (text : List ℕ) (t : ℕ) (w : List ℕ) (h : Heads) (k : ℕ) (s : S
               subst (Gives HiddenSound) outcome (evaluated-sound (module-names ms) earlier k (total-of env) env m (sofar .sound)),
               sofar .sound,
             );
-            totals = totals-next text (part w₂ 0 t) w₂ f a env (s .totals) (r .totals) (m .name) (stored .totals) stands (sofar .totals);
+            totals = totals-next text (part w₃ 0 t) w₃ f a env (s .totals) (r .totals) (m .name) (stored .totals) stands (sofar .totals);
           }
 
-      pub steps-kept : (r : State) (w′ : List ℕ) → KeptState text t k f s r w₂ w′ → Stepping text t w h k s (Kept r) w′
+      pub steps-kept : (r : State) (w′ : List ℕ) → KeptState text t k f s r w₃ w′ → Stepping text t w h k s (Kept r) w′
       steps-kept r w′ stored = record {
         meant = λ ms env m ys earlier sofar e before-it.
             let o = all-joined (begun (module-names ms) earlier env m) k (total-of env) m in
             let made-there = made-so ms env m ys earlier sofar e before-it in
-            let z = done-outcome text (part w₂ 0 t) w₂ f o (subst (λ (u : Made). Makes text (part w₂ 0 t) w₂ u o) q (made-there .makes)) in
-            let kept = onward (x .kept) (subst (KeptDone (joining-block .low) (second-block .high) w₁ w₂) q (made-there .kept)) in
+            let z = done-outcome text (part w₃ 0 t) w₃ f o (subst (λ (u : Made). Makes text (part w₃ 0 t) w₃ u o) q (made-there .makes)) in
+            let kept = onward joined-kept (subst (KeptDone (joining-block .low) (second-block .high) w₂ w₃) q (made-there .kept)) in
             let outcome =
             steps-ordered (module-names ms) earlier k (total-of env) env m
             ∙ then-goes-on o (λ (a : Normal). fine (in-order a)) (z .normal) (z .outcome) in

@@ -1,5 +1,6 @@
 // The four steps for one module, after which its normal form is kept.
 use super::steps::finished;
+use super::steps::joined;
 use super::steps::started;
 use evaluate_states::State;
 use evaluate_states::kept;
@@ -34,7 +35,8 @@ pub fn evaluate(
 {
     let totals = s.totals;
     let so_far = started(library, text, work, t, h, k);
-    match finished(library, text, work, t, h, k, so_far, totals) {
+    let rows = joined(library, text, work, t, h, k, so_far);
+    match finished(library, text, work, t, h, k, so_far, rows, totals) {
         Made::Refused(n, w) => Stepped::Refused(n, w),
         Made::Done(f) => Stepped::Kept(kept(library, text, work, t, k, f, s)),
     }

@@ -1,4 +1,4 @@
-// The four steps for one module, in two halves: what it imports, if its own entries are right; then its own declarations joined to that.
+// The four steps for one module, in three parts: what it imports, if its own entries are right; its own items joined to that; its equations.
 use form::Made;
 use form::Verdict;
 use form_layout::joining_block;
@@ -8,7 +8,9 @@ use module_names::names_right;
 use modules::Heads;
 use modules::place_at;
 use own_completing::Totals;
-use own_completing::complete::complete;
+use own_completing::complete::Joined;
+use own_completing::complete::join_equations;
+use own_completing::complete::join_items;
 use own_repeats::once::declared_once;
 use tape::roles;
 use unite::empty_form;
@@ -19,7 +21,7 @@ ghost use Rattle.form.specs.Verdicts.{told};
 ghost use Rattle.evaluate_module.specs.Steps.{first-checks, ImportedRoom, Imported};
 ghost use Rattle.modules.specs.Modules.{heads-in};
 ghost use Rattle.evaluate_module.specs.FirstSteps.{StartedRoom, Started};
-ghost use Rattle.evaluate_module.specs.LastSteps.{FinishedRoom, Finished};
+ghost use Rattle.evaluate_module.specs.LastSteps.{JoinedRoom, OwnJoined, FinishedRoom, Finished};
 
 // Steps 1 and 2 for module k, whose entries stand from `from` up to `end`: 7, 8, 9.
 fn first_checks(
@@ -80,7 +82,30 @@ pub fn started(library: &[u8], text: &[u8], work: &mut [u32], t: usize, h: &Head
     }
 }
 
-// Step 4, but for the order of the listing, unless what came before is refused.
+// The own items of module k, unless what came before is refused.
+pub fn joined(
+    library: &[u8],
+    text: &[u8],
+    work: &mut [u32],
+    t: usize,
+    h: &Heads,
+    k: u32,
+    so_far: Made,
+) -> Joined
+    requires { ⌜ JoinedRoom (length (now work)) t (heads-in (now h)) k «so_far» ⌝ }
+    ensures { λ r. ⌜ OwnJoined (joint (now (library .entry)) (now (text .entry))) t (now (work .entry)) (heads-in (now (h .entry))) k «so_far» r (now (work .exit)) ⌝ }
+{
+    match so_far {
+        Made::Refused(n, w) => Joined::Refused(n, w),
+        Made::Done(f) => {
+            let from = place_at(h, k as usize);
+            let end = place_at(h, k as usize + 1);
+            join_items(library, text, work, t, from, end, f)
+        }
+    }
+}
+
+// Its equations, and all of step 4 but for the order of the listing, unless what came before is refused.
 pub fn finished(
     library: &[u8],
     text: &[u8],
@@ -89,17 +114,21 @@ pub fn finished(
     h: &Heads,
     k: u32,
     so_far: Made,
+    rows: Joined,
     totals: Totals,
 ) -> Made
-    requires { ⌜ FinishedRoom (length (now work)) t (heads-in (now h)) k «so_far» totals ⌝ }
-    ensures { λ r. ⌜ Finished (joint (now (library .entry)) (now (text .entry))) t (now (work .entry)) (heads-in (now (h .entry))) k «so_far» totals r (now (work .exit)) ⌝ }
+    requires { ⌜ FinishedRoom (length (now work)) t (heads-in (now h)) k «so_far» rows totals ⌝ }
+    ensures { λ r. ⌜ Finished (joint (now (library .entry)) (now (text .entry))) t (now (work .entry)) (heads-in (now (h .entry))) k «so_far» rows totals r (now (work .exit)) ⌝ }
 {
-    match so_far {
-        Made::Refused(n, w) => Made::Refused(n, w),
-        Made::Done(f) => {
-            let from = place_at(h, k as usize);
-            let end = place_at(h, k as usize + 1);
-            complete(library, text, work, t, k, from, end, f, totals)
-        }
+    match rows {
+        Joined::Refused(n, w) => Made::Refused(n, w),
+        Joined::Done(counts) => match so_far {
+            Made::Refused(n, w) => Made::Refused(n, w),
+            Made::Done(f) => {
+                let from = place_at(h, k as usize);
+                let end = place_at(h, k as usize + 1);
+                join_equations(library, text, work, t, k, from, end, f, counts, totals)
+            }
+        },
     }
 }

@@ -2,6 +2,7 @@
 use evaluate_module::evaluate::Stepped;
 use evaluate_module::evaluate::evaluate;
 use evaluate_module::steps::finished;
+use evaluate_module::steps::joined;
 use evaluate_module::steps::started;
 use evaluate_states::State;
 use evaluate_states::first_state;
@@ -57,7 +58,8 @@ fn evaluate_asked(
     let count = count + 1;
     let totals = s.totals;
     let so_far = started(library, text, work, t, h, k);
-    match finished(library, text, work, t, h, k, so_far, totals) {
+    let rows = joined(library, text, work, t, h, k, so_far);
+    match finished(library, text, work, t, h, k, so_far, rows, totals) {
         Made::Refused(number, culprit) => Ended::Refused {
             number,
             count,

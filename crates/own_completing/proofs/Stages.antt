@@ -15,27 +15,28 @@ use Rattle.own_completing.specs.declared.Totals.{Totals}
 use Rattle.own_completing.specs.Said.{said-form, RoomMade, MadeJoined}
 use Rattle.own_completing.specs.Completed.{Rooms, Counted, EquationsJoined}
 use Rattle.own_completing.specs.EquationLaws.{said-room, typed-few, room-made, equations-completed}
-use Rattle.own_completing.specs.ItemLaws.{own-room, own-ready, counted, ready-still, check-room, rooms-still, items-refused, items-fine, rooms-laid, completed}
+use Rattle.own_completing.specs.ItemLaws.{items-room, items-ready, checks-ready, checks-room, items-refused, items-fine, rooms-there, counted-there, equations-laid}
 
 -- ---- `complete_equations`: the forms as what made them says
 
-module _ (t : ℕ) (own : Own) (f : Form) (counts : OwnRows) (b : Block) (scratch : ℕ) (totals : Totals) (said : Form) (few : Counted own f counts)
+module _ (t : ℕ) (own : Own) (f : Form) (counts : OwnRows) (b : Block) (scratch : ℕ) (said : Form) (few : Counted own f counts)
     (es : said ≡ said-form f counts scratch) where
-  pub type-room : (size : ℕ) → Rooms size t own f b scratch totals → said .«visible_count» + said .«hidden_count» ≤ 65536
-  type-room size room = rw es (typed-few t own f counts b scratch totals few size room)
+  pub type-room : (size : ℕ) → Rooms size t own f b scratch → said .«visible_count» + said .«hidden_count» ≤ 65536
+  type-room size room = rw es (typed-few t own f counts b scratch few size room)
 
-  module _ (text w : List ℕ) (home : ℕ) (room : Rooms (length w) t own f b scratch totals) (made : Made) (w₁ : List ℕ)
+  module _ (text w : List ℕ) (home : ℕ) (room : Rooms (length w) t own f b scratch) (made : Made) (w₁ : List ℕ)
       (typed : owned made w₁ ≡ own-at text t said home (own .from) (own .end) w) (seen : Form)
       (eq : seen ≡ with-items f (counts .«parameter_count») (counts .«visible_count») (f .«hidden_count»)) where
     pub made-rooms : (size : ℕ) → size ≡ length w → RoomMade size t made seen b
-    made-rooms size e = room-made t own f counts b scratch totals few text w home room made w₁ (rw es at typed) size seen e eq
+    made-rooms size e = room-made t own f counts b scratch few text w home room made w₁ (rw es at typed) size seen e eq
 
-    pub equations-done : (r : Made) (w′ : List ℕ) → MadeJoined text t w₁ made seen b totals r w′
-        → EquationsJoined text t w home own f counts b scratch totals r w′
-    equations-done r w′ x = equations-completed t own f counts b scratch totals few text w home room made w₁ (rw es at typed) r w′ (rw eq at x)
+    pub equations-done : (totals : Totals) (r : Made) (w′ : List ℕ) (high : ℕ) → MadeJoined text t w₁ made seen b totals r w′ → high ≡ scratch + 131072
+        → EquationsJoined text t w home own f counts b high totals r w′
+    equations-done totals r w′ high x e =
+        rw e (equations-completed t own f counts b scratch few text w home room made w₁ (rw es at typed) totals r w′ (rw eq at x))
 
 pub ruleset equations-stage = (said-room, type-room, made-rooms, equations-done, needs)
 
-pub ruleset items-stage = (own-room, own-ready, counted, ready-still, check-room, rooms-still, items-refused, items-fine, needs)
+pub ruleset items-stage = (items-room, items-ready, checks-ready, checks-room, items-refused, items-fine, needs)
 
-pub ruleset whole = (rooms-laid, completed, needs)
+pub ruleset laid-stage = (rooms-there, counted-there, equations-laid, needs)

@@ -20,6 +20,7 @@ use Rattle.form.specs.declared.Made.the-variants.{Done, Refused}
 use Rattle.form.specs.Memory.{part, Kept}
 use Rattle.form.specs.Forms.{Stands}
 use Rattle.form.specs.Blocks.{BlockLaid, Makes, MadeThere, MadeIn}
+use Rattle.form.specs.Verdicts.{culprit-of}
 use Rattle.own_declarations.specs.Spelled.{Spells}
 use Rattle.own_declarations.specs.declared.Own.{Own}
 use Rattle.own_items.specs.declared.OwnRows.{OwnRows}
@@ -27,7 +28,9 @@ use Rattle.own_items.specs.Joined.{OwnStands}
 use Rattle.own_typing.specs.Typed.{Seen}
 use Rattle.form_layout.specs.Layout.{joining-block, second-block, Laid}
 use Rattle.own_completing.specs.declared.Totals.{Totals}
-use Rattle.own_completing.specs.Room.{TotalsRight, StillRight, TotalsMeant, in-room}
+use Rattle.own_completing.specs.declared.complete.Joined.{Joined}
+use Rattle.own_completing.specs.declared.complete.Joined.the-variants as Rows
+use Rattle.own_completing.specs.Room.{StillRight, TotalsMeant, in-room}
 
 -- ---- the meaning
 
@@ -41,9 +44,13 @@ unfoldable pub equations-joined : ℕ → Size → Module → Normal → Outcome
 equations-joined home total m n =
     own-equations home m (seen-sorts m (n .visible)) (joined-visible m (n .visible)) >>= (λ equations. in-room total (all-of m n equations))
 
+-- the checks of its items, its own among them
+abbrev pub items-checked : Module → Normal → Check
+items-checked m n = own-checks m (seen-sorts m (n .visible)) (joined-visible m (n .visible))
+
 -- M's own declarations joined to what it imports, in the order in which they come
 unfoldable pub joined-all : ℕ → Size → Module → Normal → Outcome Normal
-joined-all home total m n = own-checks m (seen-sorts m (n .visible)) (joined-visible m (n .visible)) >> equations-joined home total m n
+joined-all home total m n = items-checked m n >> equations-joined home total m n
 
 -- the normal form is that, in the order of its listing
 pub joined-own-ordered : (home : ℕ) (total : Size) (m : Module) (n : Normal)
@@ -72,7 +79,7 @@ joined-own-ordered home total m n =
 
 -- the form f of what is imported lies in the block, and fits; the module's entries stand on the tape; behind the block there is room for the
 -- rows and the nodes of the module's equations
-pub record Rooms (size t : ℕ) (own : Own) (f : Form) (b : Block) (scratch : ℕ) (totals : Totals) : Type 0 where
+pub record Rooms (size t : ℕ) (own : Own) (f : Form) (b : Block) (scratch : ℕ) : Type 0 where
   pub laid : BlockLaid size t b 32776 33280 1024 33280
   pub enough-equations : 512 ≤ b .«equation_room»
   pub behind : b .high ≤ scratch
@@ -84,7 +91,6 @@ pub record Rooms (size t : ℕ) (own : Own) (f : Form) (b : Block) (scratch : �
   pub tape : own .end ≤ t
   pub short-tape : t ≤ 65536
   pub few-entries : own .end - own .from ≤ 32768
-  pub right : TotalsRight totals
 
 -- the module's own items have joined those of f
 pub record Counted (own : Own) (f : Form) (counts : OwnRows) : Type 0 where
@@ -92,13 +98,16 @@ pub record Counted (own : Own) (f : Form) (counts : OwnRows) : Type 0 where
   pub more-rows : f .«visible_count» ≤ counts .«visible_count»
   pub rows : counts .«visible_count» + counts .«hidden_count» ≤ f .«visible_count» + (own .end - own .from)
 
-pub record CompleteRoom (size t from end : ℕ) (f : Form) (totals : Totals) : Type 0 where
+-- the entries from `from` up to `end`, with the visible rows of what is imported
+unfoldable pub own-of : ℕ → ℕ → Form → Own
+own-of from end f = record { from = from; end = end; rows = f .visible; count = f .«visible_count» }
+
+pub record CompleteRoom (size t from end : ℕ) (f : Form) : Type 0 where
   pub laid : Laid size t
   pub short-tape : t ≤ 65536
   pub few-entries : end - from ≤ 32768
   pub tape : end ≤ t
   pub there : MadeThere joining-block f
-  pub right : TotalsRight totals
 
 -- ---- what comes of it
 
@@ -126,22 +135,29 @@ pub record Prepared (text : List ℕ) (t : ℕ) (w : List ℕ) (own : Own) (f : 
   pub limited : Limited m
   pub seen : Every Seen (n .visible .items)
 
-pub record EquationsJoined (text : List ℕ) (t : ℕ) (w : List ℕ) (home : ℕ) (own : Own) (f : Form) (counts : OwnRows) (b : Block) (scratch : ℕ)
+-- its own items are joined: they pass the checks, and stand there
+pub record ItemsStand (text : List ℕ) (t : ℕ) (w : List ℕ) (own : Own) (f : Form) (counts : OwnRows) (m : Module) (n : Normal) : Type 0 where
+  pub checked : items-checked m n ≡ fine tt
+  pub prepared : Prepared text t w own f counts m n
+
+abbrev pub RowsMeant : List ℕ → ℕ → List ℕ → Own → Form → Module → Normal → Joined → Type 0
+RowsMeant text t w own f m n (Rows.Done counts) = ItemsStand text t w own f counts m n
+RowsMeant text t w own f m n (Rows.Refused k x) = items-checked m n ≡ stop k (culprit-of text x)
+
+-- they are no more than there are entries
+abbrev pub RowsCounted : Own → Form → Joined → Type 0
+RowsCounted own f (Rows.Done counts) = Counted own f counts
+RowsCounted own f (Rows.Refused k x) = Unit {0}
+
+pub record ItemsJoined (text : List ℕ) (t : ℕ) (w : List ℕ) (from end : ℕ) (f : Form) (r : Joined) (w′ : List ℕ) : Type 0 where
+  pub kept : Kept (joining-block .low) (second-block .high) w w′
+  pub counted : RowsCounted (own-of from end f) f r
+  pub meant : (m : Module) (n : Normal) → Given text t w from end f m n → RowsMeant text t w′ (own-of from end f) f m n r
+
+-- nothing from `high` on has changed where a form is made
+pub record EquationsJoined (text : List ℕ) (t : ℕ) (w : List ℕ) (home : ℕ) (own : Own) (f : Form) (counts : OwnRows) (b : Block) (high : ℕ)
     (totals : Totals) (r : Made) (w′ : List ℕ) : Type 0 where
   pub made-in : MadeIn b r
   pub right : StillRight totals r
   pub made : (m : Module) (n : Normal) (total : Size) → TotalsMeant totals total → Prepared text t w own f counts m n
-      → MakesIn text t (b .low) (scratch + 131072) w w′ r (equations-joined home total m n)
-
-pub record CompletedIn (text : List ℕ) (t : ℕ) (w : List ℕ) (home : ℕ) (own : Own) (f : Form) (b : Block) (scratch : ℕ) (totals : Totals)
-    (r : Made) (w′ : List ℕ) : Type 0 where
-  pub made-in : MadeIn b r
-  pub right : StillRight totals r
-  pub made : (m : Module) (n : Normal) (total : Size) → TotalsMeant totals total → Given text t w (own .from) (own .end) f m n
-      → MakesIn text t (b .low) (scratch + 131072) w w′ r (joined-all home total m n)
-
-pub record Completed (text : List ℕ) (t : ℕ) (w : List ℕ) (home from end : ℕ) (f : Form) (totals : Totals) (r : Made) (w′ : List ℕ) : Type 0 where
-  pub made-in : MadeIn joining-block r
-  pub right : StillRight totals r
-  pub made : (m : Module) (n : Normal) (total : Size) → TotalsMeant totals total → Given text t w from end f m n
-      → MakesIn text t (joining-block .low) (second-block .high) w w′ r (joined-all home total m n)
+      → MakesIn text t (b .low) high w w′ r (equations-joined home total m n)

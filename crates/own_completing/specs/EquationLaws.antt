@@ -68,14 +68,14 @@ module _ (text : List ℕ) {A : Type 0} (h : A → Normal) (then : A → Outcome
 
 -- ---- places
 
-module _ (t : ℕ) (own : Own) (f : Form) (counts : OwnRows) (b : Block) (scratch : ℕ) (totals : Totals) (few : Counted own f counts) where
+module _ (t : ℕ) (own : Own) (f : Form) (counts : OwnRows) (b : Block) (scratch : ℕ) (few : Counted own f counts) where
   abbrev said : Form
   said = said-form f counts scratch
 
   abbrev seen-now : Form
   seen-now = with-items f (counts .«parameter_count») (counts .«visible_count») (f .«hidden_count»)
 
-  module _ (size : ℕ) (room : Rooms size t own f b scratch totals) where
+  module _ (size : ℕ) (room : Rooms size t own f b scratch) where
     pub said-room : SaidRoom f counts scratch
     said-room = omega (arith, room, few)
 
@@ -109,7 +109,7 @@ module _ (t : ℕ) (own : Own) (f : Form) (counts : OwnRows) (b : Block) (scratc
           own-node-room = omega (arith, room .scratch-room, nodes);
         }
 
-  module _ (text : List ℕ) (w : List ℕ) (home : ℕ) (room : Rooms (length w) t own f b scratch totals) (made : Made) (w₁ : List ℕ)
+  module _ (text : List ℕ) (w : List ℕ) (home : ℕ) (room : Rooms (length w) t own f b scratch) (made : Made) (w₁ : List ℕ)
       (typed : owned made w₁ ≡ own-at text t said home (own .from) (own .end) w) where
     said-with : (g : Form) → made ≡ Done g → g ≡ with-equations said (g .«equation_count») (g .«node_count»)
     unfolding own-at
@@ -175,7 +175,7 @@ module _ (t : ℕ) (own : Own) (f : Form) (counts : OwnRows) (b : Block) (scratc
 
     -- ---- joined
 
-    module _ (r : Made) (w′ : List ℕ) (x : MadeJoined text t w₁ made seen-now b totals r w′) where
+    module _ (totals : Totals) (r : Made) (w′ : List ℕ) (x : MadeJoined text t w₁ made seen-now b totals r w′) where
       joined-in : MadeIn b r
       joined-in = go made refl
         where
@@ -227,5 +227,5 @@ module _ (t : ℕ) (own : Own) (f : Form) (counts : OwnRows) (b : Block) (scratc
                     (onward (wider (omega (arith, room)) kept) (wider (omega (arith, room .behind)) (y .kept)));
               }
 
-      pub equations-completed : EquationsJoined text t w home own f counts b scratch totals r w′
+      pub equations-completed : EquationsJoined text t w home own f counts b (scratch + 131072) totals r w′
       equations-completed = record { made-in = joined-in; right = joined-right; made = joined-meant }

@@ -1,5 +1,5 @@
--- The items stage: a module's own items joined to what it imports, and checked; then its equations. And the whole, where the layout has it.
-use mathlib.Core.Path.{_≡_, refl, sym, ap, _∙_, subst}
+-- The items stage: a module's own items joined to what it imports, and checked. And both stages where the layout has them.
+use mathlib.Core.Path.{_≡_, refl, sym, ap, _∙_, subst, subst₂}
 use mathlib.Core.Logic.{inl, inr}
 use mathlib.Core.List.{List}
 use Prim.Native.Nat.{ℕ, _+_, _≤_}
@@ -7,7 +7,7 @@ use native.Mathlib.Omega.{arith}
 use lib.ListN.{length}
 use Rattle.meaning.specs.Syntax.{Module}
 use Rattle.meaning.specs.Normal.{Visible, Normal}
-use Rattle.meaning.specs.Evaluate.{seen-sorts, joined-visible, own-checks}
+use Rattle.meaning.specs.Checks.{stop}
 use Rattle.form.specs.declared.Form.{Form}
 use Rattle.form.specs.declared.Block.{Block}
 use Rattle.form.specs.declared.Culprit.{Culprit}
@@ -20,7 +20,6 @@ use Rattle.form.specs.Forms.{visible-at, Stands}
 use Rattle.form.specs.Blocks.{Outside}
 use Rattle.form.specs.Verdicts.{culprit-of, told}
 use Rattle.form_frames.specs.Changes.{onward, wider, around, outside, still-stands, still-stands-two}
-use Rattle.unite_checks.specs.Made.{makes-as, refused-makes, stops, goes-on}
 use Rattle.own_declarations.specs.Sorts.{Ready}
 use Rattle.own_declarations.specs.ItemLaws.{few-inputs}
 use Rattle.own_declarations.specs.declared.Own.{Own}
@@ -30,13 +29,14 @@ use Rattle.own_items.specs.Checking.{CheckRoom, OwnChecked}
 use Rattle.own_items.specs.JoinLaws.{own-stands-kept}
 use Rattle.form_layout.specs.Layout.{block-at, joining-block, first-block, second-block}
 use Rattle.own_completing.specs.declared.Totals.{Totals}
-use Rattle.own_completing.specs.Completed.{equations-joined, joined-all, Rooms, Counted, CompleteRoom, KeptDone, Given, Prepared, EquationsJoined, CompletedIn, Completed}
+use Rattle.own_completing.specs.declared.complete.Joined.the-variants as Rows
+use Rattle.own_completing.specs.Completed.{items-checked, own-of, Rooms, Counted, CompleteRoom, KeptDone, Given, Prepared, ItemsStand, ItemsJoined, EquationsJoined}
 
-module _ (t : ℕ) (own : Own) (f : Form) (b : Block) (scratch : ℕ) (totals : Totals) where
+module _ (t : ℕ) (own : Own) (f : Form) (b : Block) (scratch : ℕ) where
   -- ---- places
 
-  module _ (size : ℕ) (room : Rooms size t own f b scratch totals) where
-    pub own-room : OwnRoom size t own (f .parameters) (f .«parameter_count»)
+  module _ (size : ℕ) (room : Rooms size t own f b scratch) where
+    own-room : OwnRoom size t own (f .parameters) (f .«parameter_count»)
     own-room = record {
       few-names = omega arith;
       few-rows = omega arith;
@@ -47,20 +47,20 @@ module _ (t : ℕ) (own : Own) (f : Form) (b : Block) (scratch : ℕ) (totals : 
       apart = inr (omega arith);
     }
 
-  module _ (text : List ℕ) (w : List ℕ) (room : Rooms (length w) t own f b scratch totals) where
-    pub own-ready : Ready w t own
+  module _ (text : List ℕ) (w : List ℕ) (room : Rooms (length w) t own f b scratch) where
+    own-ready : Ready w t own
     own-ready = record { tape = omega (arith, room .laid); small = omega (arith, room .tape, room .short-tape) }
 
     -- ---- after the items
 
     module _ (counts : OwnRows) (w₁ : List ℕ) (x : OwnMade text t own (f .parameters) (f .«parameter_count») w w₁ counts) where
-      pub counted : Counted own f counts
+      counted : Counted own f counts
       counted = omega arith
 
       items-size : length w₁ ≡ length w
       items-size = x .kept .size
 
-      pub ready-still : Ready w₁ t own
+      ready-still : Ready w₁ t own
       ready-still = record { tape = omega (arith, room .laid, items-size); small = own-ready .small }
 
       names-few : counts .«parameter_count» ≤ 32776
@@ -69,7 +69,7 @@ module _ (t : ℕ) (own : Own) (f : Form) (b : Block) (scratch : ℕ) (totals : 
       rows-few : counts .«visible_count» + counts .«hidden_count» ≤ 33280
       rows-few = omega (arith, x .few-rows, room)
 
-      pub check-room : CheckRoom (length w₁) t own (f .parameters) counts (b .order)
+      check-room : CheckRoom (length w₁) t own (f .parameters) counts (b .order)
       check-room =
           let laid = room .laid in
           let lies = room .there .lies in
@@ -107,17 +107,13 @@ module _ (t : ℕ) (own : Own) (f : Form) (b : Block) (scratch : ℕ) (totals : 
           (ap (λ (u : Visible). u .parameters) (g .imported .visible)) (few-inputs m (g .limited))
 
       module _ (v : Verdict) (w₂ : List ℕ) (y : OwnChecked text t own (f .parameters) counts (b .order) w₁ w₂ v) where
-        pub rooms-still : Rooms (length w₂) t own f b scratch totals
-        rooms-still = rw (y .kept .size ∙ items-size) room
-
         checks-high : b .order + (counts .«parameter_count» + (counts .«visible_count» + counts .«hidden_count»)) ≤ scratch + 131072
         checks-high = omega (arith, room .laid, names-few, rows-few, room .behind)
 
         both-kept : Kept (b .low) (scratch + 131072) w w₂
         both-kept = onward items-kept (wider (omega (arith, room .laid, checks-high)) (y .kept))
 
-        verdict-meant : (m : Module) (n : Normal) → Given text t w (own .from) (own .end) f m n
-            → own-checks m (seen-sorts m (n .visible)) (joined-visible m (n .visible)) ≡ told text v
+        verdict-meant : (m : Module) (n : Normal) → Given text t w (own .from) (own .end) f m n → items-checked m n ≡ told text v
         verdict-meant m n g = sym (y .verdict m (n .visible) (joined-there m n g) (few-inputs m (g .limited)))
 
         order-outside : Outside (b .order) (b .order + (counts .«parameter_count» + (counts .«visible_count» + counts .«hidden_count»))) f
@@ -137,79 +133,100 @@ module _ (t : ℕ) (own : Own) (f : Form) (b : Block) (scratch : ℕ) (totals : 
               seen = g .seen;
             }
 
-        pub items-refused : (home k : ℕ) (z : Culprit) → v ≡ Stop k z → CompletedIn text t w home own f b scratch totals (Refused k z) w₂
-        unfolding joined-all told
-        items-refused home k z e = record {
-          made-in = tt;
-          right = tt;
-          made = λ m n total q g. record {
-            makes = refused-makes text (part w₂ 0 t) w₂ k z (joined-all home total m n)
-                (stops (own-checks m (seen-sorts m (n .visible)) (joined-visible m (n .visible))) (equations-joined home total m n) k (culprit-of text z)
-                (verdict-meant m n g ∙ ap (told text) e));
-            kept = tt;
-          };
-        }
+        stopped : (k : ℕ) (z : Culprit) → v ≡ Stop k z → (m : Module) (n : Normal) → Given text t w (own .from) (own .end) f m n
+            → items-checked m n ≡ stop k (culprit-of text z)
+        unfolding told
+        stopped k z e m n g = verdict-meant m n g ∙ ap (told text) e
 
-        kept-on : (r : Made) (w′ : List ℕ) → KeptDone (b .low) (scratch + 131072) w₂ w′ r → KeptDone (b .low) (scratch + 131072) w w′ r
-        kept-on (Done h) w′ k = onward both-kept k
-        kept-on (Refused j z) w′ k = tt
-
-        pub items-fine : (home : ℕ) (r : Made) (w′ : List ℕ) → v ≡ Fine → EquationsJoined text t w₂ home own f counts b scratch totals r w′
-            → CompletedIn text t w home own f b scratch totals r w′
-        unfolding joined-all told
-        items-fine home r w′ e z = record {
-          made-in = z .made-in;
-          right = z .right;
-          made = λ m n total q g.
-              let made = z .made m n total q (prepared m n g) in
-              record {
-                makes = makes-as text (part w′ 0 t) w′ r (equations-joined home total m n) (joined-all home total m n)
-                    (goes-on (own-checks m (seen-sorts m (n .visible)) (joined-visible m (n .visible))) (equations-joined home total m n)
-                    (verdict-meant m n g ∙ ap (told text) e)) (made .makes);
-                kept = kept-on r w′ (made .kept);
-              };
-        }
+        standing : v ≡ Fine → (m : Module) (n : Normal) → Given text t w (own .from) (own .end) f m n → ItemsStand text t w₂ own f counts m n
+        unfolding told
+        standing e m n g = record { checked = verdict-meant m n g ∙ ap (told text) e; prepared = prepared m n g }
 
 -- ---- where the layout has it
 
-module _ (t from end : ℕ) (f : Form) (totals : Totals) (b c : Block) (eb : b ≡ joining-block) (ec : c ≡ first-block) where
-  abbrev own-of : Own
-  own-of = record { from = from; end = end; rows = f .visible; count = f .«visible_count» }
-
-  scratch-high : c .low + 131072 ≤ second-block .high
+module _ (t from end : ℕ) (f : Form) (own : Own) (b : Block) (eo : own ≡ own-of from end f) (eb : b ≡ joining-block) where
+  scratch-high : first-block .low + 131072 ≤ second-block .high
   unfolding first-block second-block block-at
-  scratch-high = omega (arith, ap (λ (z : Block). z .low) ec)
+  scratch-high = omega arith
 
-  pub rooms-laid : (size : ℕ) → CompleteRoom size t from end f totals → Rooms size t own-of f b (c .low) totals
-  unfolding joining-block first-block block-at
+  rooms-laid : (size : ℕ) → CompleteRoom size t from end f → Rooms size t own f b (first-block .low)
+  unfolding own-of joining-block first-block block-at
   rooms-laid size room =
-      let low : c .low ≡ 849432 = ap (λ (z : Block). z .low) ec in
-      rw eb (record {
+      rw (eo, eb) (record {
         laid = room .laid .joining;
         enough-equations = omega arith;
-        behind = omega (arith, low);
+        behind = omega arith;
         scratch-room = omega (arith, scratch-high, room .laid .second .within);
-        small = omega (arith, low);
+        small = omega arith;
         there = room .there;
         rows = refl;
         count = refl;
         tape = room .tape;
         short-tape = room .short-tape;
         few-entries = room .few-entries;
-        right = room .right;
       })
 
-  kept-laid : (r : Made) (w w′ : List ℕ) → KeptDone (joining-block .low) (c .low + 131072) w w′ r
-      → KeptDone (joining-block .low) (second-block .high) w w′ r
-  kept-laid (Done h) w w′ k = wider (omega (arith, scratch-high)) k
-  kept-laid (Refused j z) w w′ k = tt
+  pub items-room : (size : ℕ) → CompleteRoom size t from end f → OwnRoom size t own (f .parameters) (f .«parameter_count»)
+  items-room size room = own-room t own f b (first-block .low) size (rooms-laid size room)
 
-  pub completed : (text w : List ℕ) (home : ℕ) (r : Made) (w′ : List ℕ) → CompletedIn text t w home own-of f b (c .low) totals r w′
-      → Completed text t w home from end f totals r w′
-  completed text w home r w′ x =
-      let y = subst (λ (z : Block). CompletedIn text t w home own-of f z (c .low) totals r w′) eb x in
-      record {
-        made-in = y .made-in;
-        right = y .right;
-        made = λ m n total q g. let made = y .made m n total q g in record { makes = made .makes; kept = kept-laid r w w′ (made .kept) };
-      }
+  module _ (text w : List ℕ) (room : CompleteRoom (length w) t from end f) where
+    abbrev rooms : Rooms (length w) t own f b (first-block .low)
+    rooms = rooms-laid (length w) room
+
+    pub items-ready : Ready w t own
+    items-ready = own-ready t own f b (first-block .low) text w rooms
+
+    module _ (counts : OwnRows) (w₁ : List ℕ) (x : OwnMade text t own (f .parameters) (f .«parameter_count») w w₁ counts) where
+      pub checks-ready : Ready w₁ t own
+      checks-ready = ready-still t own f b (first-block .low) text w rooms counts w₁ x
+
+      pub checks-room : CheckRoom (length w₁) t own (f .parameters) counts (b .order)
+      checks-room = check-room t own f b (first-block .low) text w rooms counts w₁ x
+
+      module _ (v : Verdict) (w₂ : List ℕ) (y : OwnChecked text t own (f .parameters) counts (b .order) w₁ w₂ v) where
+        kept-laid : Kept (joining-block .low) (second-block .high) w w₂
+        kept-laid =
+            wider (omega (arith, scratch-high, ap (λ (z : Block). z .low) eb)) (both-kept t own f b (first-block .low) text w rooms counts w₁ x v w₂ y)
+
+        given-there : (m : Module) (n : Normal) → Given text t w from end f m n → Given text t w (own .from) (own .end) f m n
+        unfolding own-of
+        given-there m n g = rw eo g
+
+        pub items-refused : (k : ℕ) (z : Culprit) → v ≡ Stop k z → ItemsJoined text t w from end f (Rows.Refused k z) w₂
+        items-refused k z e = record {
+          kept = kept-laid;
+          counted = tt;
+          meant = λ m n g. stopped t own f b (first-block .low) text w rooms counts w₁ x v w₂ y k z e m n (given-there m n g);
+        }
+
+        pub items-fine : v ≡ Fine → ItemsJoined text t w from end f (Rows.Done counts) w₂
+        items-fine e = record {
+          kept = kept-laid;
+          counted = subst (λ (u : Own). Counted u f counts) eo (counted t own f b (first-block .low) text w rooms counts w₁ x);
+          meant = λ m n g.
+              subst (λ (u : Own). ItemsStand text t w₂ u f counts m n) eo
+              (standing t own f b (first-block .low) text w rooms counts w₁ x v w₂ y e m n (given-there m n g));
+        }
+
+  module _ (c : Block) (ec : c ≡ first-block) where
+    pub rooms-there : (size : ℕ) → CompleteRoom size t from end f → Rooms size t own f b (c .low)
+    rooms-there size room = rw ec (rooms-laid size room)
+
+    pub counted-there : (counts : OwnRows) → Counted (own-of from end f) f counts → Counted own f counts
+    counted-there counts few = subst (λ (u : Own). Counted u f counts) (sym eo) few
+
+    kept-high : (r : Made) (w w′ : List ℕ) → KeptDone (joining-block .low) (c .low + 131072) w w′ r
+        → KeptDone (joining-block .low) (second-block .high) w w′ r
+    kept-high (Done h) w w′ k = wider (omega (arith, scratch-high, ap (λ (z : Block). z .low) ec)) k
+    kept-high (Refused j z) w w′ k = tt
+
+    pub equations-laid : (text w : List ℕ) (home : ℕ) (counts : OwnRows) (totals : Totals) (r : Made) (w′ : List ℕ)
+        → EquationsJoined text t w home own f counts b (c .low + 131072) totals r w′
+        → EquationsJoined text t w home (own-of from end f) f counts joining-block (second-block .high) totals r w′
+    equations-laid text w home counts totals r w′ x =
+        let y = subst₂ (λ (u : Own) (z : Block). EquationsJoined text t w home u f counts z (c .low + 131072) totals r w′) eo eb x in
+        record {
+          made-in = y .made-in;
+          right = y .right;
+          made = λ m n total q p. let made = y .made m n total q p in record { makes = made .makes; kept = kept-high r w w′ (made .kept) };
+        }

@@ -4,6 +4,7 @@ use super::said::join_made;
 use super::said::said_form;
 use super::said::seen_form;
 use form::Block;
+use form::Culprit;
 use form::Form;
 use form::Made;
 use form::Verdict;
@@ -14,9 +15,56 @@ use own_equations::type_own;
 use own_items::OwnRows;
 use own_items::checking::own_checks;
 use own_items::items::own_items;
+ghost use mathlib.Core.Path.{_≡_};
+ghost use Prim.Native.Nat.{_+_};
 ghost use lib.ListN.{length};
 ghost use Rattle.text_names.specs.Joint.{joint};
-ghost use Rattle.own_completing.specs.Completed.{Counted, Rooms, EquationsJoined, CompletedIn, CompleteRoom, Completed};
+ghost use Rattle.form_layout.specs.Layout.{joining-block, second-block};
+ghost use Rattle.own_completing.specs.Room.{TotalsRight};
+ghost use Rattle.own_completing.specs.Completed.{Counted, Rooms, own-of, CompleteRoom, ItemsJoined, EquationsJoined};
+
+// How the module's own items are joined: how many rows there are of each kind, or the refusal.
+pub enum Joined {
+    Refused(u32, Culprit),
+    Done(OwnRows),
+}
+
+// The entries from `from` up to `end`, with the visible rows of f.
+fn own_of(from: u32, end: u32, f: Form) -> Own
+    ensures { λ r. ⌜ r ≡ own-of from end f ⌝ }
+{
+    Own {
+        from,
+        end,
+        rows: f.visible,
+        count: f.visible_count,
+    }
+}
+
+// The own items of the module whose entries stand from `from` up to `end` joined to those of f, which lies in the block for it, and checked.
+pub fn join_items(
+    library: &[u8],
+    text: &[u8],
+    work: &mut [u32],
+    t: usize,
+    from: u32,
+    end: u32,
+    f: Form,
+) -> Joined
+    requires { ⌜ CompleteRoom (length (now work)) t from end f ⌝ }
+    ensures { λ r. ⌜ ItemsJoined (joint (now (library .entry)) (now (text .entry))) t (now (work .entry)) from end f r (now (work .exit)) ⌝ }
+{
+    let own = own_of(from, end, f);
+    let b = joining_block();
+    let parameters = f.parameters;
+    let names = f.parameter_count;
+    let order = b.order;
+    let counts = own_items(library, text, work, t, own, parameters, names);
+    match own_checks(library, text, work, t, own, parameters, counts, order) {
+        Verdict::Stop(k, w) => Joined::Refused(k, w),
+        Verdict::Fine => Joined::Done(counts),
+    }
+}
 
 // What is visible and the module's own hidden items stand there: the equations typed, 17, and all joined, 18.
 fn complete_equations(
@@ -32,9 +80,10 @@ fn complete_equations(
     scratch: u32,
     totals: Totals,
 ) -> Made
-    requires { ⌜ Rooms (length (now work)) t own f b scratch totals ⌝ }
+    requires { ⌜ Rooms (length (now work)) t own f b scratch ⌝ }
     requires { ⌜ Counted own f counts ⌝ }
-    ensures { λ r. ⌜ EquationsJoined (joint (now (library .entry)) (now (text .entry))) t (now (work .entry)) home own f counts b scratch totals r (now (work .exit)) ⌝ }
+    requires { ⌜ TotalsRight totals ⌝ }
+    ensures { λ r. ⌜ EquationsJoined (joint (now (library .entry)) (now (text .entry))) t (now (work .entry)) home own f counts b (scratch + 131072) totals r (now (work .exit)) ⌝ }
 {
     let from = own.from;
     let end = own.end;
@@ -53,46 +102,8 @@ fn complete_equations(
     join_made(library, text, work, t, made, seen, b, totals)
 }
 
-// The module's own items joined to those of f, which lies in the block b, and checked; then its equations.
-fn complete_in(
-    library: &[u8],
-    text: &[u8],
-    work: &mut [u32],
-    t: usize,
-    home: u32,
-    own: Own,
-    f: Form,
-    b: Block,
-    scratch: u32,
-    totals: Totals,
-) -> Made
-    requires { ⌜ Rooms (length (now work)) t own f b scratch totals ⌝ }
-    ensures { λ r. ⌜ CompletedIn (joint (now (library .entry)) (now (text .entry))) t (now (work .entry)) home own f b scratch totals r (now (work .exit)) ⌝ }
-{
-    let parameters = f.parameters;
-    let names = f.parameter_count;
-    let order = b.order;
-    let counts = own_items(library, text, work, t, own, parameters, names);
-    match own_checks(library, text, work, t, own, parameters, counts, order) {
-        Verdict::Stop(k, w) => Made::Refused(k, w),
-        Verdict::Fine => complete_equations(
-            library,
-            text,
-            work,
-            t,
-            home,
-            own,
-            f,
-            counts,
-            b,
-            scratch,
-            totals,
-        ),
-    }
-}
-
-// The normal form of module number `home`, whose entries stand from `from` up to `end`: f is what its imports united make, in the block for it.
-pub fn complete(
+// Those of module number `home`, where its own items have joined those of f: its equations typed, 17, and all joined, 18.
+pub fn join_equations(
     library: &[u8],
     text: &[u8],
     work: &mut [u32],
@@ -101,18 +112,28 @@ pub fn complete(
     from: u32,
     end: u32,
     f: Form,
+    counts: OwnRows,
     totals: Totals,
 ) -> Made
-    requires { ⌜ CompleteRoom (length (now work)) t from end f totals ⌝ }
-    ensures { λ r. ⌜ Completed (joint (now (library .entry)) (now (text .entry))) t (now (work .entry)) home from end f totals r (now (work .exit)) ⌝ }
+    requires { ⌜ CompleteRoom (length (now work)) t from end f ⌝ }
+    requires { ⌜ Counted (own-of from end f) f counts ⌝ }
+    requires { ⌜ TotalsRight totals ⌝ }
+    ensures { λ r. ⌜ EquationsJoined (joint (now (library .entry)) (now (text .entry))) t (now (work .entry)) home (own-of from end f) f counts joining-block (second-block .high) totals r (now (work .exit)) ⌝ }
 {
+    let own = own_of(from, end, f);
     let b = joining_block();
     let c = first_block();
-    let own = Own {
-        from,
-        end,
-        rows: f.visible,
-        count: f.visible_count,
-    };
-    complete_in(library, text, work, t, home, own, f, b, c.low, totals)
+    complete_equations(
+        library,
+        text,
+        work,
+        t,
+        home,
+        own,
+        f,
+        counts,
+        b,
+        c.low,
+        totals,
+    )
 }

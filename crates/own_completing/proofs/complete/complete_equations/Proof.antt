@@ -1,4 +1,4 @@
-use Rattle.own_completing.proofs.Stages.{equations-stage}
+use Rattle.own_completing.proofs.Stages.{equations-stage, equations-done}
 use borrow.Author.Needs.{needs}
 use Rattle.own_completing.proofs.complete.complete_equations.Statement.{statement}
 use Rattle.own_completing.proofs.complete.complete_equations.Tie as tie
@@ -14,5 +14,7 @@ complete-equations-spec =
     (λ c κs. search needs)  -- seen-form-requires
     (λ c κs. search equations-stage)  -- join-made-requires
     (λ c. search needs)  -- same-length
-    (λ c. search equations-stage)  -- returns
+    (λ c.
+    let given = c .before .before .before .before .before .before .before .before .before .before .before .before .before .pre in
+    search (equations-done, given .0, given .1 .0, needs))  -- returns
     )
