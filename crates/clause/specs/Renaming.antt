@@ -24,15 +24,16 @@ use Rattle.form.specs.Verdicts.{culprit-of, told}
 use Rattle.form_frames.specs.Changes.{onward}
 use Rattle.clause_translation.specs.declared.Mode.{Mode}
 use Rattle.clause_pairs.specs.Pairs.{pairs-at}
-use Rattle.unite.specs.Rooms.{HiddenRoom, UniteRoom}
-use Rattle.unite.specs.United.{empty-in, moved-onto, sorts, functions, HiddenUnited, United}
-use Rattle.unite.specs.Whole.{hidden-room, united}
+use Rattle.unite_items.specs.Turns.{Room}
+use Rattle.unite.specs.Rooms.{SlotsRoom, HiddenRoom, UniteRoom}
+use Rattle.unite.specs.United.{empty-in, moved-onto, sorts, functions, SeenUnited, HiddenUnited, United}
+use Rattle.unite.specs.Whole.{slots-room, visible-room, hidden-room, united}
 use Rattle.unite.specs.Standing.{empty-stands}
 use Rattle.unite.specs.Corollaries.{moved-by-renaming, united-as-is, united-stands}
 use Rattle.unite_checks.specs.Made.{makes-as, refused-makes, stops, goes-on}
 use Rattle.unite_checks.specs.Checked.{CheckRoom, CheckedForm}
 use Rattle.unite_checks.specs.Steps.{BlockRoom, MakeRoom, Renamed, RenamedForm, JoinRoom, JoinedForm}
-use Rattle.clause.specs.Either.{Renames, RowsRenamed, ClauseRight, SeenStep, SeenMade, NoteStep, NotesMade}
+use Rattle.clause.specs.Either.{Renames, ClauseRight, NoteStep, NotesMade}
 
 -- the modes of a renaming and of a union
 abbrev renaming-mode : ℕ → Mode
@@ -51,13 +52,13 @@ unfolding empty-in
 nothing-there b = omega arith
 
 -- what is made of one form is made of it and of nothing
-onto-nothing : (size t : ℕ) (g : Form) (b : Block) → MakeRoom size t g b → JoinRoom size t g (empty-in b) b
-onto-nothing size t g b c = record {
+onto-nothing : (size t : ℕ) (g e : Form) (b : Block) → MakeRoom size t g b → e ≡ empty-in b → JoinRoom size t g e b
+onto-nothing size t g e b c h = record {
   room = c .room;
   outside = c .outside;
   fits = c .fits;
   nodes = c .nodes;
-  there = nothing-there b;
+  there = subst (MadeThere b) (sym h) (nothing-there b);
 }
 
 unite-room : (size t : ℕ) (z : Mode) (g f : Form) (b : Block) → z .visible ≡ 0 → z .count ≡ 0 → JoinRoom size t g f b → UniteRoom size t z g f b
@@ -111,36 +112,40 @@ module _ (text : List ℕ) (t : ℕ) (w w₁ : List ℕ) (m : Mode) (g f u : For
 
 -- ---- renaming
 
-module _ (text : List ℕ) (t : ℕ) (w : List ℕ) (m : Mode) (g : Form) (b : Block) (c : MakeRoom (length w) t g b) (z : Renames m) where
-  together : JoinRoom (length w) t g (empty-in b) b
-  together = onto-nothing (length w) t g b c
+module _ (text : List ℕ) (t : ℕ) (w : List ℕ) (m : Mode) (g e : Form) (b : Block) (c : MakeRoom (length w) t g b) (z : Renames m)
+    (h : e ≡ empty-in b) where
+  together : JoinRoom (length w) t g e b
+  together = onto-nothing (length w) t g e b c h
 
-  room : UniteRoom (length w) t m g (empty-in b) b
-  room = unite-room (length w) t m g (empty-in b) b (z .table) (z .count) together
+  room : UniteRoom (length w) t m g e b
+  room = unite-room (length w) t m g e b (z .table) (z .count) together
 
   no-binding : m .kind ≡ 2 → ⊥
   no-binding k = omega (arith, k, z .kind)
 
-  pub make-seen : SeenStep (length w) t m g g b
-  make-seen = record { binds = λ k. absurd (no-binding k); renames = λ k. room }
+  pub make-slots : SlotsRoom (length w) t g e
+  make-slots = slots-room text t w m g e b room
 
-  module _ (seen : Form) (w₂ : List ℕ) (x : SeenMade text t w m g g b seen w₂) where
+  pub make-visible : Room (length w) t m (g .visible) (g .«visible_count») (e .visible) (e .«visible_count») (b .«visible_notes»)
+  make-visible = visible-room text t w m g e b room
+
+  module _ (seen : Form) (w₂ : List ℕ) (x : SeenUnited text t w m g e (b .«visible_notes») seen w₂) where
     pub make-notes : NoteStep (length w₂) t m seen (b .«visible_notes»)
     make-notes = record { binds = λ k. absurd (no-binding k) }
 
     module _ (w₃ : List ℕ) (q : NotesMade text t w₂ m seen (b .«visible_notes») w₃) where
-      still : RowsRenamed text t w m g b seen w₃
-      still = subst (RowsRenamed text t w m g b seen) (sym (q .renames no-binding)) (x .renames no-binding)
+      still : SeenUnited text t w m g e (b .«visible_notes») seen w₃
+      still = subst (SeenUnited text t w m g e (b .«visible_notes») seen) (sym (q .renames no-binding)) x
 
       pub make-hidden : HiddenRoom (length w₃) t m g seen b (b .«visible_notes»)
-      make-hidden = hidden-room text t w m g (empty-in b) b room (still .named) (still .between) (still .parameters) seen w₃ (still .rows)
+      make-hidden = hidden-room text t w m g e b room seen w₃ still
 
       module _ (u : Form) (w₄ : List ℕ) (k : HiddenUnited text t w₃ m g seen b (b .«visible_notes») u w₄) where
-        all : United text t w m g (empty-in b) b u w₄
-        all = united text t w m g (empty-in b) b room (still .named) (still .between) (still .parameters) seen w₃ (still .rows) u w₄ k
+        all : United text t w m g e b u w₄
+        all = united text t w m g e b room seen w₃ still u w₄ k
 
         pub make-check : CheckRoom (length w₄) t u b
-        make-check = join-check text t w w₄ m g (empty-in b) u b all together
+        make-check = join-check text t w w₄ m g e u b all together
 
         pub renamed-made : (r : Made) (w₅ : List ℕ) → CheckedForm text t w₄ u b r w₅ → RenamedForm text t w (m .pairs) g b r w₅
         renamed-made r w₅ d = record {
@@ -150,9 +155,9 @@ module _ (text : List ℕ) (t : ℕ) (w : List ℕ) (m : Mode) (g : Form) (b : B
               makes-as text (part w₅ 0 t) w₅ r (checked (moved-onto (sorts text t w m) (functions text t w m) empty n))
               (checked (move (renaming (pairs-at text (part w 0 t) (m .pairs))) (λ f v. renaming (pairs-at text (part w 0 t) (m .pairs)) f) n))
               (ap checked (sym (moved-by-renaming text (part w 0 t) w m n (z .kind))))
-              (d .made _ (united-stands text t w m g (empty-in b) b u w₄
+              (d .made _ (united-stands text t w m g e b u w₄
               (omega (arith, together .there .fits .equations, c .fits .equations, c .room .equations-room)) n empty s
-              (empty-stands text (part w 0 t) w b) all));
+              (subst (λ (f : Form). Stands text (part w 0 t) w f empty) (sym h) (empty-stands text (part w 0 t) w b)) all));
         }
 
 module _ (text : List ℕ) (t : ℕ) (w w₁ : List ℕ) (pairs : ℕ) (g : Form) (b : Block) (v : Verdict)

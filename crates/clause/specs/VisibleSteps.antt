@@ -26,7 +26,7 @@ use Rattle.unite_items.specs.Turns.{Room}
 use Rattle.unite_nodes.specs.Found.{Noted}
 use Rattle.unite_nodes.specs.Pointed.{noted-stays}
 use Rattle.unite.specs.Rooms.{SlotsRoom}
-use Rattle.unite.specs.United.{empty-in, with-items, other-slots, SlotsUnited, VisibleUnited, sorts, functions}
+use Rattle.unite.specs.United.{empty-in, with-items, other-slots, SlotsUnited, VisibleUnited, SeenUnited, sorts, functions}
 use Rattle.unite.specs.InBlock.{inside-as, outside-notes, outside-slots, outside-rows}
 use Rattle.unite.specs.Noting.{all-noted}
 use Rattle.unite.specs.Hiding.{keep-all, absorbed-all}
@@ -35,7 +35,7 @@ use Rattle.unite.specs.Whole.{sorts-stay, functions-stay}
 use Rattle.clause_checks.specs.Notes.{NoteRoom, FormalsNoted}
 use Rattle.clause.specs.Rooms.{as-is, OwnRoom, StepRoom, Seen}
 use Rattle.clause.specs.Binding.{PairsRight, named-in, left-of, OwnBound, RowsBound, FrontBound}
-use Rattle.clause.specs.Either.{SeenMade, NoteStep, NotesMade}
+use Rattle.clause.specs.Either.{NoteStep, NotesMade}
 use Rattle.clause.specs.Places.{Laid, Counts, block-laid, mode-apart, own-step, InsideBlock}
 use Rattle.clause.specs.OwnSteps.{first-kept, rows-kept, own-kept, own-form, own-few, own-slots, own-inside, own-stands}
 use Rattle.clause.specs.ActualNotes.{StaysNoted, bound-noted}
@@ -60,17 +60,17 @@ module _ (text tape tape′ w w′ : List ℕ) (o : Mode) (e : o ≡ as-is) wher
 
 -- ---- step by step
 
-pub rows-bound : (text : List ℕ) (t : ℕ) (w : List ℕ) (m : Mode) (g actual : Form) (b : Block) (own : Form) (w₂ : List ℕ) (named : Form) (w₃ : List ℕ)
-    (o : Mode) (all : Form) (w₄ : List ℕ) → OwnBound text t w m g b own w₂ → SlotsUnited text t w₂ actual own named w₃ → o ≡ as-is
-    → VisibleUnited text t w₃ o false actual named (b .«visible_notes» + 1024) all w₄ → RowsBound text t w m g actual b all w₄
-rows-bound text t w m g actual b own w₂ named w₃ o all w₄ x y plain z = record {
+pub rows-bound : (text : List ℕ) (t : ℕ) (w : List ℕ) (m : Mode) (g actual : Form) (b : Block) (own : Form) (w₂ : List ℕ) (o : Mode) (all : Form)
+    (w₄ : List ℕ) → OwnBound text t w m g b own w₂ → o ≡ as-is → SeenUnited text t w₂ o actual own (b .«visible_notes» + 1024) all w₄
+    → RowsBound text t w m g actual b all w₄
+rows-bound text t w m g actual b own w₂ o all w₄ x plain y = record {
   own = own;
   left = w₂;
   first = x;
-  named = named;
-  between = w₃;
-  parameters = y;
-  rows = subst (λ (q : Mode). VisibleUnited text t w₃ q false actual named (b .«visible_notes» + 1024) all w₄) plain z;
+  named = y .named;
+  between = y .between;
+  parameters = y .parameters;
+  rows = subst (λ (q : Mode). VisibleUnited text t (y .between) q false actual (y .named) (b .«visible_notes» + 1024) all w₄) plain (y .rows);
 }
 
 module _ (text : List ℕ) (t : ℕ) (w : List ℕ) (m : Mode) (g actual : Form) (b : Block) (room : StepRoom (length w) t m g actual b) where
@@ -116,6 +116,25 @@ module _ (text : List ℕ) (t : ℕ) (w : List ℕ) (m : Mode) (g actual : Form)
           source-rows = apart-in (record { first = start; last = end }) (room .room .outside .visible);
         }
 
+    pub actual-room : (o : Mode) → o ≡ as-is
+        → Room (length w₂) t o (actual .visible) (actual .«visible_count») (own .visible) (own .«visible_count») (notes + 1024)
+    actual-room o plain =
+        let e = own-there .lies in
+        let n = few-items in
+        let s = own-stays .size in
+        record {
+          tape-table = omega (arith, e, fit, laid);
+          tape-note = omega (arith, fit, laid);
+          table = omega (arith, e, n, fit, laid, s);
+          note = omega (arith, fit, laid, s);
+          few = omega (arith, n, fit, laid);
+          table-note = inr (omega (arith, e, n, fit, laid));
+          table-source = apart-in (omega (arith, e, n, fit, laid)) (room .room .outside .visible);
+          note-source = apart-in (omega (arith, fit, laid)) (room .room .outside .visible);
+          table-mode = as-is-apart _ _ o plain;
+          note-mode = as-is-apart _ _ o plain;
+        }
+
     module _ (named : Form) (w₃ : List ℕ) (y : SlotsUnited text t w₂ actual own named w₃) where
       named-few : named .«visible_count» ≡ own .«visible_count»
       unfolding with-items
@@ -136,32 +155,9 @@ module _ (text : List ℕ) (t : ℕ) (w : List ℕ) (m : Mode) (g actual : Form)
       named-kept : Kept low high w w₃
       named-kept = onward own-stays slots-kept
 
-      module _ (o : Mode) (plain : o ≡ as-is) where
-        pub actual-room : Room (length w₃) t o (actual .visible) (actual .«visible_count») (named .visible) (named .«visible_count») (notes + 1024)
-        actual-room =
-            let e = named-inside .lies in
-            let c = named-few in
-            let n = few-items in
-            let s = named-kept .size in
-            record {
-              tape-table = omega (arith, e, fit, laid);
-              tape-note = omega (arith, fit, laid);
-              table = omega (arith, e, c, n, fit, laid, s);
-              note = omega (arith, fit, laid, s);
-              few = omega (arith, c, n, fit, laid);
-              table-note = inr (omega (arith, e, c, n, fit, laid));
-              table-source = apart-in (omega (arith, e, c, n, fit, laid)) (room .room .outside .visible);
-              note-source = apart-in (omega (arith, fit, laid)) (room .room .outside .visible);
-              table-mode = as-is-apart _ _ o plain;
-              note-mode = as-is-apart _ _ o plain;
-            }
-
   -- ---- all of it
 
-  module _ (all : Form) (w₄ : List ℕ) (rows : SeenMade text t w m g actual b all w₄) where
-    abbrev both : RowsBound text t w m g actual b all w₄
-    both = rows .binds (room .mode .kind)
-
+  module _ (all : Form) (w₄ : List ℕ) (both : RowsBound text t w m g actual b all w₄) where
     abbrev own : Form
     own = both .own
 

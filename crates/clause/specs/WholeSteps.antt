@@ -24,8 +24,8 @@ use Rattle.unite.specs.Whole.{sorts-stay, functions-stay}
 use Rattle.clause_fitting.specs.Bound.{sorts-meant, functions-meant}
 use Rattle.unite_checks.specs.Checked.{CheckRoom, CheckedForm}
 use Rattle.clause.specs.Rooms.{Binds, StepRoom, SeenRoom}
-use Rattle.clause.specs.Binding.{PairsRight, left-of, FrontBound, HiddenBound, bound-normal, BoundForm}
-use Rattle.clause.specs.Either.{SeenStep, SeenMade, NotesMade}
+use Rattle.clause.specs.Binding.{PairsRight, left-of, RowsBound, FrontBound, HiddenBound, bound-normal, BoundForm}
+use Rattle.clause.specs.Either.{NotesMade}
 use Rattle.clause.specs.Places.{block-laid, mode-apart, own-step}
 use Rattle.clause.specs.VisibleSteps.{front-bound}
 
@@ -42,10 +42,7 @@ module _ (text : List ℕ) (t : ℕ) (w : List ℕ) (m : Mode) (g actual : Form)
   table-apart : Apart (b .low) (b .high) (m .visible) (m .visible + m .count * row-size)
   table-apart = mode-apart (length w) t m g b (own-step (length w) t m g actual b room)
 
-  pub seen-step : SeenStep (length w) t m g actual b
-  seen-step = record { binds = λ k. room; renames = λ k. absurd (k (room .mode .kind)) }
-
-  module _ (seen : Form) (w₀ : List ℕ) (rows : SeenMade text t w m g actual b seen w₀) (w₁ : List ℕ)
+  module _ (seen : Form) (w₀ : List ℕ) (rows : RowsBound text t w m g actual b seen w₀) (w₁ : List ℕ)
       (noted : NotesMade text t w₀ m seen (b .«visible_notes») w₁) where
     x : FrontBound text t w m g actual b seen w₁
     x = front-bound text t w m g actual b room seen w₀ rows w₁ noted

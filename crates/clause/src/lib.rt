@@ -15,9 +15,8 @@ use form::Form;
 use form::Made;
 use form::Verdict;
 use meaning::numbers;
-use unite::empty_form;
 use unite::unite_hidden;
-use unite::unite_parameters;
+use unite::unite_seen;
 use unite::unite_visible;
 use unite_checks::checked::checked;
 ghost use mathlib.Core.Path.{_≡_};
@@ -29,7 +28,7 @@ ghost use Rattle.form.specs.Verdicts.{told};
 ghost use Rattle.unite_checks.specs.Steps.{Bound};
 ghost use Rattle.clause.specs.Rooms.{as-is, binding-mode, OwnRoom, BindRoom, StepRoom, SeenRoom};
 ghost use Rattle.clause.specs.Binding.{named-in, pairs-checked, OwnBound, RowsBound, HiddenBound, BoundForm};
-ghost use Rattle.clause.specs.Either.{ClauseRight, SeenStep, SeenMade, NoteStep, NotesMade};
+ghost use Rattle.clause.specs.Either.{ClauseRight, NoteStep, NotesMade};
 
 // The mode that leaves rows as they are.
 fn as_is() -> Mode
@@ -114,42 +113,7 @@ fn bound_rows(
 {
     let notes = b.visible_notes;
     let own = bound_own(library, text, work, t, m, g, b);
-    let named = unite_parameters(library, text, work, t, actual, own);
-    unite_visible(
-        library,
-        text,
-        work,
-        t,
-        as_is(),
-        false,
-        actual,
-        named,
-        notes + 1024,
-    )
-}
-
-// The parameters and the visible items that a clause makes of g, by its mode. A renaming has no actual form.
-fn seen_made(
-    library: &[u8],
-    text: &[u8],
-    work: &mut [u32],
-    t: usize,
-    m: Mode,
-    g: Form,
-    actual: Form,
-    b: Block,
-) -> Form
-    requires { ⌜ SeenStep (length (now work)) t m g actual b ⌝ }
-    ensures { λ r. ⌜ SeenMade (joint (now (library .entry)) (now (text .entry))) t (now (work .entry)) m g actual b r (now (work .exit)) ⌝ }
-{
-    let kind = m.kind;
-    if kind == modes::BINDING {
-        return bound_rows(library, text, work, t, m, g, actual, b);
-    }
-    let notes = b.visible_notes;
-    let e = empty_form(b);
-    let named = unite_parameters(library, text, work, t, g, e);
-    unite_visible(library, text, work, t, m, false, g, named, notes)
+    unite_seen(library, text, work, t, as_is(), actual, own, notes + 1024)
 }
 
 // The notes of the formal rows that a clause's mode has: where the actual items are. A renaming has none.
@@ -216,7 +180,7 @@ fn bound(
     requires { ⌜ StepRoom (length (now work)) t m g actual b ⌝ }
     ensures { λ r. ⌜ BoundForm (joint (now (library .entry)) (now (text .entry))) t (now (work .entry)) m g actual b r (now (work .exit)) ⌝ }
 {
-    let seen = seen_made(library, text, work, t, m, g, actual, b);
+    let seen = bound_rows(library, text, work, t, m, g, actual, b);
     let notes = b.visible_notes;
     formals_noted(library, text, work, t, m, seen, notes);
     let f = bound_hidden(library, text, work, t, m, g, actual, seen, b);

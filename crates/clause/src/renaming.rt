@@ -1,15 +1,16 @@
 // A form renamed, 14, and a form united with another: each is made in a block, and checked.
 use super::clause_right;
 use super::formals_noted;
-use super::seen_made;
 use clause_translation::Mode;
 use clause_translation::modes;
 use form::Block;
 use form::Form;
 use form::Made;
 use form::Verdict;
+use unite::empty_form;
 use unite::unite;
 use unite::unite_hidden;
+use unite::unite_seen;
 use unite_checks::checked::checked;
 ghost use lib.ListN.{length};
 ghost use Rattle.text_names.specs.Joint.{joint};
@@ -30,8 +31,9 @@ fn renamed(
     requires { ⌜ Renames m ⌝ }
     ensures { λ r. ⌜ RenamedForm (joint (now (library .entry)) (now (text .entry))) t (now (work .entry)) (m .pairs) g b r (now (work .exit)) ⌝ }
 {
-    let seen = seen_made(library, text, work, t, m, g, g, b);
     let notes = b.visible_notes;
+    let e = empty_form(b);
+    let seen = unite_seen(library, text, work, t, m, g, e, notes);
     formals_noted(library, text, work, t, m, seen, notes);
     let f = unite_hidden(library, text, work, t, m, g, seen, b, notes);
     checked(library, text, work, t, f, b)

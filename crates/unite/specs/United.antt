@@ -107,7 +107,14 @@ pub record VisibleUnited (text : List ℕ) (t : ℕ) (w : List ℕ) (m : Mode) (
   pub form : r ≡ with-items f (f .«parameter_count») (r .«visible_count») (f .«hidden_count»)
   pub absorbed : Absorbed text (part w 0 t) w m true drop (g .visible) (g .«visible_count») (f .visible) (f .«visible_count») notes (r .«visible_count») w′
 
--- and the hidden ones, up to `cap`
+-- the parameters of g that are none of f's stand behind those of f, and then its visible items are absorbed
+pub record SeenUnited (text : List ℕ) (t : ℕ) (w : List ℕ) (m : Mode) (g f : Form) (notes : ℕ) (r : Form) (w′ : List ℕ) : Type 0 where
+  pub named : Form
+  pub between : List ℕ
+  pub parameters : SlotsUnited text t w g f named between
+  pub rows : VisibleUnited text t between m false g named notes r w′
+
+-- the hidden items of g are absorbed into those of f, up to `cap`
 pub record ItemsUnited (text : List ℕ) (t : ℕ) (w : List ℕ) (m : Mode) (g f : Form) (notes cap : ℕ) (r : Form) (w′ : List ℕ) : Type 0 where
   pub form : r ≡ with-items f (f .«parameter_count») (f .«visible_count») (r .«hidden_count»)
   pub absorbed :

@@ -16,7 +16,8 @@ ghost use lib.ListN.{length};
 ghost use Rattle.text_names.specs.Joint.{joint};
 ghost use Rattle.unite_items.specs.Turns.{RoomWithin, Room};
 ghost use Rattle.unite.specs.Rooms.{SlotRoom, SlotsRoom, HiddenRoom, HiddenRoomWithin, UniteRoom};
-ghost use Rattle.unite.specs.United.{empty-in, with-items, SlotUnited, SlotsUnited, VisibleUnited, ItemsUnited, HiddenUnited, HiddenUnitedWithin, United};
+ghost use Rattle.unite.specs.United.{empty-in, with-items, SlotUnited, SlotsUnited, VisibleUnited, ItemsUnited};
+ghost use Rattle.unite.specs.United.{HiddenUnited, HiddenUnitedWithin, SeenUnited, United};
 
 // The form in the block that has nothing.
 pub fn empty_form(b: Block) -> Form
@@ -228,6 +229,25 @@ pub fn unite_hidden(
     unite_hidden_within(library, text, work, t, m, g, f, b, notes, have + more)
 }
 
+// The parameters and the visible items of g, moved, united with those of f. Called by all unions, so that its frame is in none of theirs.
+pub fn unite_seen(
+    library: &[u8],
+    text: &[u8],
+    work: &mut [u32],
+    t: usize,
+    m: Mode,
+    g: Form,
+    f: Form,
+    notes: u32,
+) -> Form
+    requires { ⌜ SlotsRoom (length (now work)) t g f ⌝ }
+    requires { ⌜ Room (length (now work)) t m (g .visible) (g .«visible_count») (f .visible) (f .«visible_count») notes ⌝ }
+    ensures { λ r. ⌜ SeenUnited (joint (now (library .entry)) (now (text .entry))) t (now (work .entry)) m g f notes r (now (work .exit)) ⌝ }
+{
+    let named = unite_parameters(library, text, work, t, g, f);
+    unite_visible(library, text, work, t, m, false, g, named, notes)
+}
+
 // All of g, moved, united with f, which lies in the block.
 pub fn unite(
     library: &[u8],
@@ -243,7 +263,6 @@ pub fn unite(
     ensures { λ r. ⌜ United (joint (now (library .entry)) (now (text .entry))) t (now (work .entry)) m g f b r (now (work .exit)) ⌝ }
 {
     let notes = b.visible_notes;
-    let named = unite_parameters(library, text, work, t, g, f);
-    let seen = unite_visible(library, text, work, t, m, false, g, named, notes);
+    let seen = unite_seen(library, text, work, t, m, g, f, notes);
     unite_hidden(library, text, work, t, m, g, seen, b, notes)
 }

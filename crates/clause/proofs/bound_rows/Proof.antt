@@ -10,10 +10,9 @@ bound-rows-spec =
     tie.close
     (tie.spec
     (λ c κs. search needs)  -- bound-own-requires
-    (λ c κs. search rows)  -- unite-parameters-requires
     (λ c κs. search needs)  -- as-is-requires
-    (λ c. search (c .before .before .before .before .before .before .before .before .before .before .before .before .before .pre .room .own .room .laid, needs))  -- add-unite-visible
-    (λ c κs. search rows)  -- unite-visible-requires
+    (λ c. search (c .before .before .before .before .before .before .before .before .before .pre .room .own .room .laid, needs))  -- add-unite-seen
+    (λ c κs. search rows)  -- unite-seen-requires
     (λ c. search needs)  -- same-length
     (λ c. search rows)  -- returns
     )

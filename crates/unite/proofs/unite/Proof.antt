@@ -9,13 +9,8 @@ pub unite-spec : {M : Type 1} → statement M
 unite-spec =
     tie.close
     (tie.spec
-    (λ c κs. search (slots-room, needs))  -- unite-parameters-requires
-    (λ c κs. search (visible-room, needs))  -- unite-visible-requires
-    (λ c κs. hidden-room _ _ _ _ _ _ _ (c .before .before .before .before .before .before .before .before .before .before .before .before .pre) _ _
-    (c .before .before .before .before .before .before .before .unite-parameters .ensures) _ _
-    (c .before .before .before .unite-visible .ensures))  -- unite-hidden-requires
+    (λ c κs. search (slots-room, visible-room, needs))  -- unite-seen-requires
+    (λ c κs. search (hidden-room, needs))  -- unite-hidden-requires
     (λ c. search needs)  -- same-length
-    (λ c. united _ _ _ _ _ _ _ (c .before .before .before .before .before .before .before .before .before .before .before .before .before .before .before .pre) _ _
-    (c .before .before .before .before .before .before .before .before .before .before .unite-parameters .ensures) _ _
-    (c .before .before .before .before .before .before .unite-visible .ensures) _ _ (c .before .before .unite-hidden .ensures))  -- returns
+    (λ c. search (united, needs))  -- returns
     )
