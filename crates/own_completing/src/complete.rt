@@ -102,7 +102,7 @@ fn complete_equations(
     join_made(library, text, work, t, made, seen, b, totals)
 }
 
-// Those of module number `home`, where its own items have joined those of f: its equations typed, 17, and all joined, 18.
+// Module number `home`, whose own items have joined those of f: its equations typed, 17, and all joined, 18.
 pub fn join_equations(
     library: &[u8],
     text: &[u8],
