@@ -58,4 +58,4 @@ rust/target/release/compare divided $((seeds / 3)) "$first" "${RUN[@]}" build/dr
 rust/target/release/compare imports $((seeds / 10)) "$first" "${RUN[@]}" build/driver
 rust/target/release/compare decide $((seeds / 10)) "$first" "${RUN[@]}" build/driver
 rust/target/release/compare chains $((seeds / 10)) "$first" | rust run --quiet --example chains
-tools/stack.sh --limit 5632 --others 4096
+tools/stack.sh --limit 4096

@@ -1,18 +1,16 @@
 #!/usr/bin/env bash
 # Tells the most stack that a call of the library takes, over every vector, the texts that are timed and deep ones; c/stack.c says what counts.
-# stack.sh [native|all] [--limit BYTES] [--others BYTES] measures the archive in build/library or, with `native`, the one that
-# tools/native_library.sh makes for this machine, and fails where a call takes more than the limit, or one of another function than asf_normalise
-# more than the others' limit. Under an emulator texts that take long are left out, but not with `all`.
+# stack.sh [native|all] [--limit BYTES] measures the archive in build/library or, with `native`, the one that tools/native_library.sh makes for
+# this machine, and fails where a call takes more than the limit. Under an emulator texts that take long are left out, but not with `all`.
 set -euo pipefail
 cd "$(dirname "$0")/.."
-library=build/library limit= others= long=
+library=build/library limit= long=
 while [ $# -gt 0 ]; do
     case $1 in
     native) library=build/native ;;
     all) long=too ;;
     --limit) limit=$2 && shift ;;
-    --others) others=$2 && shift ;;
-    *) echo "usage: tools/stack.sh [native|all] [--limit BYTES] [--others BYTES]" >&2 && exit 2 ;;
+    *) echo "usage: tools/stack.sh [native|all] [--limit BYTES]" >&2 && exit 2 ;;
     esac
     shift
 done
@@ -35,8 +33,8 @@ inputs=(rust/reference/vectors/*/*.in build/texts/*.in)
 echo "bytes of stack that a call in $library takes, the most of ${#inputs[@]} inputs first"
 grep asf_normalise $library/stack.txt | sed -n 1,5p
 for other in asf_fetch asf_decide asf_module_name asf_line asf_visible; do grep -m 1 $other $library/stack.txt; done
-over=$(awk -v limit="$limit" -v others="$others" '
-    limit != "" && $1 > limit + 0 || others != "" && $2 != "asf_normalise" && $1 > others + 0' $library/stack.txt)
+[ -n "$limit" ] || exit 0
+over=$(awk -v limit="$limit" '$1 > limit + 0' $library/stack.txt)
 [ -z "$over" ] && exit 0
-echo "tools/stack.sh: $(wc -l <<<"$over") calls take more stack than they may, the most of them $(head -n 1 <<<"$over")" >&2
+echo "tools/stack.sh: $(wc -l <<<"$over") calls take more than $limit bytes of stack, the most of them $(head -n 1 <<<"$over")" >&2
 exit 1
