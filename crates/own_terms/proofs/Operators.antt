@@ -17,7 +17,7 @@ use Rattle.form_rows.specs.Entries.{role-at}
 use Rattle.form.specs.Memory.{part}
 use Rattle.own_finding.specs.declared.Known.{Known}
 use Rattle.own_finding.specs.Arguments.{arguments-of, closers-of, ends-at}
-use Rattle.own_terms.specs.Typing.{no-sorts, args-by, term-at, args-at, operated, operated-row, operands-at, Row, halvings, stepped, shortened, Ended, Operators, known-of}
+use Rattle.own_terms.specs.Typing.{no-sorts, args-by, term-at, args-at, operated, operated-row, operands-at, Row, halvings, stepped, shortened, Ended, Operators, known-of, At, Room}
 use Rattle.own_terms.proofs.Cases.{term-args}
 
 -- ---- how many operands the operator at i has
@@ -116,15 +116,15 @@ pub halved-some : (most word : ℕ) → 1 < word → 0 < halvings (suc most) wor
 unfolding halvings pick
 halved-some most word h = rw (lt-ltb 1 word h) (omega arith)
 
-pub row-stepped : (row : List ℕ) → (getD row 0 0 - 1) ∷ (getD row 1 0 - 1) ∷ getD row 2 0 ∷ getD row 3 0 ∷ [] ≡ stepped row
+pub row-stepped : (row : List ℕ) → (getD row 0 0 - 1) ∷ (getD row 1 0 - 1) ∷ getD row 2 0 ∷ [] ≡ stepped row
 unfolding stepped
 row-stepped row = refl
 
-pub row-shortened : (row : List ℕ) → getD row 0 0 ∷ getD row 1 0 ∷ (getD row 2 0 / 2) ∷ (getD row 3 0 + 1) ∷ [] ≡ shortened row
+pub row-shortened : (row : List ℕ) → getD row 0 0 ∷ getD row 1 0 ∷ (getD row 2 0 / 2) ∷ [] ≡ shortened row
 unfolding shortened
 row-shortened row = refl
 
-pub row-start : (k : Known) (d i q : ℕ) (w : List ℕ) → i < 2 ^ 64 → q < 2 ^ 64 → Row k d i q w 0 1
+row-start : (k : Known) (d i q : ℕ) (w : List ℕ) → i < 2 ^ 64 → q < 2 ^ 64 → Row k d i q w 0 1
 unfolding operated-row
 row-start k d i q w h g = record {
   within = omega arith;
@@ -165,39 +165,83 @@ module _ (k : Known) (d i q : ℕ) (w : List ℕ) (n word : ℕ) (row : Row k d 
               ∙ rw (depth, entry, place, add-one n, half, term-operated text k (d - n) (i + n) (q + n) w a more (λ z. omega arith) o bit);
         }
 
-module _ (k : List ℕ) (d i q : ℕ) (w : List ℕ) (n word : ℕ) (row : Row (known-of k) d i q w n word) where
-  abbrev words : List ℕ
-  words = (i + n) ∷ (q + n) ∷ word ∷ (d - n) ∷ []
+pub row-falls : (k : Known) (i q d : ℕ) (p : List ℕ) → At k i q (d - 1) p → 0 < d → getD p 7 0 < d
+row-falls k i q d p h l = rw (h .deep) (omega arith)
 
-  stands : Ended (known-of k) words w → Operators (known-of k) d i q w words w
-  stands e = record { n = n; stand = row; entry = refl; place = refl; deep = refl; ended = e; kept = refl }
+-- n operators from the words p₀ on are gone over, and the words are p
+pub record Going (p₀ : List ℕ) (i q : ℕ) (w : List ℕ) (n word : ℕ) (p : List ℕ) : Type 0 where
+  pub row : Row (known-of p₀) (getD p₀ 7 0) i q w n word
+  pub left : At (known-of p₀) (getD p₀ 5 0) (getD p₀ 6 0) (getD p₀ 7 0 - n) p
+
+pub going-first : (p : List ℕ) (i q : ℕ) (w : List ℕ) → Room p w → i < 2 ^ 64 → q < 2 ^ 64 → Going p i q w 0 1 p
+going-first p i q w l h g = record {
+  row = row-start (known-of p) (getD p 7 0) i q w h g;
+  left = record { long = l .words .long; known = refl; next-at = refl; free-at = refl; deep = sym (sub-zero (getD p 7 0)) };
+}
+
+module _ (p₀ : List ℕ) (i q : ℕ) (w : List ℕ) (n word : ℕ) (p : List ℕ) (v : Going p₀ i q w n word p) where
+  abbrev words : List ℕ
+  words = (i + n) ∷ (q + n) ∷ word ∷ []
+
+  stands : Ended (known-of p₀) (getD p 7 0) words w → Operators p₀ i q w words p w
+  stands e = record { n = n; stand = v .row; entry = refl; place = refl; left = v .left; ended = e; kept = refl }
+
+  pub row-entry : i + n < 2 ^ 64
+  row-entry = v .row .entry
+
+  pub row-place : q + n < 2 ^ 64
+  row-place = v .row .place
+
+  pub row-long : length p ≡ 8
+  row-long = v .left .long
+
+  pub row-more : n + 1 < 2 ^ 64
+  row-more = omega (arith, v .row .few)
 
   pub row-doubles : (n ≡ 63 → ⊥) → word * 2 < 2 ^ 64
-  row-doubles f = omega (arith, row-word (known-of k) d i q w n word row f)
+  row-doubles f = omega (arith, row-word (known-of p₀) (getD p₀ 7 0) i q w n word (v .row) f)
 
-  pub row-full : n ≡ 63 → Operators (known-of k) d i q w words w
+  pub row-full : n ≡ 63 → Operators p₀ i q w words p w
   row-full e =
-      let many : 2 ^ 63 ≤ word = rw e at (row .low) in
+      let many : 2 ^ 63 ≤ word = rw e at (v .row .low) in
       stands (record { none = λ f z. absurd (omega arith) })
 
-  pub row-deep : d ≤ n → Operators (known-of k) d i q w words w
+  pub row-deep : getD p 7 0 ≤ 0 → Operators p₀ i q w words p w
   row-deep h = stands (record { none = λ f z. absurd (z (omega arith)) })
 
-  module _ (a : ℕ) (e : a ≡ operands-at (getD k 0 0) (i + n) (q + n) w) where
-    pub row-stops : a ≡ 0 → Operators (known-of k) d i q w words w
+  module _ (a : ℕ) (e : a ≡ operands-at (getD p₀ 0 0) (i + n) (q + n) w) where
+    pub row-stops : a ≡ 0 → Operators p₀ i q w words p w
     unfolding known-of
     row-stops y = stands (record { none = λ f z. sym e ∙ y })
 
     module _ (y : a ≡ 0 → ⊥) (f : n ≡ 63 → ⊥) where
       pub row-fits : word * 2 + (a - 1) < 2 ^ 64
       row-fits =
-          let o = operator-there (getD k 0 0) (i + n) (q + n) w a e y in
-          omega (arith, o .operands, few-operands (role-at (part w 0 (getD k 0 0)) (i + n)) (o .counted), row-word (known-of k) d i q w n word row f)
+          let o = operator-there (getD p₀ 0 0) (i + n) (q + n) w a e y in
+          omega (
+            arith,
+            o .operands,
+            few-operands (role-at (part w 0 (getD p₀ 0 0)) (i + n)) (o .counted),
+            row-word (known-of p₀) (getD p₀ 7 0) i q w n word (v .row) f,
+          )
 
-      pub row-again : (more : ℕ) → more ≡ word * 2 + (a - 1) → n < d → getD k 0 0 ≤ length w → length w < 2 ^ 64
-          → Row (known-of k) d i q w (n + 1) more
+      pub row-again : (more : ℕ) (p′ : List ℕ) → more ≡ word * 2 + (a - 1) → 0 < getD p 7 0 → Room p₀ w
+          → At (known-of p) (getD p 5 0) (getD p 6 0) (getD p 7 0 - 1) p′ → Going p₀ i q w (n + 1) more p′
       unfolding known-of
-      row-again more m l = row-longer (known-of k) d i q w n word row a (operator-there (getD k 0 0) (i + n) (q + n) w a e y) more m l f
+      row-again more p′ m l h t =
+          let o = operator-there (getD p₀ 0 0) (i + n) (q + n) w a e y in
+          let deep = v .left .deep in
+          let less : n < getD p₀ 7 0 = omega (arith, deep, l) in
+          record {
+            row = row-longer (known-of p₀) (getD p₀ 7 0) i q w n word (v .row) a o more m less f (h .tape) (h .fits);
+            left = record {
+              long = t .long;
+              known = t .known ∙ v .left .known;
+              next-at = t .next-at ∙ v .left .next-at;
+              free-at = t .free-at ∙ v .left .free-at;
+              deep = omega (arith, t .deep, deep);
+            };
+          }
 
 -- what the answers on the way to the first operand hand to `search`
-pub ruleset onward = (operands-past, operands-full, operands-counted, operands-closed, row-stepped, row-shortened, row-start, row-doubles, row-full, row-deep, row-stops, row-fits, row-again, needs)
+pub ruleset onward = (operands-past, operands-full, operands-counted, operands-closed, row-stepped, row-shortened, going-first, row-falls, row-entry, row-place, row-long, row-doubles, row-full, row-deep, row-stops, row-fits, row-more, row-again, needs)

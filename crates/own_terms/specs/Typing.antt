@@ -99,6 +99,34 @@ term-at text k (suc depth) i q w =
 abbrev pub args-at : List ℕ → Known → ℕ → ℕ → ℕ → ℕ → ℕ → ℕ → ℕ → ℕ → List ℕ → List ℕ → Out
 args-at text k depth head place closers left i q n sorts w = args-by k (term-at text k depth) (applied-at text k head place) closers left i q n sorts w
 
+-- ---- the words that a level of a term is lent
+
+-- what is known, of five words, of which four are no longer than a word of memory; behind them are two places and a depth
+unfoldable pub known-of : List ℕ → Known
+known-of p = record { tape = getD p 0 0; base = getD p 1 0; count = getD p 2 0; visible = getD p 3 0; hidden = getD p 4 0 }
+
+pub record Words (p : List ℕ) : Type 0 where
+  pub long : length p ≡ 8
+  pub base : getD p 1 0 < 4294967296
+  pub count : getD p 2 0 ≤ 65536
+  pub visible : getD p 3 0 < 4294967296
+  pub hidden : getD p 4 0 ≤ 65536
+  pub small : getD p 7 0 < 2 ^ 64
+
+-- the words are those of what is known, the places and the depth
+pub record At (k : Known) (next free depth : ℕ) (p : List ℕ) : Type 0 where
+  pub long : length p ≡ 8
+  pub known : known-of p ≡ k
+  pub next-at : getD p 5 0 ≡ next
+  pub free-at : getD p 6 0 ≡ free
+  pub deep : getD p 7 0 ≡ depth
+
+-- the tape is in the memory, whose places are words
+pub record Room (p w : List ℕ) : Type 0 where
+  pub words : Words p
+  pub tape : getD p 0 0 ≤ length w
+  pub fits : length w < 2 ^ 64
+
 -- ---- operators that stand one behind the other: their first operands are gone over, and they are typed from the last to the first
 
 -- the operator at i whose first operand came out so; a second one follows where it is infix, which the lowest bit of the word tells
@@ -134,72 +162,59 @@ halvings (suc most) word = pick (ltb 1 word) (halvings most (word / 2) + 1) 0
 abbrev pub operators-in : List ℕ → ℕ
 operators-in row = halvings 64 (getD row 2 0)
 
--- a row is kept as four words: the entry and the place behind it, the word that tells which are infix, and the depth there; what is behind it came out so
-unfoldable pub returned : List ℕ → Known → List ℕ → Out → Out
-returned text k row o =
+-- a row is kept as three words: the entry and the place behind it, and the word that tells which are infix; what is behind it, at the depth, came out so
+unfoldable pub returned : List ℕ → Known → ℕ → List ℕ → Out → Out
+returned text k depth row o =
     let n = operators-in row in
-    operated-row text k (getD row 3 0 + n) (getD row 0 0 - n) (getD row 1 0 - n) n (getD row 2 0) o
+    operated-row text k (depth + n) (getD row 0 0 - n) (getD row 1 0 - n) n (getD row 2 0) o
 
 -- so many operators are left of it
-pub record Backed (row : List ℕ) : Type 0 where
+pub record Backed (depth : ℕ) (row : List ℕ) : Type 0 where
   pub left : ℕ
   pub few : left ≤ 63
   pub low : 2 ^ left ≤ getD row 2 0
   pub bits : getD row 2 0 < 2 ^ (left + 1)
   pub entry : left ≤ getD row 0 0
   pub place : left ≤ getD row 1 0
-  pub depth : getD row 3 0 + left < 2 ^ 64
+  pub total : depth + left < 2 ^ 64
 
 -- at its last operator; and without that one
 unfoldable pub stepped : List ℕ → List ℕ
-stepped row = (getD row 0 0 - 1) ∷ (getD row 1 0 - 1) ∷ getD row 2 0 ∷ getD row 3 0 ∷ []
+stepped row = (getD row 0 0 - 1) ∷ (getD row 1 0 - 1) ∷ getD row 2 0 ∷ []
 
 unfoldable pub shortened : List ℕ → List ℕ
-shortened row = getD row 0 0 ∷ getD row 1 0 ∷ (getD row 2 0 / 2) ∷ (getD row 3 0 + 1) ∷ []
+shortened row = getD row 0 0 ∷ getD row 1 0 ∷ (getD row 2 0 / 2) ∷ []
 
 -- where no operator is in the row, none is behind it
-pub record Ended (k : Known) (row w : List ℕ) : Type 0 where
-  pub none : getD row 2 0 ≤ 1 → (getD row 3 0 ≡ 0 → ⊥) → operands-at (k .tape) (getD row 0 0) (getD row 1 0) w ≡ 0
+pub record Ended (k : Known) (depth : ℕ) (row w : List ℕ) : Type 0 where
+  pub none : getD row 2 0 ≤ 1 → (depth ≡ 0 → ⊥) → operands-at (k .tape) (getD row 0 0) (getD row 1 0) w ≡ 0
 
--- the operators of the row stand in the memory w, which stays
-pub record Operators (k : Known) (depth i q : ℕ) (w row w′ : List ℕ) : Type 0 where
+-- the operators of the row stand in the memory w, which stays; the words p become p′, which have the depth behind the row
+pub record Operators (p : List ℕ) (i q : ℕ) (w row p′ w′ : List ℕ) : Type 0 where
   pub n : ℕ
-  pub stand : Row k depth i q w n (getD row 2 0)
+  pub stand : Row (known-of p) (getD p 7 0) i q w n (getD row 2 0)
   pub entry : getD row 0 0 ≡ i + n
   pub place : getD row 1 0 ≡ q + n
-  pub deep : getD row 3 0 ≡ depth - n
-  pub ended : Ended k row w
+  pub left : At (known-of p) (getD p 5 0) (getD p 6 0) (getD p 7 0 - n) p′
+  pub ended : Ended (known-of p) (getD p′ 7 0) row w
   pub kept : w′ ≡ w
 
--- ---- what a level of a term is given and gives back: words
-
--- what is known, of five words, of which four are no longer than a word of memory
-unfoldable pub known-of : List ℕ → Known
-known-of k = record { tape = getD k 0 0; base = getD k 1 0; count = getD k 2 0; visible = getD k 3 0; hidden = getD k 4 0 }
-
-pub record Words (k : List ℕ) : Type 0 where
-  pub base : getD k 1 0 < 4294967296
-  pub count : getD k 2 0 ≤ 65536
-  pub visible : getD k 3 0 < 4294967296
-  pub hidden : getD k 4 0 ≤ 65536
-
--- the tape is in the memory, whose places are words
-pub record Room (k w : List ℕ) : Type 0 where
-  pub tape : getD k 0 0 ≤ length w
-  pub fits : length w < 2 ^ 64
+-- ---- what a level of a term gives back: a number, and words
 
 -- an answer of a number, which is one more than the sort, and of the two places; 0 is none
 unfoldable pub answered : ℕ → ℕ → ℕ → Answer
 answered zero next free = Ill
 answered (suc s) next free = Sorted s next free
 
-pub record Told (a : Answer) (r : ℕ) (p : List ℕ) : Type 0 where
-  pub same : answered r (getD p 0 0) (getD p 1 0) ≡ a
+-- where there is an answer, what is known and the depth stand in the words
+pub record Told (a : Answer) (k : Known) (depth r : ℕ) (p : List ℕ) : Type 0 where
+  pub same : answered r (getD p 5 0) (getD p 6 0) ≡ a
   pub fits : r ≤ 4294967296
+  pub stands : (r ≡ 0 → ⊥) → At k (getD p 5 0) (getD p 6 0) depth p
 
 -- what comes out, so told
-pub record Typed (o : Out) (r : ℕ) (p w : List ℕ) : Type 0 where
-  pub told : Told (o .answer) r p
+pub record Typed (o : Out) (k : Known) (depth r : ℕ) (p w : List ℕ) : Type 0 where
+  pub told : Told (o .answer) k depth r p
   pub memory : w ≡ o .memory
 
 -- a reference to the memory; and one of them is the other at another time
@@ -211,9 +226,9 @@ pub record Stays (w w′ : Lent) : Type 0 where
   pub size : length (now w′) ≡ length (now w)
 
 -- what comes out where the memory was lent by w: it is now as w′ lends it
-pub record Reached (o : Out) (w : Lent) (r : ℕ) (p : List ℕ) (w′ : Lent) : Type 0 where
+pub record Reached (o : Out) (k : Known) (depth : ℕ) (w : Lent) (r : ℕ) (p : List ℕ) (w′ : Lent) : Type 0 where
   pub stays : Stays w w′
-  pub typed : Typed o r p (now w′)
+  pub typed : Typed o k depth r p (now w′)
 
 -- what was read of the memory w, which stays
 pub record Read {A : Type 0} (v : A) (w : List ℕ) (r : A) (w′ : List ℕ) : Type 0 where

@@ -1,5 +1,5 @@
 // The typer of terms: a term and its arguments call each other, with the depth falling. The memory goes down by one reference, which takes a register:
-// a slice is handed over as a copy in memory, of which each level would keep one.
+// a slice is handed over as a copy in memory, of which each level would keep one. What is known, the places and the depth go down by another.
 use super::Answer;
 use form_rows::ROW_STEP;
 use form_rows::entries::name_at;
@@ -22,7 +22,7 @@ ghost use Rattle.text_names.specs.Joint.{joint};
 ghost use Rattle.form_rows.specs.Entries.{role-at};
 ghost use Rattle.form.specs.Memory.{part};
 ghost use Rattle.own_finding.specs.Arguments.{ends-at};
-ghost use Rattle.own_terms.specs.Typing.{out, settled, variable-at, function-row, alone-at, applied-at, no-sorts, args-at, term-at, operated, returned, Backed, stepped, shortened, operands-at, Operators, Ended, known-of, Words, Room, answered, Told, Typed, Reached, Read, item-at};
+ghost use Rattle.own_terms.specs.Typing.{out, settled, variable-at, function-row, alone-at, applied-at, no-sorts, args-at, term-at, operated, returned, Backed, stepped, shortened, operators-in, operands-at, Operators, Ended, known-of, Words, At, Room, answered, Told, Typed, Reached, Read, item-at};
 
 // So many operators are gone over at once at the most: behind its highest bit a word tells of each whether it is infix, and a term of 64 nodes has no more.
 const ROW: usize = 63;
@@ -106,9 +106,10 @@ fn type_applied(
     Answer::Ill
 }
 
-// The words of what is known: tape, base, count, visible and hidden.
-fn known_words(k: Known) -> [usize; 5]
-    ensures { λ r. ⌜ known-of r ≡ k ⌝ }
+// The words that a level is lent: what is known, which is the tape, base, count, visible and hidden, then the two places and the depth. They are in
+// one array, so that one reference goes down, and no level keeps any of them.
+fn known_words(k: Known, i: usize, q: usize, depth: usize) -> [usize; 8]
+    ensures { λ r. ⌜ At k i q depth r ⌝ }
 {
     let tape = k.tape;
     let base = k.base;
@@ -121,11 +122,14 @@ fn known_words(k: Known) -> [usize; 5]
         count as usize,
         visible as usize,
         hidden as usize,
+        i,
+        q,
+        depth,
     ]
 }
 
 // What is known, of its words.
-fn known_of(k: &[usize; 5]) -> Known
+fn known_of(k: &[usize; 8]) -> Known
     requires { ⌜ Words (now k) ⌝ }
     ensures { λ r. ⌜ r ≡ known-of (now (k .entry)) ⌝ }
 {
@@ -138,14 +142,40 @@ fn known_of(k: &[usize; 5]) -> Known
     }
 }
 
+// The words at other places.
+fn move_to(words: &mut [usize; 8], next: usize, free: usize)
+    requires { ⌜ length (now words) ≡ 8 ⌝ }
+    ensures { λ _. ⌜ At (known-of (now (words .entry))) next free (getD (now (words .entry)) 7 0) (now (words .exit)) ⌝ }
+{
+    words[5] = next;
+    words[6] = free;
+}
+
+// The words a level deeper.
+fn descend(words: &mut [usize; 8])
+    requires { ⌜ (length (now words) ≡ 8) × (0 < getD (now words) 7 0) ⌝ }
+    ensures { λ _. ⌜ At (known-of (now (words .entry))) (getD (now (words .entry)) 5 0) (getD (now (words .entry)) 6 0) (getD (now (words .entry)) 7 0 - 1) (now (words .exit)) ⌝ }
+{
+    words[7] -= 1;
+}
+
+// The words a level back.
+fn ascend(words: &mut [usize; 8])
+    requires { ⌜ (length (now words) ≡ 8) × (getD (now words) 7 0 + 1 < 2 ^ 64) ⌝ }
+    ensures { λ _. ⌜ At (known-of (now (words .entry))) (getD (now (words .entry)) 5 0) (getD (now (words .entry)) 6 0) (getD (now (words .entry)) 7 0 + 1) (now (words .exit)) ⌝ }
+{
+    words[7] += 1;
+}
+
 // The answer as a number, one more than the sort, with its places; 0 where the term is ill typed.
-fn tell(a: Answer, places: &mut [usize; 2]) -> usize
-    ensures { λ r. ⌜ Told a r (now (places .exit)) ⌝ }
+fn tell(a: Answer, words: &mut [usize; 8]) -> usize
+    requires { ⌜ length (now words) ≡ 8 ⌝ }
+    ensures { λ r. ⌜ Told a (known-of (now (words .entry))) (getD (now (words .entry)) 7 0) r (now (words .exit)) ⌝ }
 {
     let Answer::Sorted { sort, next, free } = a else {
         return 0;
     };
-    *places = [next, free];
+    move_to(words, next, free);
     sort as usize + 1
 }
 
@@ -155,29 +185,28 @@ fn item_in(
     library: &[u8],
     text: &[u8],
     work: &mut [u32],
-    k: &[usize; 5],
-    places: &mut [usize; 2],
-    row: &[usize; 4],
+    words: &mut [usize; 8],
+    row: &[usize; 3],
     alone: bool,
     sorts: &[u32; 9],
     n: usize,
 ) -> usize
-    requires { ⌜ (getD (now k) 0 0 ≤ length (now work)) × Words (now k) × (n ≤ 9) × (length (now sorts) ≡ 9) ⌝ }
-    ensures { λ r. ⌜ Typed (item-at (joint (now (library .entry)) (now (text .entry))) (known-of (now (k .entry))) alone (getD (now (row .entry)) 0 0) (getD (now (row .entry)) 1 0) n (now (sorts .entry)) (getD (now (places .entry)) 0 0) (getD (now (places .entry)) 1 0) (now (work .entry))) r (now (places .exit)) (now (work .exit)) ⌝ }
+    requires { ⌜ Room (now words) (now work) × (n ≤ 9) × (length (now sorts) ≡ 9) ⌝ }
+    ensures { λ r. ⌜ Typed (item-at (joint (now (library .entry)) (now (text .entry))) (known-of (now (words .entry))) alone (getD (now (row .entry)) 0 0) (getD (now (row .entry)) 1 0) n (now (sorts .entry)) (getD (now (words .entry)) 5 0) (getD (now (words .entry)) 6 0) (now (work .entry))) (known-of (now (words .entry))) (getD (now (words .entry)) 7 0) r (now (words .exit)) (now (work .exit)) ⌝ }
 {
-    let known = known_of(k);
+    let known = known_of(words);
     let count = known.count;
     let i = row[0];
     let q = row[1];
-    let next = places[0];
-    let free = places[1];
+    let next = words[5];
+    let free = words[6];
     let v = variable_row(library, text, work, known, i, alone);
     if v < count {
         let a = settle(work, known, q, v, n, next, free);
-        return tell(a, places);
+        return tell(a, words);
     }
     let a = type_applied(library, text, work, known, i, q, n, sorts, next, free);
-    tell(a, places)
+    tell(a, words)
 }
 
 // The same by the reference to the memory.
@@ -185,17 +214,16 @@ fn type_item(
     library: &&[u8],
     text: &&[u8],
     work: &mut &mut [u32],
-    k: &[usize; 5],
-    places: &mut [usize; 2],
-    row: &[usize; 4],
+    words: &mut [usize; 8],
+    row: &[usize; 3],
     alone: bool,
     sorts: &[u32; 9],
     n: usize,
 ) -> usize
-    requires { ⌜ (getD (now k) 0 0 ≤ length (now (now work))) × Words (now k) × (n ≤ 9) × (length (now sorts) ≡ 9) ⌝ }
-    ensures { λ r. ⌜ Reached (item-at (joint (now (now (library .entry))) (now (now (text .entry)))) (known-of (now (k .entry))) alone (getD (now (row .entry)) 0 0) (getD (now (row .entry)) 1 0) n (now (sorts .entry)) (getD (now (places .entry)) 0 0) (getD (now (places .entry)) 1 0) (now (now (work .entry)))) (now (work .entry)) r (now (places .exit)) (now (work .exit)) ⌝ }
+    requires { ⌜ Room (now words) (now (now work)) × (n ≤ 9) × (length (now sorts) ≡ 9) ⌝ }
+    ensures { λ r. ⌜ Reached (item-at (joint (now (now (library .entry))) (now (now (text .entry)))) (known-of (now (words .entry))) alone (getD (now (row .entry)) 0 0) (getD (now (row .entry)) 1 0) n (now (sorts .entry)) (getD (now (words .entry)) 5 0) (getD (now (words .entry)) 6 0) (now (now (work .entry)))) (known-of (now (words .entry))) (getD (now (words .entry)) 7 0) (now (work .entry)) r (now (words .exit)) (now (work .exit)) ⌝ }
 {
-    item_in(*library, *text, *work, k, places, row, alone, sorts, n)
+    item_in(*library, *text, *work, words, row, alone, sorts, n)
 }
 
 // The name at the row, alone.
@@ -203,18 +231,17 @@ fn type_leaf(
     library: &&[u8],
     text: &&[u8],
     work: &mut &mut [u32],
-    k: &[usize; 5],
-    places: &mut [usize; 2],
-    row: &[usize; 4],
+    words: &mut [usize; 8],
+    row: &[usize; 3],
     sorts: &[u32; 9],
 ) -> usize
-    requires { ⌜ Room (now k) (now (now work)) × Words (now k) × (getD (now row) 0 0 < getD (now k) 0 0) × (getD (now row) 1 0 < length (now (now work))) × (now sorts ≡ no-sorts) ⌝ }
-    ensures { λ r. ⌜ Reached (alone-at (joint (now (now (library .entry))) (now (now (text .entry)))) (known-of (now (k .entry))) (getD (now (row .entry)) 0 0) (getD (now (row .entry)) 1 0) (now (now (work .entry)))) (now (work .entry)) r (now (places .exit)) (now (work .exit)) ⌝ }
+    requires { ⌜ Room (now words) (now (now work)) × (getD (now row) 0 0 < getD (now words) 0 0) × (getD (now row) 1 0 < length (now (now work))) × (now sorts ≡ no-sorts) ⌝ }
+    ensures { λ r. ⌜ Reached (alone-at (joint (now (now (library .entry))) (now (now (text .entry)))) (known-of (now (words .entry))) (getD (now (row .entry)) 0 0) (getD (now (row .entry)) 1 0) (now (now (work .entry)))) (known-of (now (words .entry))) (getD (now (words .entry)) 7 0) (now (work .entry)) r (now (words .exit)) (now (work .exit)) ⌝ }
 {
     let i = row[0];
     let q = row[1];
-    *places = [i + 1, q + 1];
-    type_item(library, text, work, k, places, row, true, sorts, 0)
+    move_to(words, i + 1, q + 1);
+    type_item(library, text, work, words, row, true, sorts, 0)
 }
 
 // The name at the row with arguments of the first n sorts.
@@ -222,16 +249,15 @@ fn type_named(
     library: &&[u8],
     text: &&[u8],
     work: &mut &mut [u32],
-    k: &[usize; 5],
-    places: &mut [usize; 2],
-    row: &[usize; 4],
+    words: &mut [usize; 8],
+    row: &[usize; 3],
     sorts: &[u32; 9],
     n: usize,
 ) -> usize
-    requires { ⌜ (getD (now k) 0 0 ≤ length (now (now work))) × Words (now k) × (n ≤ 9) × (length (now sorts) ≡ 9) ⌝ }
-    ensures { λ r. ⌜ Reached (applied-at (joint (now (now (library .entry))) (now (now (text .entry)))) (known-of (now (k .entry))) (getD (now (row .entry)) 0 0) (getD (now (row .entry)) 1 0) n (now (sorts .entry)) (getD (now (places .entry)) 0 0) (getD (now (places .entry)) 1 0) (now (now (work .entry)))) (now (work .entry)) r (now (places .exit)) (now (work .exit)) ⌝ }
+    requires { ⌜ Room (now words) (now (now work)) × (n ≤ 9) × (length (now sorts) ≡ 9) ⌝ }
+    ensures { λ r. ⌜ Reached (applied-at (joint (now (now (library .entry))) (now (now (text .entry)))) (known-of (now (words .entry))) (getD (now (row .entry)) 0 0) (getD (now (row .entry)) 1 0) n (now (sorts .entry)) (getD (now (words .entry)) 5 0) (getD (now (words .entry)) 6 0) (now (now (work .entry)))) (known-of (now (words .entry))) (getD (now (words .entry)) 7 0) (now (work .entry)) r (now (words .exit)) (now (work .exit)) ⌝ }
 {
-    type_item(library, text, work, k, places, row, false, sorts, n)
+    type_item(library, text, work, words, row, false, sorts, n)
 }
 
 // How many operands the operator at i has, if there is room for its node at q; 0 where none stands there.
@@ -252,28 +278,29 @@ fn operands_at(work: &[u32], t: usize, i: usize, q: usize) -> usize
     0
 }
 
-// The operators that stand one behind the other from i on, as far as the depth, the room and a word go: the entry and the place behind them, a
-// word that tells which are infix, of the last one in its lowest bit, and the depth there. It is kept, as the tape is not read again: nodes may have
-// been written there. All that a level keeps of its row is in this one array, which is lent, so that no frame has any of it twice.
-fn operators_from(work: &mut [u32], k: &[usize; 5], i: usize, q: usize, depth: usize) -> [usize; 4]
-    requires { ⌜ getD (now k) 0 0 ≤ length (now work) ⌝ }
-    ensures { λ r. ⌜ Operators (known-of (now (k .entry))) depth i q (now (work .entry)) r (now (work .exit)) ⌝ }
+// The operators that stand one behind the other from i on, as far as the depth, the room and a word go: the entry and the place behind them, and
+// a word that tells which are infix, of the last one in its lowest bit. It is kept, as the tape is not read again: nodes may have been written there. All
+// that a level keeps of its row is in this one array, which is lent, so that no frame has any of it twice; the depth there is left in the words.
+fn operators_from(work: &mut [u32], words: &mut [usize; 8], i: usize, q: usize) -> [usize; 3]
+    requires { ⌜ Room (now words) (now work) ⌝ }
+    ensures { λ r. ⌜ Operators (now (words .entry)) i q (now (work .entry)) r (now (words .exit)) (now (work .exit)) ⌝ }
 {
-    let t = k[0];
+    let t = words[0];
     let mut n = 0;
     let mut word = 1;
-    while n < depth {
+    while 0 < words[7] {
         if n == ROW {
-            return [i + n, q + n, word, depth - n];
+            return [i + n, q + n, word];
         }
         let a = operands_at(work, t, i + n, q + n);
         if a == 0 {
-            return [i + n, q + n, word, depth - n];
+            return [i + n, q + n, word];
         }
         word = word * 2 + (a - 1);
         n += 1;
+        descend(words);
     }
-    [i + n, q + n, word, depth - n]
+    [i + n, q + n, word]
 }
 
 // The operator at the row, whose first operand is typed, and whose second follows if it is infix.
@@ -281,50 +308,46 @@ fn type_operator(
     library: &&[u8],
     text: &&[u8],
     work: &mut &mut [u32],
-    k: &[usize; 5],
-    places: &mut [usize; 2],
-    row: &[usize; 4],
+    words: &mut [usize; 8],
+    row: &[usize; 3],
     sorts: &mut [u32; 9],
     first: usize,
 ) -> usize
-    requires { ⌜ Room (now k) (now (now work)) × Words (now k) × (first ≡ 0 → ⊥) × (first ≤ 4294967296) ⌝ }
-    ensures { λ r. ⌜ Reached (operated (joint (now (now (library .entry))) (now (now (text .entry)))) (known-of (now (k .entry))) (getD (now (row .entry)) 3 0) (getD (now (row .entry)) 2 0) (getD (now (row .entry)) 0 0) (getD (now (row .entry)) 1 0) (out (answered first (getD (now (places .entry)) 0 0) (getD (now (places .entry)) 1 0)) (now (now (work .entry))))) (now (work .entry)) r (now (places .exit)) (now (work .exit)) ⌝ }
+    requires { ⌜ Room (now words) (now (now work)) × (first ≡ 0 → ⊥) × (first ≤ 4294967296) ⌝ }
+    ensures { λ r. ⌜ Reached (operated (joint (now (now (library .entry))) (now (now (text .entry)))) (known-of (now (words .entry))) (getD (now (words .entry)) 7 0) (getD (now (row .entry)) 2 0) (getD (now (row .entry)) 0 0) (getD (now (row .entry)) 1 0) (out (answered first (getD (now (words .entry)) 5 0) (getD (now (words .entry)) 6 0)) (now (now (work .entry))))) (known-of (now (words .entry))) (getD (now (words .entry)) 7 0) (now (work .entry)) r (now (words .exit)) (now (work .exit)) ⌝ }
 {
     *sorts = [0; 9];
     sorts[0] = (first - 1) as u32;
     if row[2] % 2 == 0 {
-        return type_named(library, text, work, k, places, row, sorts, 1);
+        return type_named(library, text, work, words, row, sorts, 1);
     }
-    let second = type_deep(library, text, work, k, places, row[3]);
+    let second = type_deep(library, text, work, words);
     if second == 0 {
         return 0;
     }
     sorts[1] = (second - 1) as u32;
-    type_named(library, text, work, k, places, row, sorts, 2)
+    type_named(library, text, work, words, row, sorts, 2)
 }
 
 // The row at its last operator.
-fn step_back(row: &mut [usize; 4])
+fn step_back(row: &mut [usize; 3])
     requires { ⌜ (0 < getD (now row) 0 0) × (0 < getD (now row) 1 0) ⌝ }
     ensures { λ r. ⌜ now (row .exit) ≡ stepped (now (row .entry)) ⌝ }
 {
     let i = row[0];
     let q = row[1];
     let word = row[2];
-    let depth = row[3];
-    *row = [i - 1, q - 1, word, depth];
+    *row = [i - 1, q - 1, word];
 }
 
 // The row without its last operator, which is typed.
-fn shorten(row: &mut [usize; 4])
-    requires { ⌜ getD (now row) 3 0 + 1 < 2 ^ 64 ⌝ }
+fn shorten(row: &mut [usize; 3])
     ensures { λ r. ⌜ now (row .exit) ≡ shortened (now (row .entry)) ⌝ }
 {
     let i = row[0];
     let q = row[1];
     let word = row[2];
-    let depth = row[3];
-    *row = [i, q, word / 2, depth + 1];
+    *row = [i, q, word / 2];
 }
 
 // The operators of the row, from the last one to the first; the term behind them is typed.
@@ -332,23 +355,23 @@ fn type_back(
     library: &&[u8],
     text: &&[u8],
     work: &mut &mut [u32],
-    k: &[usize; 5],
-    places: &mut [usize; 2],
-    row: &mut [usize; 4],
+    words: &mut [usize; 8],
+    row: &mut [usize; 3],
     sorts: &mut [u32; 9],
     first: usize,
 ) -> usize
-    requires { ⌜ Room (now k) (now (now work)) × Words (now k) × (first ≤ 4294967296) × Backed (now row) ⌝ }
-    ensures { λ r. ⌜ Reached (returned (joint (now (now (library .entry))) (now (now (text .entry)))) (known-of (now (k .entry))) (now (row .entry)) (out (answered first (getD (now (places .entry)) 0 0) (getD (now (places .entry)) 1 0)) (now (now (work .entry))))) (now (work .entry)) r (now (places .exit)) (now (work .exit)) ⌝ }
+    requires { ⌜ Room (now words) (now (now work)) × (first ≡ 0 → ⊥) × (first ≤ 4294967296) × Backed (getD (now words) 7 0) (now row) ⌝ }
+    ensures { λ r. ⌜ Reached (returned (joint (now (now (library .entry))) (now (now (text .entry)))) (known-of (now (words .entry))) (getD (now (words .entry)) 7 0) (now (row .entry)) (out (answered first (getD (now (words .entry)) 5 0) (getD (now (words .entry)) 6 0)) (now (now (work .entry))))) (known-of (now (words .entry))) (getD (now (words .entry)) 7 0 + operators-in (now (row .entry))) (now (work .entry)) r (now (words .exit)) (now (work .exit)) ⌝ }
 {
     let mut sort = first;
     while 1 < row[2] {
+        step_back(row);
+        sort = type_operator(library, text, work, words, row, sorts, sort);
         if sort == 0 {
             return 0;
         }
-        step_back(row);
-        sort = type_operator(library, text, work, k, places, row, sorts, sort);
         shorten(row);
+        ascend(words);
     }
     sort
 }
@@ -370,38 +393,36 @@ fn role_in(work: &mut [u32], t: usize, i: usize) -> u32
     role_at(&work[0..t], i)
 }
 
-// The name at the row with the arguments in its brackets. Where the tape ends is read at each turn: no level keeps it.
+// The name at the row with the arguments in its brackets, which are from the places on. Where the tape ends is read at each turn: no level keeps it.
 fn type_args(
     library: &&[u8],
     text: &&[u8],
     work: &mut &mut [u32],
-    k: &[usize; 5],
-    places: &mut [usize; 2],
-    row: &[usize; 4],
+    words: &mut [usize; 8],
+    row: &[usize; 3],
     sorts: &mut [u32; 9],
 ) -> usize
-    requires { ⌜ Room (now k) (now (now work)) × Words (now k) × (getD (now row) 0 0 < getD (now k) 0 0) × (getD (now row) 1 0 < length (now (now work))) × (getD (now row) 3 0 ≡ 0 → ⊥) × (now sorts ≡ no-sorts) ⌝ }
-    ensures { λ r. ⌜ Reached (args-at (joint (now (now (library .entry))) (now (now (text .entry)))) (known-of (now (k .entry))) (getD (now (row .entry)) 3 0 - 1) (getD (now (row .entry)) 0 0) (getD (now (row .entry)) 1 0) 1 9 (getD (now (row .entry)) 0 0 + 1) (getD (now (row .entry)) 1 0 + 1) 0 no-sorts (now (now (work .entry)))) (now (work .entry)) r (now (places .exit)) (now (work .exit)) ⌝ }
+    requires { ⌜ Room (now words) (now (now work)) × (getD (now words) 7 0 ≡ 0 → ⊥) × (now sorts ≡ no-sorts) ⌝ }
+    ensures { λ r. ⌜ Reached (args-at (joint (now (now (library .entry))) (now (now (text .entry)))) (known-of (now (words .entry))) (getD (now (words .entry)) 7 0 - 1) (getD (now (row .entry)) 0 0) (getD (now (row .entry)) 1 0) 1 9 (getD (now (words .entry)) 5 0) (getD (now (words .entry)) 6 0) 0 no-sorts (now (now (work .entry)))) (known-of (now (words .entry))) (getD (now (words .entry)) 7 0) (now (work .entry)) r (now (words .exit)) (now (work .exit)) ⌝ }
 {
-    let head = row[0];
-    let place = row[1];
-    *places = [head + 1, place + 1];
     let mut count = 0;
     loop {
-        let t = k[0];
-        let at = places[0];
+        let t = words[0];
+        let at = words[5];
         if ends_in(*work, t, 9 - count, at) {
-            let free = places[1];
-            *places = [behind(at, 1), free];
-            return type_named(library, text, work, k, places, row, sorts, count);
+            let free = words[6];
+            move_to(words, behind(at, 1), free);
+            return type_named(library, text, work, words, row, sorts, count);
         }
         if count == 9 {
             return 0;
         }
-        let sort = type_deep(library, text, work, k, places, row[3] - 1);
+        descend(words);
+        let sort = type_deep(library, text, work, words);
         if sort == 0 {
             return 0;
         }
+        ascend(words);
         sorts[count] = (sort - 1) as u32;
         count += 1;
     }
@@ -412,14 +433,12 @@ fn type_onward(
     library: &&[u8],
     text: &&[u8],
     work: &mut &mut [u32],
-    k: &[usize; 5],
-    places: &mut [usize; 2],
-    depth: usize,
+    words: &mut [usize; 8],
 ) -> usize
-    requires { ⌜ Room (now k) (now (now work)) × Words (now k) ⌝ }
-    ensures { λ r. ⌜ Reached (term-at (joint (now (now (library .entry))) (now (now (text .entry)))) (known-of (now (k .entry))) depth (getD (now (places .entry)) 0 0) (getD (now (places .entry)) 1 0) (now (now (work .entry)))) (now (work .entry)) r (now (places .exit)) (now (work .exit)) ⌝ }
+    requires { ⌜ Room (now words) (now (now work)) ⌝ }
+    ensures { λ r. ⌜ Reached (term-at (joint (now (now (library .entry))) (now (now (text .entry)))) (known-of (now (words .entry))) (getD (now (words .entry)) 7 0) (getD (now (words .entry)) 5 0) (getD (now (words .entry)) 6 0) (now (now (work .entry)))) (known-of (now (words .entry))) (getD (now (words .entry)) 7 0) (now (work .entry)) r (now (words .exit)) (now (work .exit)) ⌝ }
 {
-    type_deep(library, text, work, k, places, depth)
+    type_deep(library, text, work, words)
 }
 
 // The term behind the row. One with an operator in front may be there only if the row has some: all that a word tells of.
@@ -427,33 +446,32 @@ fn type_primary(
     library: &&[u8],
     text: &&[u8],
     work: &mut &mut [u32],
-    k: &[usize; 5],
-    places: &mut [usize; 2],
-    row: &[usize; 4],
+    words: &mut [usize; 8],
+    row: &[usize; 3],
     sorts: &mut [u32; 9],
 ) -> usize
-    requires { ⌜ Room (now k) (now (now work)) × Words (now k) × (now sorts ≡ no-sorts) × Ended (known-of (now k)) (now row) (now (now work)) ⌝ }
-    ensures { λ r. ⌜ Reached (term-at (joint (now (now (library .entry))) (now (now (text .entry)))) (known-of (now (k .entry))) (getD (now (row .entry)) 3 0) (getD (now (row .entry)) 0 0) (getD (now (row .entry)) 1 0) (now (now (work .entry)))) (now (work .entry)) r (now (places .exit)) (now (work .exit)) ⌝ }
+    requires { ⌜ Room (now words) (now (now work)) × (now sorts ≡ no-sorts) × Ended (known-of (now words)) (getD (now words) 7 0) (now row) (now (now work)) ⌝ }
+    ensures { λ r. ⌜ Reached (term-at (joint (now (now (library .entry))) (now (now (text .entry)))) (known-of (now (words .entry))) (getD (now (words .entry)) 7 0) (getD (now (row .entry)) 0 0) (getD (now (row .entry)) 1 0) (now (now (work .entry)))) (known-of (now (words .entry))) (getD (now (words .entry)) 7 0) (now (work .entry)) r (now (words .exit)) (now (work .exit)) ⌝ }
 {
-    let depth = row[3];
-    if depth == 0 {
+    if words[7] == 0 {
         return 0;
     }
-    let t = k[0];
+    let t = words[0];
     let i = row[0];
     let q = row[1];
     if i < t {
         if q < work.len() {
             let role = role_in(*work, t, i);
             if role == roles::ALONE {
-                return type_leaf(library, text, work, k, places, row, sorts);
+                return type_leaf(library, text, work, words, row, sorts);
             }
             if role == roles::HEAD {
-                return type_args(library, text, work, k, places, row, sorts);
+                move_to(words, i + 1, q + 1);
+                return type_args(library, text, work, words, row, sorts);
             }
             if 1 < row[2] {
-                *places = [i, q];
-                return type_onward(library, text, work, k, places, depth);
+                move_to(words, i, q);
+                return type_onward(library, text, work, words);
             }
             return 0;
         }
@@ -464,23 +482,19 @@ fn type_primary(
 
 // The term at the place, down to a depth; its nodes are written from the second place on. An operator stands before its first operand, so a loop
 // goes over a row of them and another one back: a level is a pair of brackets or a second operand. The sorts are lent to both, so that it has them once.
-fn type_deep(
-    library: &&[u8],
-    text: &&[u8],
-    work: &mut &mut [u32],
-    k: &[usize; 5],
-    places: &mut [usize; 2],
-    depth: usize,
-) -> usize
-    requires { ⌜ Room (now k) (now (now work)) × Words (now k) ⌝ }
-    ensures { λ r. ⌜ Reached (term-at (joint (now (now (library .entry))) (now (now (text .entry)))) (known-of (now (k .entry))) depth (getD (now (places .entry)) 0 0) (getD (now (places .entry)) 1 0) (now (now (work .entry)))) (now (work .entry)) r (now (places .exit)) (now (work .exit)) ⌝ }
+fn type_deep(library: &&[u8], text: &&[u8], work: &mut &mut [u32], words: &mut [usize; 8]) -> usize
+    requires { ⌜ Room (now words) (now (now work)) ⌝ }
+    ensures { λ r. ⌜ Reached (term-at (joint (now (now (library .entry))) (now (now (text .entry)))) (known-of (now (words .entry))) (getD (now (words .entry)) 7 0) (getD (now (words .entry)) 5 0) (getD (now (words .entry)) 6 0) (now (now (work .entry)))) (known-of (now (words .entry))) (getD (now (words .entry)) 7 0) (now (work .entry)) r (now (words .exit)) (now (work .exit)) ⌝ }
 {
-    let i = places[0];
-    let q = places[1];
-    let mut row = operators_from(*work, k, i, q, depth);
+    let i = words[5];
+    let q = words[6];
+    let mut row = operators_from(*work, words, i, q);
     let mut sorts = [0; 9];
-    let first = type_primary(library, text, work, k, places, &row, &mut sorts);
-    type_back(library, text, work, k, places, &mut row, &mut sorts, first)
+    let first = type_primary(library, text, work, words, &row, &mut sorts);
+    if first == 0 {
+        return 0;
+    }
+    type_back(library, text, work, words, &mut row, &mut sorts, first)
 }
 
 // The same for the slice itself, which is lent on by one reference. The borrow checker covers that where the slice is moved, so it is moved, and handed
@@ -489,16 +503,14 @@ fn type_lent<'a>(
     library: &[u8],
     text: &[u8],
     work: &'a mut [u32],
-    k: &[usize; 5],
-    places: &mut [usize; 2],
-    depth: usize,
+    words: &mut [usize; 8],
     sort: &mut usize,
 ) -> &'a mut [u32]
-    requires { ⌜ Room (now k) (now work) × Words (now k) ⌝ }
-    ensures { λ r. ⌜ Reached (term-at (joint (now (library .entry)) (now (text .entry))) (known-of (now (k .entry))) depth (getD (now (places .entry)) 0 0) (getD (now (places .entry)) 1 0) (now (work .entry))) (work .entry) (now (sort .exit)) (now (places .exit)) r ⌝ }
+    requires { ⌜ Room (now words) (now work) ⌝ }
+    ensures { λ r. ⌜ Reached (term-at (joint (now (library .entry)) (now (text .entry))) (known-of (now (words .entry))) (getD (now (words .entry)) 7 0) (getD (now (words .entry)) 5 0) (getD (now (words .entry)) 6 0) (now (work .entry))) (known-of (now (words .entry))) (getD (now (words .entry)) 7 0) (work .entry) (now (sort .exit)) (now (words .exit)) r ⌝ }
 {
     let mut lent = work;
-    *sort = type_deep(&library, &text, &mut lent, k, places, depth);
+    *sort = type_deep(&library, &text, &mut lent, words);
     let back = lent;
     back
 }
@@ -516,16 +528,15 @@ pub fn type_term(
     requires { ⌜ (k .tape ≤ length (now work)) × (k .count ≤ 65536) × (k .hidden ≤ 65536) ⌝ }
     ensures { λ r. ⌜ out r (now (work .exit)) ≡ term-at (joint (now (library .entry)) (now (text .entry))) k depth i q (now (work .entry)) ⌝ }
 {
-    let words = known_words(k);
-    let mut places = [i, q];
+    let mut words = known_words(k, i, q, depth);
     let mut sort: usize = 0;
-    let _back = type_lent(library, text, work, &words, &mut places, depth, &mut sort);
+    let _back = type_lent(library, text, work, &mut words, &mut sort);
     if sort == 0 {
         return Answer::Ill;
     }
     Answer::Sorted {
         sort: (sort - 1) as u32,
-        next: places[0],
-        free: places[1],
+        next: words[5],
+        free: words[6],
     }
 }

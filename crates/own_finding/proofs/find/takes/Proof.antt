@@ -43,12 +43,14 @@ takes-spec =
     let read = same .before .before .before in
     let turn = read .before in
     on (turn .before .loop .inv)
-    (sorts-on _ _ _ _ _ _ _ (turn .before .before .before .before .before .pre .2) (turn .loop-test .taken) (search needs) _ _ (search needs) (read .word-at .ensures) _ (same .same-sort .ensures) (c .if1 .taken)))  -- loop-again
+    (sorts-on _ _ _ _ _ _ _ (turn .before .before .before .before .before .pre .2) (turn .loop-test .taken) (search needs) _ _ (search needs)
+    (read .word-at .ensures) _ (same .same-sort .ensures) (c .if1 .taken)))  -- loop-again
     (λ c.
     let same = c .before in
     let read = same .before .before .before in
     let turn = read .before in
     done (turn .before .loop .inv)
-    (sorts-off _ _ _ _ _ _ _ (turn .before .before .before .before .before .pre .2) (turn .loop-test .taken) (search needs) _ _ (search needs) (read .word-at .ensures) _ (same .same-sort .ensures) (c .if1 .left)))  -- returns
+    (sorts-off _ _ _ _ _ _ _ (turn .before .before .before .before .before .pre .2) (turn .loop-test .taken) (search needs) _ _ (search needs)
+    (read .word-at .ensures) _ (same .same-sort .ensures) (c .if1 .left)))  -- returns
     (λ c. search (done, sorts-all, needs))  -- returns-2
     )

@@ -8,9 +8,9 @@ pub known-words-spec : {M : Type 1} → statement M
 known-words-spec =
     tie.close
     (tie.spec
-    (λ c. search deeper)  -- cast-t7
-    (λ c. search deeper)  -- cast-t8
-    (λ c. search deeper)  -- cast-t9
     (λ c. search deeper)  -- cast-t10
+    (λ c. search deeper)  -- cast-t11
+    (λ c. search deeper)  -- cast-t12
+    (λ c. search deeper)  -- cast-t13
     (λ c. search deeper)  -- returns
     )

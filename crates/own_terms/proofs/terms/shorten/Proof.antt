@@ -11,7 +11,5 @@ shorten-spec =
     (λ c. search onward)  -- element-copy-out-i
     (λ c. search onward)  -- element-copy-out-q
     (λ c. search onward)  -- element-copy-out-word
-    (λ c. search onward)  -- element-copy-out-depth
-    (λ c. search onward)  -- add-t15
     (λ c. search onward)  -- returns
     )

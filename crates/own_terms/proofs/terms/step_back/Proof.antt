@@ -11,8 +11,7 @@ step-back-spec =
     (λ c. search onward)  -- element-copy-out-i
     (λ c. search onward)  -- element-copy-out-q
     (λ c. search onward)  -- element-copy-out-word
-    (λ c. search onward)  -- element-copy-out-depth
-    (λ c. search onward)  -- sub-t8
-    (λ c. search onward)  -- sub-t15
+    (λ c. search onward)  -- sub-t7
+    (λ c. search onward)  -- sub-t12
     (λ c. search onward)  -- returns
     )

@@ -11,6 +11,7 @@ tell-spec =
     (λ c. search deeper)  -- enum-known-a
     (λ c. search deeper)  -- enum-told
     (λ c. search deeper)  -- returns
+    (λ c κs. search deeper)  -- move-to-requires
     (λ c. search deeper)  -- cast-result
     (λ c. search deeper)  -- add-result
     (λ c. search deeper)  -- returns-2

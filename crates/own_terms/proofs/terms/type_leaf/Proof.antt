@@ -10,8 +10,9 @@ type-leaf-spec =
     (tie.spec
     (λ c. search deeper)  -- element-copy-out-i
     (λ c. search deeper)  -- element-copy-out-q
-    (λ c. search deeper)  -- add-t12
-    (λ c. search deeper)  -- add-t15
+    (λ c. search deeper)  -- add-move-to
+    (λ c. search deeper)  -- add-move-to-2
+    (λ c κs. search deeper)  -- move-to-requires
     (λ c κs. search deeper)  -- type-item-requires
     (λ c. search deeper)  -- returns
     )

@@ -14,14 +14,14 @@ type-term-spec =
     (λ c.
     let back = c .before .before in
     let called = back .before in
-    whole-ill _ _ _ _ _ _ _ _ _ _ _ (back .work .given .1 .0) (called .before .before .before .before .before .known-words .ensures) (called .type-lent .ensures) (c .if1 .taken))  -- returns
-    (λ c. search deeper)  -- sub-t20
-    (λ c. search deeper)  -- cast-t21
-    (λ c. search deeper)  -- array-read-t24
-    (λ c. search deeper)  -- array-read-t27
+    whole-ill _ _ _ _ _ _ _ _ _ _ _ (back .work .given .1 .0) (called .before .before .before .before .known-words .ensures) (called .type-lent .ensures) (c .if1 .taken))  -- returns
+    (λ c. search deeper)  -- sub-t18
+    (λ c. search deeper)  -- cast-t19
+    (λ c. search deeper)  -- array-read-t22
+    (λ c. search deeper)  -- array-read-t25
     (λ c. search deeper)  -- same-length-2
     (λ c.
     let back = c .before .before in
     let called = back .before in
-    whole-sorted _ _ _ _ _ _ _ _ _ _ _ (back .work .given .1 .0) (called .before .before .before .before .before .known-words .ensures) (called .type-lent .ensures) (c .if1 .left))  -- returns-2
+    whole-sorted _ _ _ _ _ _ _ _ _ _ _ (back .work .given .1 .0) (called .before .before .before .before .known-words .ensures) (called .type-lent .ensures) (c .if1 .left))  -- returns-2
     )

@@ -1,0 +1,15 @@
+-- `own_terms::terms::ascend` meets its contract.
+-- Assumes nothing.
+use Rattle.own_terms.proofs.Deep.{deeper}
+use Rattle.own_terms.proofs.terms.ascend.Statement.{statement}
+use Rattle.own_terms.proofs.terms.ascend.Tie as tie
+
+pub ascend-spec : {M : Type 1} → statement M
+ascend-spec =
+    tie.close
+    (tie.spec
+    (λ c. search deeper)  -- element-copy-out-words
+    (λ c. search deeper)  -- add-words
+    (λ c. search deeper)  -- element-write-words
+    (λ c. search deeper)  -- returns
+    )
