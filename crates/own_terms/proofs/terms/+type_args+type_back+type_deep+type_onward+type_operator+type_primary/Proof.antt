@@ -6,7 +6,10 @@ use mathlib.Core.Path.{refl}
 use borrow.Author.Needs.{needs}
 use Rattle.text_names.specs.Joint.{joint}
 use Rattle.own_terms.specs.Typing.{operators-in}
-use Rattle.own_terms.proofs.Deep.{Deep, Returning, deep-tape, deep-fits, deep-still, deep-few, deep-nine, deep-done, deep-many, deep-whole, deep-down, deep-falls, deep-ill, deep-long, deep-rises, deep-again, operator-infix, back-open, back-entry, back-place, back-less, back-room, back-some, back-fits, back-ill, back-long, back-rises, back-fewer, back-again, back-end, row-less, row-room, row-ended, row-back-less, row-backed, deep-sunk, deep-row, reached-room, reached-fits, room-at, read-room, at-less, at-some, onward-less, deeper}
+use Rattle.own_terms.proofs.Words.{reached-room, reached-fits, room-at, at-less, at-some}
+use Rattle.own_terms.proofs.Arguments.{Deep, deep-tape, deep-fits, deep-still, deep-few, deep-nine, deep-done, deep-many, deep-whole, deep-down, deep-falls, deep-ill, deep-long, deep-rises, deep-again}
+use Rattle.own_terms.proofs.Row.{Returning, operator-infix, back-open, back-entry, back-place, back-less, back-room, back-some, back-fits, back-ill, back-long, back-rises, back-fewer, back-again, back-end, row-less, row-room, row-ended, row-back-less, row-backed, onward-less}
+use Rattle.own_terms.proofs.Deep.{deep-sunk, deep-row, read-room, deeper}
 use Prim.Native.Nat.{ℕ, _+_, _-_, _*_, _<_}
 use denote.Ref.{now}
 use lib.ListN.{getD}

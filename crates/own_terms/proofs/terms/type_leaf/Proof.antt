@@ -1,6 +1,6 @@
 -- `own_terms::terms::type_leaf` meets its contract.
 -- Assumes nothing.
-use Rattle.own_terms.proofs.Deep.{deeper}
+use Rattle.own_terms.proofs.Arguments.{argued}
 use Rattle.own_terms.proofs.terms.type_leaf.Statement.{statement}
 use Rattle.own_terms.proofs.terms.type_leaf.Tie as tie
 
@@ -8,11 +8,11 @@ pub type-leaf-spec : {M : Type 1} → statement M
 type-leaf-spec =
     tie.close
     (tie.spec
-    (λ c. search deeper)  -- element-copy-out-i
-    (λ c. search deeper)  -- element-copy-out-q
-    (λ c. search deeper)  -- add-move-to
-    (λ c. search deeper)  -- add-move-to-2
-    (λ c κs. search deeper)  -- move-to-requires
-    (λ c κs. search deeper)  -- type-item-requires
-    (λ c. search deeper)  -- returns
+    (λ c. search argued)  -- element-copy-out-i
+    (λ c. search argued)  -- element-copy-out-q
+    (λ c. search argued)  -- add-move-to
+    (λ c. search argued)  -- add-move-to-2
+    (λ c κs. search argued)  -- move-to-requires
+    (λ c κs. search argued)  -- type-item-requires
+    (λ c. search argued)  -- returns
     )
