@@ -4,6 +4,7 @@
 set -euo pipefail
 cd "$(dirname "$0")/.."
 . tools/kit.sh
+. tools/room.sh
 rt check asf_c parts_c ask_c | tail -n 1
 # the two small ones are compiled beside the large one, over the same proofs, in a folder that has logs of its own
 beside=$(mktemp -d)

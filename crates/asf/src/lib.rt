@@ -11,6 +11,7 @@ use form::Culprit;
 use form_layout::tape_end;
 pub use memory::memory_size;
 use module_heads::find_heads;
+use modules::HEADS;
 use modules::Heads;
 use modules::find_asked;
 use modules::module_count;
@@ -90,7 +91,7 @@ fn asked_sought(asked: &[u8], library: &[u8], text: &[u8], work: &mut [u32], t: 
     requires { ⌜ Spoken (read-texts (two-texts (now library) (now text))) (joint (now library) (now text)) t (now work) ⌝ }
     ensures { λ r. ⌜ SoughtAs (now (asked .entry)) (read-texts (two-texts (now (library .entry)) (now (text .entry)))) (joint (now (library .entry)) (now (text .entry))) (now (work .exit)) r ⌝ }
 {
-    let mut h = [0; 66];
+    let mut h = [0; HEADS];
     find_heads(&work[0..t], t as u32, &mut h);
     let k = find_asked(library, text, &work[0..t], &h, asked);
     let count = module_count(&h);

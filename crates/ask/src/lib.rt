@@ -15,6 +15,7 @@ use form_layout::tape_end;
 use meaning::numbers;
 use memory::memory_size;
 use module_heads::find_heads;
+use modules::HEADS;
 use modules::Heads;
 use modules::find_asked;
 use modules::module_count;
@@ -213,8 +214,8 @@ fn decide_read(
     requires { ⌜ Spoken (read-texts (two-texts (now behind) (now other))) (joint (now behind) (now other)) (now more) ⌝ }
     ensures { λ r. ⌜ Tells r (Meaning.decide (now (asked .entry)) (two-texts (now (library .entry)) (now (text .entry))) (two-texts (now (behind .entry)) (now (other .entry)))) ⌝ }
 {
-    let mut h = [0; 66];
-    let mut g = [0; 66];
+    let mut h = [0; HEADS];
+    let mut g = [0; HEADS];
     find_heads(tape, tape.len() as u32, &mut h);
     find_heads(more, more.len() as u32, &mut g);
     let k = find_asked(library, text, tape, &h, asked);

@@ -5,6 +5,7 @@ use answer::name_in;
 use form_layout::tape_end;
 use memory::memory_size;
 use module_heads::find_heads;
+use modules::HEADS;
 use modules::module_count;
 use modules::name_of_module;
 use read_both::Both;
@@ -25,7 +26,7 @@ fn name_read(library: &[u8], text: &[u8], tape: &[u32], k: u32) -> Name
     requires { ⌜ Spoken (read-texts (two-texts (now library) (now text))) (joint (now library) (now text)) (now tape) ⌝ }
     ensures { λ r. ⌜ r ≡ held (module-called (two-texts (now (library .entry)) (now (text .entry))) k) ⌝ }
 {
-    let mut h = [0; 66];
+    let mut h = [0; HEADS];
     find_heads(tape, tape.len() as u32, &mut h);
     let count = module_count(&h);
     if count <= k {

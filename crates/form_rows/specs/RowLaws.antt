@@ -57,6 +57,10 @@ length-words w b (suc c) = ap suc (length-words w (suc b) c)
 
 -- ---- the sorts of a row
 
+pub nine-sorts : (w : List ℕ) (b : ℕ) → length (row-at w b .sorts) ≡ 9
+unfolding row-at
+nine-sorts w b = length-words w (b + 6) 9
+
 -- nine of them are all
 pub take-nine : (n : ℕ) (xs : List ℕ) → length xs ≡ 9 → take (min n 9) xs ≡ take n xs
 take-nine n xs l = go (leb n 9) refl

@@ -1,5 +1,6 @@
 // The heads of a tape: where its modules begin, in text order.
 use form_rows::entries::role_at;
+use modules::COUNT;
 use modules::Heads;
 use tape::roles;
 ghost use mathlib.Core.Path.{_≡_};
@@ -27,7 +28,7 @@ pub fn find_heads(tape: &[u32], n: u32, h: &mut Heads)
                 j += 1;
             } else {
                 h[64] = n;
-                h[65] = 64;
+                h[COUNT] = 64;
                 return;
             }
         } else {
@@ -35,5 +36,5 @@ pub fn find_heads(tape: &[u32], n: u32, h: &mut Heads)
         }
     }
     h[count as usize] = n;
-    h[65] = count;
+    h[COUNT] = count;
 }

@@ -16,7 +16,12 @@ ghost use Rattle.modules.specs.Modules.{names-module, declared, with-nam
 
 // The places on the tape where the modules begin, in text order, and behind them where the last one ends; the last word is how many modules there are.
 // They are lent, so that no call has a copy on the stack.
-pub type Heads = [u32; 66];
+pub const HEADS: usize = 66;
+
+pub type Heads = [u32; HEADS];
+
+// Where that number stands.
+pub const COUNT: usize = 65;
 
 // Is the name at an entry with the role that of a module which an import or a binding uses?
 pub fn names_module(role: u32) -> bool
@@ -32,7 +37,7 @@ pub fn names_module(role: u32) -> bool
 pub fn place_at(h: &Heads, k: usize) -> u32
     ensures { λ r. ⌜ r ≡ getD ((heads-in (now (h .entry))) .places) k 0 ⌝ }
 {
-    if k < 65 {
+    if k < COUNT {
         return h[k];
     }
     0
@@ -42,7 +47,7 @@ pub fn place_at(h: &Heads, k: usize) -> u32
 pub fn module_count(h: &Heads) -> u32
     ensures { λ r. ⌜ r ≡ heads-in (now (h .entry)) .count ⌝ }
 {
-    h[65]
+    h[COUNT]
 }
 
 // The word of the name of module k.

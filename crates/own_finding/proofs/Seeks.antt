@@ -20,7 +20,7 @@ use Rattle.form_rows.specs.Rows.{sort-of, type-of, shape-of, item-of, words-fro
 use Rattle.form_walks.specs.Shapes.{shape-function, by-kind}
 use Rattle.form_walks.specs.Rows.{find-start, find-end, find-again, find-here}
 use Rattle.own_finding.specs.Known.{variable-called, function-called}
-use Rattle.form_rows.specs.RowLaws.{length-words, take-nine, agree-lengths}
+use Rattle.form_rows.specs.RowLaws.{nine-sorts, take-nine, agree-lengths}
 use Rattle.form_comparing.proofs.Alike.{AgreeFrom, agree-on, agree-off, agree-all}
 
 -- ---- the sorts of one row: those before j are the first of a
@@ -30,10 +30,6 @@ unfolding words-from
 word-read w b zero i h = absurd (omega arith)
 word-read w b (suc c) zero h = rw (add-zero b)
 word-read w b (suc c) (suc i) h = let e : b + suc i ≡ suc b + i = omega arith in rw e (word-read w (suc b) c i (omega arith))
-
-nine-sorts : (w : List ℕ) (p : ℕ) → length (row-at w p .sorts) ≡ 9
-unfolding row-at
-nine-sorts w p = length-words w (p + 6) 9
 
 module _ (text tape w a : List ℕ) (p n : ℕ) where
   -- what is left to compare

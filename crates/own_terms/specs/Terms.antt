@@ -19,7 +19,7 @@ use Rattle.meaning.specs.Syntax.{Term, node, Terms, no-terms, _then_}
 use Rattle.meaning.specs.Origins.{Sort, same-sort, Shape, function-shape, Item}
 use Rattle.meaning.specs.Normal.{is-called}
 use Rattle.meaning.specs.Typing.{Typed, TypedList, found-with, no-arguments, takes, is-variable, joined-typed, applied, alone, with-arguments, typed, typed-list}
-use Rattle.form_rows.specs.RowLaws.{agree-lengths}
+use Rattle.form_rows.specs.RowLaws.{nine-sorts, agree-lengths}
 use Rattle.laws.specs.EveryLaws.{every-append}
 use Rattle.tape.specs.Tape.{Entry, entry, alone-role, close-role, flat-node}
 use Rattle.tape.specs.Tape as on-tape
@@ -42,10 +42,6 @@ use Rattle.own_terms.specs.Meant.{sets-append, sets-head, known-item, no
 and-second : (a b : Bool) → (a && b) ≡ true → b ≡ true
 and-second true b h = h
 and-second false b h = absurd (false≢true h)
-
-nine-sorts : (w : List ℕ) (b : ℕ) → length (row-at w b .sorts) ≡ 9
-unfolding row-at words-from
-nine-sorts w b = refl
 
 few : (text tape : List ℕ) (n : ℕ) (sorts : List ℕ) (ss : List Sort) → length sorts ≡ 9 → 9 < length ss → takes ss (function-shape (type-of text tape n sorts)) ≡ false
 unfolding takes type-of

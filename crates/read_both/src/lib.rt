@@ -1,5 +1,6 @@
 // Two texts on one tape: what the library says, its places moved by the length of the customer's text, and behind it what that text says.
 use module_heads::find_heads;
+use modules::HEADS;
 use modules::Heads;
 use modules::module_count;
 use modules::name_of_module;
@@ -52,7 +53,7 @@ fn read_customer(library: &[u8], text: &[u8], tape: &mut [u32], n: usize) -> Bot
     requires { ⌜ Stands (now library) (now text) n (now tape) ⌝ }
     ensures { λ r. ⌜ Told (now (library .entry)) (now (text .entry)) (now (tape .exit)) r ⌝ }
 {
-    let mut h = [0; 66];
+    let mut h = [0; HEADS];
     find_heads(tape, n as u32, &mut h);
     let count = module_count(&h) as usize;
     head_words(tape, &mut h);
