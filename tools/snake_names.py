@@ -69,7 +69,7 @@ def renamed(text, names, comments):
             return t
         if t[0] == "`":
             return re.sub(r"[^\s(){}\[\],;.`]+", lambda m: spelled(m.group()) if m.group() in names else m.group(), t)
-        return spelled(t) if t in names else t
+        return spelled(t) if t.strip("◌") in names else t  # `◌` stands where an operator's arguments go
 
     lines = []
     for line in text.split("\n"):

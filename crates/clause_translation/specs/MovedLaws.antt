@@ -6,7 +6,7 @@ use Rattle.std.proofs.Common.{arith}
 use borrow.Author.Tests.{eq-eqb, ne_eqb}
 use Rattle.meaning.specs.Lists.{pick}
 use Rattle.meaning.specs.Names.{Name}
-use Rattle.meaning.specs.Origins.{Sort, visible_sort, hidden_sort, FunctionType, Head, visible_head, hidden_head, ResolvedTerm, var, app, ResolvedTerms, none_left, ◌and-then◌, ResolvedSides, ResolvedEquation, Shape, sort_shape, function_shape, variable_shape, Item}
+use Rattle.meaning.specs.Origins.{Sort, visible_sort, hidden_sort, FunctionType, Head, visible_head, hidden_head, ResolvedTerm, var, app, ResolvedTerms, none_left, ◌and_then◌, ResolvedSides, ResolvedEquation, Shape, sort_shape, function_shape, variable_shape, Item}
 use Rattle.meaning.specs.Normal.{move_sort, move_type, move_shape, move_name, move_item, move_hidden_item, move_head, move_term, move_terms, move_sides, move_equation}
 use Rattle.meaning.specs.Clauses.{renaming, is_formal_sort, new_sort, new_function}
 use Rattle.text_names.specs.Word.{name_of}
@@ -65,7 +65,7 @@ module _ (σ : Name → Name) (φ : Name → FunctionType → Name) (s : (a : Na
 
     terms_kept : (xs : ResolvedTerms) → move_terms σ φ xs ≡ xs
     terms_kept none_left = refl
-    terms_kept (x and_then xs) = ap₂ ◌and-then◌ (term_kept x) (terms_kept xs)
+    terms_kept (x and_then xs) = ap₂ ◌and_then◌ (term_kept x) (terms_kept xs)
 
   sides_kept : (x : ResolvedSides) → move_sides σ φ x ≡ x
   unfolding move_sides

@@ -3,7 +3,7 @@ use Rattle.std.specs.Prelude.{◌≡◌, refl, Bool, true, false, ◌&&◌, List
 use Rattle.std.proofs.Common.{sym, ap, ap₂, ◌∙◌, append_assoc}
 use Rattle.std.proofs.Math.Dec.{eqb-zero-suc, eqb-suc-zero, eqb-suc-suc}
 use Rattle.meaning.specs.Lists.{pick, agree, each}
-use Rattle.meaning.specs.Origins.{same_origin, same_sort, same_head, ResolvedTerm, var, app, ResolvedTerms, none_left, ◌and-then◌, same_term, same_terms, ResolvedSides, same_sides, ResolvedEquation, one_equation}
+use Rattle.meaning.specs.Origins.{same_origin, same_sort, same_head, ResolvedTerm, var, app, ResolvedTerms, none_left, ◌and_then◌, same_term, same_terms, ResolvedSides, same_sides, ResolvedEquation, one_equation}
 use Rattle.form.specs.Forms.{Node, function_node, variable_node, how_many, flat_term, flat_terms, flat_sides, flat_equation}
 
 -- a test of two nodes

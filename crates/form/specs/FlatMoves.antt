@@ -6,7 +6,7 @@ use Prim.Native.Nat.{ℕ, zero, suc, ◌+◌}
 use mathlib.Core.List.{List, [], ◌∷◌, ◌++◌, map}
 use Rattle.meaning.specs.Lists.{each, sum}
 use Rattle.meaning.specs.Names.{Name}
-use Rattle.meaning.specs.Origins.{FunctionType, Head, ResolvedTerm, var, app, ResolvedTerms, none_left, ◌and-then◌, ResolvedSides, ResolvedEquation}
+use Rattle.meaning.specs.Origins.{FunctionType, Head, ResolvedTerm, var, app, ResolvedTerms, none_left, ◌and_then◌, ResolvedSides, ResolvedEquation}
 use Rattle.meaning.specs.Normal.{move_sort, move_head, move_term, move_terms, move_sides, move_equation}
 use Rattle.meaning.specs.Checks.{term_nodes, terms_nodes, sides_nodes, equation_nodes}
 use Rattle.form.specs.Forms.{Node, function_node, variable_node, how_many, flat_term, flat_terms, flat_sides, flat_equation}

@@ -10,7 +10,7 @@ use Rattle.meaning.specs.Laws.{by_cases}
 use Rattle.meaning.specs.Lists.{first, or_else}
 use Rattle.meaning.specs.Names.{Name}
 use Rattle.meaning.specs.Syntax.{Term, node, Terms, no_terms, ◌then◌, Sides, Equation, conditions_of}
-use Rattle.meaning.specs.Origins.{Sort, same_sort, FunctionType, var, app, ◌and-then◌, ResolvedSides, ResolvedEquation, Shape, sort_shape, function_shape, variable_shape, Item}
+use Rattle.meaning.specs.Origins.{Sort, same_sort, FunctionType, var, app, ◌and_then◌, ResolvedSides, ResolvedEquation, Shape, sort_shape, function_shape, variable_shape, Item}
 use Rattle.meaning.specs.Normal.{is_called}
 use Rattle.meaning.specs.Typing.{Typed, TypedList, head_of, of_shape, found_with, no_arguments, takes, is_variable, joined_typed, equated, joined_sides, made_equation, applied, alone, with_arguments, typed, typed_list, typed_sides, typed_conditions, typed_equations}
 use Rattle.meaning.specs.OrderLaws.{Every}

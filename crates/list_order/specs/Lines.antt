@@ -9,7 +9,7 @@ use Rattle.std.proofs.Math.ListN.{length-append}
 use Rattle.meaning.specs.Lists.{pick, each}
 use Rattle.meaning.specs.Names.{bytes}
 use Rattle.meaning.specs.Numbers.{node_limit}
-use Rattle.meaning.specs.Origins.{ResolvedTerm, var, app, ResolvedTerms, none_left, ◌and-then◌, ResolvedSides, ResolvedEquation, Shape, sort_shape, function_shape, variable_shape, Item}
+use Rattle.meaning.specs.Origins.{ResolvedTerm, var, app, ResolvedTerms, none_left, ◌and_then◌, ResolvedSides, ResolvedEquation, Shape, sort_shape, function_shape, variable_shape, Item}
 use Rattle.meaning.specs.Written.{between_marks, argument_text, head_text, variable_text, term_text, term_texts, sides_text, conditions_text, equation_text}
 use Rattle.meaning.specs.Checks.{equation_nodes}
 use Rattle.meaning.specs.OrderLaws.{Every}

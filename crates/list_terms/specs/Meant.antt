@@ -11,7 +11,7 @@ use Rattle.std.proofs.Math.ListN.{length, get_or, length-append}
 use Rattle.std.proofs.lemmas.List.{length-map}
 use Rattle.meaning.specs.Lists.{pick, each}
 use Rattle.meaning.specs.Names.{bytes}
-use Rattle.meaning.specs.Origins.{Head, ResolvedTerm, var, app, ResolvedTerms, none_left, ◌and-then◌, ResolvedSides, ResolvedEquation, Item}
+use Rattle.meaning.specs.Origins.{Head, ResolvedTerm, var, app, ResolvedTerms, none_left, ◌and_then◌, ResolvedSides, ResolvedEquation, Item}
 use Rattle.meaning.specs.Written.{between_marks, argument_text, head_text, variable_text, term_text, term_texts, sides_text, conditions_text, equation_text}
 use Rattle.form.specs.declared.Form.{Form}
 use Rattle.form.specs.declared.EquationRow.{EquationRow}

@@ -4,7 +4,7 @@ use Rattle.std.proofs.Math.Option.{Option, none, some}
 use Rattle.meaning.specs.Lists.{pick, any, sum, agree}
 use Rattle.meaning.specs.Names.{Name, same, by_name}
 use Rattle.meaning.specs.Numbers.{parameter_room, item_room, equation_room, item_total, equation_total, node_total, clashing, overloading, bad_parameter, no_room}
-use Rattle.meaning.specs.Origins.{Section, export_section, hidden_section, parameter_section, same_origin, same_sort, ResolvedTerm, var, app, ResolvedTerms, none_left, ◌and-then◌, ResolvedSides, ResolvedEquation, Shape, sort_shape, function_shape, variable_shape, same_shape, is_sort, is_function, Item, in_parameter}
+use Rattle.meaning.specs.Origins.{Section, export_section, hidden_section, parameter_section, same_origin, same_sort, ResolvedTerm, var, app, ResolvedTerms, none_left, ◌and_then◌, ResolvedSides, ResolvedEquation, Shape, sort_shape, function_shape, variable_shape, same_shape, is_sort, is_function, Item, in_parameter}
 use Rattle.meaning.specs.Normal.{Slot, Visible, Normal}
 
 -- ---- outcomes

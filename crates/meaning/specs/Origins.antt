@@ -89,9 +89,9 @@ mutual
 
   pub data ResolvedTerms : Type 0 where
     none_left : ResolvedTerms
-    ◌and-then◌ : ResolvedTerm → ResolvedTerms → ResolvedTerms
+    ◌and_then◌ : ResolvedTerm → ResolvedTerms → ResolvedTerms
 
-infixr 40 ◌and-then◌
+infixr 40 ◌and_then◌
 unfoldable mutual
   pub same_term : ResolvedTerm → ResolvedTerm → Bool
   same_term (var o s) (var p t) = same_origin o p && same_sort s t

@@ -2,7 +2,7 @@
 use Rattle.std.specs.Prelude.{ℕ, zero, suc, ◌+◌, ◌/◌, ◌%◌, Bool, ◌&&◌, List, [], ◌∷◌, ◌++◌, map, eqb, leb, ltb}
 use Rattle.meaning.specs.Lists.{pick, before, sorted}
 use Rattle.meaning.specs.Names.{bytes, same, bytes_not_after, not_after, by_name, by_bytes, by_two}
-use Rattle.meaning.specs.Origins.{Section, export_section, hidden_section, parameter_section, Declared, declared_sort, declared_function, declared_variable, Origin, same_origin, Sort, visible_sort, hidden_sort, FunctionType, Head, visible_head, hidden_head, ResolvedTerm, var, app, ResolvedTerms, none_left, ◌and-then◌, ResolvedSides, ResolvedEquation, Shape, sort_shape, function_shape, variable_shape, same_shape, Item}
+use Rattle.meaning.specs.Origins.{Section, export_section, hidden_section, parameter_section, Declared, declared_sort, declared_function, declared_variable, Origin, same_origin, Sort, visible_sort, hidden_sort, FunctionType, Head, visible_head, hidden_head, ResolvedTerm, var, app, ResolvedTerms, none_left, ◌and_then◌, ResolvedSides, ResolvedEquation, Shape, sort_shape, function_shape, variable_shape, same_shape, Item}
 use Rattle.meaning.specs.Normal.{Slot, Visible, Hidden, Normal, sorts_among}
 
 -- ---- numbers

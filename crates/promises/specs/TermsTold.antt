@@ -10,7 +10,7 @@ use mathlib.Core.List.{List, [], ◌∷◌, ◌++◌, map, append_assoc, append-
 use Rattle.meaning.specs.Lists.{pick, before, agree}
 use Rattle.meaning.specs.Names.{bytes, byte, Name, same}
 use Rattle.meaning.specs.Tokens.{is_in, is_word}
-use Rattle.meaning.specs.Origins.{Origin, same_origin, Sort, same_sort, FunctionType, Head, visible_head, hidden_head, ResolvedTerm, var, app, ResolvedTerms, none_left, ◌and-then◌, ResolvedSides, ResolvedEquation, Shape, function_shape, variable_shape, same_shape, Item}
+use Rattle.meaning.specs.Origins.{Origin, same_origin, Sort, same_sort, FunctionType, Head, visible_head, hidden_head, ResolvedTerm, var, app, ResolvedTerms, none_left, ◌and_then◌, ResolvedSides, ResolvedEquation, Shape, function_shape, variable_shape, same_shape, Item}
 use Rattle.meaning.specs.Written.{numbered, between_marks, argument_text, head_text, variable_text, term_text, term_texts, sides_text, conditions_text, equation_text}
 use Rattle.meaning.specs.Normal.{Visible}
 use Rattle.meaning.specs.Checks.{fine, other_output, overloaded, consistent}
@@ -220,7 +220,7 @@ module _ (visible hidden : List Item) (plain : Every (λ i. Plain i.name) visibl
         told_term x y (later_text hidden xs rest) (later_text hidden ys rest') d.0 d'.0 (later_closed hidden xs rest)
         (later_closed hidden ys rest') (rest_of e) in
         let b = told_later xs ys rest rest' d.1 d'.1 a.1 in
-        (ap₂ ◌and-then◌ a.0 b.0, b.1)
+        (ap₂ ◌and_then◌ a.0 b.0, b.1)
 
   -- ---- equations
 

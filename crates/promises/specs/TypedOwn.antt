@@ -6,7 +6,7 @@ use Rattle.std.proofs.Common.{◌∙◌, inl, inr}
 use mathlib.Core.List.{List, [], ◌∷◌, map, Memᴰ}
 use Rattle.meaning.specs.Names.{bytes, byte}
 use Rattle.meaning.specs.Syntax.{Equation}
-use Rattle.meaning.specs.Origins.{Section, export_section, hidden_section, parameter_section, Sort, FunctionType, Head, visible_head, hidden_head, ResolvedTerm, var, app, ResolvedTerms, none_left, ◌and-then◌, ResolvedSides, ResolvedEquation, function_shape, variable_shape, Item}
+use Rattle.meaning.specs.Origins.{Section, export_section, hidden_section, parameter_section, Sort, FunctionType, Head, visible_head, hidden_head, ResolvedTerm, var, app, ResolvedTerms, none_left, ◌and_then◌, ResolvedSides, ResolvedEquation, function_shape, variable_shape, Item}
 use Rattle.meaning.specs.Normal.{Slot}
 use Rattle.meaning.specs.Typing.{Typed, TypedList, head_of, no_arguments, typed_equations}
 use Rattle.meaning.specs.Written.{shape_rank, argument_text, head_text, variable_text, term_text, term_texts, sides_text, conditions_text, equation_text, between_marks}

@@ -6,7 +6,7 @@ use Rattle.std.proofs.Common.{◌∙◌}
 use mathlib.Core.List.{List, [], ◌∷◌, map, Memᴰ}
 use Rattle.meaning.specs.Lists.{union}
 use Rattle.meaning.specs.Names.{Name}
-use Rattle.meaning.specs.Origins.{Origin, Sort, FunctionType, Head, visible_head, hidden_head, ResolvedTerm, var, app, ResolvedTerms, none_left, ◌and-then◌, ResolvedSides, ResolvedEquation, Shape, function_shape, variable_shape, Item, one_item, one_equation}
+use Rattle.meaning.specs.Origins.{Origin, Sort, FunctionType, Head, visible_head, hidden_head, ResolvedTerm, var, app, ResolvedTerms, none_left, ◌and_then◌, ResolvedSides, ResolvedEquation, Shape, function_shape, variable_shape, Item, one_item, one_equation}
 use Rattle.meaning.specs.Normal.{Normal, unite_visible, unite_hidden, unite, move_sort, move_type, move_shape, move_name, move_item, move_hidden_item, move_head, move_term, move_terms, move_sides, move_equation, move_visible, move_hidden, move}
 use Rattle.meaning.specs.Written.{in_order}
 use Rattle.meaning.specs.OrderLaws.{Every, rearranged_every, rearranged_member}

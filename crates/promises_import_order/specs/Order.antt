@@ -7,7 +7,7 @@ use Rattle.std.proofs.Common.{◌∙◌, inl, inr}
 use mathlib.Core.List.{List, [], ◌∷◌, map, Memᴰ}
 use Rattle.meaning.specs.Names.{Name, same, member}
 use Rattle.meaning.specs.Syntax.{Function, Signature, Pair, Clause, renamed_by, bound_by, Import, Term, node, Terms, no_terms, ◌then◌, Sides, Equation, Module, variables_of}
-use Rattle.meaning.specs.Origins.{Declared, declared_sort, declared_function, declared_variable, Origin, Sort, visible_sort, hidden_sort, FunctionType, Head, visible_head, hidden_head, ResolvedTerm, var, app, ResolvedTerms, none_left, ◌and-then◌, ResolvedSides, ResolvedEquation, Shape, sort_shape, function_shape, variable_shape, Item}
+use Rattle.meaning.specs.Origins.{Declared, declared_sort, declared_function, declared_variable, Origin, Sort, visible_sort, hidden_sort, FunctionType, Head, visible_head, hidden_head, ResolvedTerm, var, app, ResolvedTerms, none_left, ◌and_then◌, ResolvedSides, ResolvedEquation, Shape, sort_shape, function_shape, variable_shape, Item}
 use Rattle.meaning.specs.Normal.{Normal, empty}
 use Rattle.meaning.specs.Clauses.{may_name}
 use Rattle.meaning.specs.OrderLaws.{Rearranged, Every}
@@ -140,7 +140,7 @@ mutual
 
   terms_same : (ts : ResolvedTerms) → re_terms as_it_is ts ≡ ts
   terms_same none_left = refl
-  terms_same (x and_then xs) = ap₂ ◌and-then◌ (term_same x) (terms_same xs)
+  terms_same (x and_then xs) = ap₂ ◌and_then◌ (term_same x) (terms_same xs)
 
 sides_same : (e : ResolvedSides) → re_sides as_it_is e ≡ e
 unfolding re_sides

@@ -14,7 +14,7 @@ use Rattle.meaning.specs.Lists.{pick, keep, any, sum, union, first_bad}
 use Rattle.meaning.specs.Names.{Name, same, not_after, member, least, lesser}
 use Rattle.meaning.specs.Numbers.{formal_unpaired}
 use Rattle.meaning.specs.Syntax.{Pair}
-use Rattle.meaning.specs.Origins.{Origin, Sort, visible_sort, hidden_sort, FunctionType, ResolvedTerm, var, app, ResolvedTerms, none_left, ◌and-then◌, ResolvedSides, ResolvedEquation, Shape, sort_shape, function_shape, variable_shape, same_shape, is_function, Item, one_equation}
+use Rattle.meaning.specs.Origins.{Origin, Sort, visible_sort, hidden_sort, FunctionType, ResolvedTerm, var, app, ResolvedTerms, none_left, ◌and_then◌, ResolvedSides, ResolvedEquation, Shape, sort_shape, function_shape, variable_shape, same_shape, is_function, Item, one_equation}
 use Rattle.meaning.specs.Normal.{Slot, Normal, names_in, sort_names, is_called, origin_of, slot_names, formals, unite_hidden, unite, move_type, move_equation, move_visible, move_hidden, move, move_item, move_hidden_item}
 use Rattle.meaning.specs.Checks.{Outcome, fine, ◌>>◌, unless, consistent, term_nodes, terms_nodes, sides_nodes, equation_nodes, size, room, checked, each_beside}
 use Rattle.meaning.specs.Clauses.{paired, otherwise, renaming, may_name, renames, wrong_renaming, rename, same_origins, is_among, is_formal_sort, new_sort, new_function, sort_right, sorts_right, kind_right, type_right, all_right, pairs_right, unpaired, without_visible, without, bound_to, bind}

@@ -8,7 +8,7 @@ use Rattle.std.proofs.Math.Option.{Option, some}
 use mathlib.Core.List.{List, [], ◌∷◌, ◌++◌, map, map_append}
 use Rattle.meaning.specs.Lists.{pick, keep, any, first, each, agree, union}
 use Rattle.meaning.specs.Names.{Name, same, member}
-use Rattle.meaning.specs.Origins.{Declared, declared_sort, declared_function, declared_variable, Origin, same_declared, same_origin, Sort, visible_sort, hidden_sort, same_sort, FunctionType, same_type, Head, visible_head, hidden_head, same_head, ResolvedTerm, var, app, ResolvedTerms, none_left, ◌and-then◌, same_term, same_terms, ResolvedSides, same_sides, ResolvedEquation, Shape, sort_shape, function_shape, variable_shape, same_shape, is_sort, is_function, Item, one_item, one_equation}
+use Rattle.meaning.specs.Origins.{Declared, declared_sort, declared_function, declared_variable, Origin, same_declared, same_origin, Sort, visible_sort, hidden_sort, same_sort, FunctionType, same_type, Head, visible_head, hidden_head, same_head, ResolvedTerm, var, app, ResolvedTerms, none_left, ◌and_then◌, same_term, same_terms, ResolvedSides, same_sides, ResolvedEquation, Shape, sort_shape, function_shape, variable_shape, same_shape, is_sort, is_function, Item, one_item, one_equation}
 use Rattle.meaning.specs.Normal.{names_in, is_called, move_sort, move_type, move_shape, move_name, move_item, move_hidden_item, move_head, move_term, move_terms, move_sides, move_equation}
 use Rattle.promises_replacing.specs.Changing.{re_declared, re_origin, re_sort, re_type, re_shape, re_item, re_head, re_term, re_terms, re_sides, re_equation}
 
@@ -231,7 +231,7 @@ module _ (τ : Name → Name) (keeps : (v w : Name) → same (τ v) (τ w) ≡ s
 
       move_terms_kept : (xs : ResolvedTerms) → move_terms σ' φ' (re_terms τ xs) ≡ re_terms τ (move_terms σ φ xs)
       move_terms_kept none_left = refl
-      move_terms_kept (x and_then xs) = ap₂ ◌and-then◌ (move_term_kept x) (move_terms_kept xs)
+      move_terms_kept (x and_then xs) = ap₂ ◌and_then◌ (move_term_kept x) (move_terms_kept xs)
 
     move_sides_kept : (e : ResolvedSides) → move_sides σ' φ' (re_sides τ e) ≡ re_sides τ (move_sides σ φ e)
     unfolding move_sides re_sides

@@ -6,7 +6,7 @@ use Rattle.meaning.specs.Laws.{by_cases}
 use Rattle.meaning.specs.Lists.{each}
 use Rattle.meaning.specs.Names.{Name}
 use Rattle.meaning.specs.Syntax.{Function, Signature, Parameter, Pair, Equation, Clause, renamed_by, bound_by, Import, VariableGroup, Variable, Module, group_variables, variables_of}
-use Rattle.meaning.specs.Origins.{Section, export_section, hidden_section, parameter_section, Declared, declared_sort, declared_function, declared_variable, Origin, Sort, visible_sort, hidden_sort, FunctionType, Head, visible_head, hidden_head, ResolvedTerm, var, app, ResolvedTerms, none_left, ◌and-then◌, ResolvedSides, ResolvedEquation, Shape, sort_shape, function_shape, variable_shape, Item}
+use Rattle.meaning.specs.Origins.{Section, export_section, hidden_section, parameter_section, Declared, declared_sort, declared_function, declared_variable, Origin, Sort, visible_sort, hidden_sort, FunctionType, Head, visible_head, hidden_head, ResolvedTerm, var, app, ResolvedTerms, none_left, ◌and_then◌, ResolvedSides, ResolvedEquation, Shape, sort_shape, function_shape, variable_shape, Item}
 use Rattle.meaning.specs.Normal.{Normal, move_sort, move_type, move_shape, move_name, move_item, move_hidden_item}
 use Rattle.meaning.specs.Own.{resolved, function_type, own_sort, own_function, own_section, own_visible, own_variable, own_hidden_items}
 use Rattle.meaning.specs.Reached.{normalised, normalise}

@@ -11,7 +11,7 @@ use mathlib.Core.List.Permᴰ
 use mathlib.Core.List.{List, [], ◌∷◌, ◌++◌, map, append_assoc, Memᴰ}
 use Rattle.meaning.specs.Lists.{pick, any, first, agree, sum, union}
 use Rattle.meaning.specs.Names.{Name, same, by_name}
-use Rattle.meaning.specs.Origins.{Section, export_section, hidden_section, parameter_section, Head, visible_head, hidden_head, same_head, ResolvedTerm, var, app, ResolvedTerms, none_left, ◌and-then◌, same_term, same_terms, ResolvedSides, same_sides, ResolvedEquation, Shape, sort_shape, function_shape, variable_shape, same_shape, is_sort, is_function, Item, in_parameter, one_equation}
+use Rattle.meaning.specs.Origins.{Section, export_section, hidden_section, parameter_section, Head, visible_head, hidden_head, same_head, ResolvedTerm, var, app, ResolvedTerms, none_left, ◌and_then◌, same_term, same_terms, ResolvedSides, same_sides, ResolvedEquation, Shape, sort_shape, function_shape, variable_shape, same_shape, is_sort, is_function, Item, in_parameter, one_equation}
 use Rattle.meaning.specs.Checks.{at_odds, least_at_odds, other_origin, sorts_clash, functions_clash, other_output, in_one_parameter, both_in_one, overloaded}
 use Rattle.meaning.specs.OrderLaws.{Every, Pairwise, Rearranged, rearranged_every, rearranged_member, sorted_rearranged, pairwise_rearranged, same_self, same_equal}
 use Rattle.laws.specs.Decides.{both_true, Decides, numbers_decided, names_decided, agree_decided, sorts_decided, types_decided, shapes_decided, origins_decided, symmetric, both_decided, by_parts}
@@ -236,7 +236,7 @@ mutual
   terms_equal none_left (y and_then ys) e = absurd (false≢true e)
   terms_equal (x and_then xs) none_left e = absurd (false≢true e)
   terms_equal (x and_then xs) (y and_then ys) e =
-      let r = both_passed (same_term x y) (same_terms xs ys) e in ap₂ ◌and-then◌ (term_equal x y r.0) (terms_equal xs ys r.1)
+      let r = both_passed (same_term x y) (same_terms xs ys) e in ap₂ ◌and_then◌ (term_equal x y r.0) (terms_equal xs ys r.1)
 
 mutual
   unfolding same_term pick

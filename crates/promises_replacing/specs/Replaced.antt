@@ -9,7 +9,7 @@ use Rattle.meaning.specs.Laws.{by_cases}
 use Rattle.meaning.specs.Lists.{pick, each}
 use Rattle.meaning.specs.Names.{Name, same, member, is_operator}
 use Rattle.meaning.specs.Syntax.{Function, Signature, Pair, Clause, renamed_by, bound_by, Import, Term, node, Terms, no_terms, ◌then◌, Sides, Equation, Module}
-use Rattle.meaning.specs.Origins.{Declared, declared_sort, declared_function, declared_variable, Origin, Sort, visible_sort, hidden_sort, FunctionType, Head, visible_head, hidden_head, ResolvedTerm, var, app, ResolvedTerms, none_left, ◌and-then◌, ResolvedSides, ResolvedEquation, Shape, sort_shape, function_shape, variable_shape, Item}
+use Rattle.meaning.specs.Origins.{Declared, declared_sort, declared_function, declared_variable, Origin, Sort, visible_sort, hidden_sort, FunctionType, Head, visible_head, hidden_head, ResolvedTerm, var, app, ResolvedTerms, none_left, ◌and_then◌, ResolvedSides, ResolvedEquation, Shape, sort_shape, function_shape, variable_shape, Item}
 use Rattle.meaning.specs.Normal.{Normal}
 use Rattle.meaning.specs.Reached.{normalised, normalise, Ended, refused_at}
 use Rattle.meaning.specs.OrderLaws.{Every, same_equal, same_self}
@@ -171,7 +171,7 @@ module _ (τ τ' : Name → Name) where
 
     all_resolved_agree : (ts : ResolvedTerms) → TermsOf Agreed ts → re_terms τ ts ≡ re_terms τ' ts
     all_resolved_agree none_left h = refl
-    all_resolved_agree (x and_then xs) h = ap₂ ◌and-then◌ (resolved_agrees x h.0) (all_resolved_agree xs h.1)
+    all_resolved_agree (x and_then xs) h = ap₂ ◌and_then◌ (resolved_agrees x h.0) (all_resolved_agree xs h.1)
 
   resolved_sides_agree : (e : ResolvedSides) → SidesOf Agreed e → re_sides τ e ≡ re_sides τ' e
   unfolding re_sides
