@@ -41,6 +41,16 @@ def comment_at(line):
     return m.start() if m else len(line)
 
 
+def imported(text, crates):
+    """The names that a file has from libraries."""
+    found = set()
+    for m in USE.finditer(text):
+        if m.group(1).split(".")[:1] == ["Rattle"] and m.group(1).split(".")[1] in crates:
+            continue
+        found |= {w.strip().split(" as ")[0] for w in (m.group(2) or "").split(",")}
+    return found
+
+
 def scan(root):
     crates = set(os.listdir(root))
     library, own, heads = set(), collections.Counter(), set()
@@ -48,10 +58,7 @@ def scan(root):
         if not path.endswith((".antt", ".rt")):
             continue
         text = open(path, encoding="utf-8").read()
-        for m in USE.finditer(text):
-            if m.group(1).split(".")[:1] == ["Rattle"] and m.group(1).split(".")[1] in crates:
-                continue
-            library |= {w.strip().split(" as ")[0] for w in (m.group(2) or "").split(",")}
+        library |= imported(text, crates)
         if path.endswith(".antt") and not of_function(path):
             heads |= {h for h in HEAD.findall(text) if KEBAB.fullmatch(h)}
             for line in text.splitlines():
@@ -85,6 +92,7 @@ def renamed(text, names, comments):
 
 def main(argv):
     root = "crates"
+    crates = set(os.listdir(root))
     library, own, heads = scan(root)
     both = sorted(n for n in own if n in library and n in heads)
     names = {n for n in own if n not in library or n in heads}
@@ -103,9 +111,7 @@ def main(argv):
                     if k.replace("-", "_") in ids:
                         print(f"look: {path}: {k} beside {k.replace('-', '_')}")
             continue
-        here = names - library if of_function(path) else names
-        if of_function(path):
-            here = here & heads
+        here = names & heads - library if of_function(path) else names - imported(text, crates)
         if path.endswith(".rt"):
             new = renamed(text, here, "//")
         else:

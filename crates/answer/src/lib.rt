@@ -1,4 +1,6 @@
 // The answer of a call: document 01's number and values.
+#![tactic(auto)]
+
 ghost use Rattle.std.specs.Prelude.{◌≡◌, []};
 ghost use Rattle.meaning.specs.Numbers.{asked_absent, lent_short};
 ghost use Rattle.meaning.specs.Checks.{lone};
@@ -13,7 +15,7 @@ use form::Culprit;
 use meaning::numbers;
 
 // A name of at most 42 bytes, as many as an operator has with its underlines, and zeros behind it.
-#[derive(Drop)]
+#[derive(Clone, Copy)]
 pub struct Name {
     pub bytes: [u8; 42],
     pub length: usize,
@@ -22,7 +24,7 @@ pub struct Name {
 // The number; how many modules were evaluated, the refused one included; the module evaluated when refused; the culprit, and where a binding's pair
 // is wrong the actual name, else a blank one; its place, and whether that is in the library; and how long the listing is. For 6 and 19 the module is
 // the asked one, or blank where the asked name has more than 40 bytes: the caller has it.
-#[derive(Drop)]
+#[derive(Clone, Copy)]
 pub struct Answer {
     pub number: u32,
     pub modules: u32,

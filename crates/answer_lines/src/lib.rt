@@ -1,4 +1,6 @@
 // An answer written as lines, as `asfnorm` prints it.
+#![tactic(auto)]
+
 ghost use Rattle.std.specs.Prelude.{◌≡◌, take};
 ghost use Rattle.meaning.specs.Names.{bytes};
 ghost use Rattle.meaning.specs.Written.{decimal};

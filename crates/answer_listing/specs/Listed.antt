@@ -22,7 +22,7 @@ use Rattle.list.specs.declared.Written.{Written}
 use Rattle.list.specs.declared.Written.TheVariants.{Fits, TooLong}
 use Rattle.list.specs.Lines.{listing_text}
 use Rattle.list.specs.Meant.{listing_meant}
-use Rattle.list.specs.Fit.{result, fitted}
+use Rattle.list.specs.Fit.{result_of, fitted}
 use Rattle.list.specs.Lent.{Lent, answer_when, lent_meant}
 use Rattle.answer.specs.declared.Answer.{Answer}
 use Rattle.answer.specs.Answers.{held, told, told_listed}
@@ -46,7 +46,7 @@ listing_told asked count n = λ i. record {
 }
 
 fits_size : (b : Bool) (n : ℕ) (bs o o' : List ℕ)
-    → result (Fits n) o' ≡ pick b (result (Fits (length bs)) (bs ++ drop (length bs) o)) (result TooLong o) → n ≡ length bs
+    → result_of (Fits n) o' ≡ pick b (result_of (Fits (length bs)) (bs ++ drop (length bs) o)) (result_of TooLong o) → n ≡ length bs
 unfolding pick
 fits_size true n bs o o' e = let f : Fits n ≡ Fits (length bs) = ap (λ (x : Fit.Result). x.ended) e in cc
 fits_size false n bs o o' e = let f : Fits n ≡ TooLong = ap (λ (x : Fit.Result). x.ended) e in cc
@@ -75,8 +75,8 @@ module _ (asked : List ℕ) (x : Reading) (text : List ℕ) (t : ℕ) (w : List 
         ∙ listing_meant text (part w 0 t) w (kept_form w last) evaluated.normal name evaluated.stands.stands evaluated.sound
         ∙ ap (λ (m : Name). lines_text (listing_lines m evaluated.normal)) evaluated.called
 
-    module _ (o : List ℕ) (v : Written) (o' : List ℕ) (e : result v o' ≡ fitted (listing_text text (part w 0 t) w name f) o) where
-      written : result v o' ≡ fitted (Meaning.listing whole) o
+    module _ (o : List ℕ) (v : Written) (o' : List ℕ) (e : result_of v o' ≡ fitted (listing_text text (part w 0 t) w name f) o) where
+      written : result_of v o' ≡ fitted (Meaning.listing whole) o
       written = e ∙ ap (λ (bs : List ℕ). fitted bs o) bytes_so
 
       lent : Lent asked whole o v o'

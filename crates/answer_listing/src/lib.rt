@@ -1,4 +1,6 @@
 // The answer for a module that was evaluated: its listing at the front of the output, or 19 where it is longer than that.
+#![tactic(auto)]
+
 ghost use Rattle.meaning.specs.Texts.{two_texts, read_texts};
 ghost use Rattle.text_names.specs.Joint.{joint};
 ghost use Rattle.answer_listing.specs.Answered.{Answered, Evaluated};

@@ -1,4 +1,6 @@
 // The values and names of an answer, as they are handed over in lent slices.
+#![tactic(auto)]
+
 ghost use Rattle.std.specs.Prelude.{◌≡◌};
 ghost use Rattle.values_c.specs.Values.{laid};
 ghost use Rattle.list_pen.specs.Pen.{pen, written};

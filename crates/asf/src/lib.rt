@@ -1,4 +1,6 @@
 // Normalising one module of two texts, our library and the customer's: from bytes to the answer and the listing. All working memory is lent, and zero afterwards.
+#![tactic(auto)]
+
 ghost use Rattle.std.specs.Prelude.{◌≡◌};
 ghost use Rattle.meaning.specs.Texts.{two_texts, read_texts};
 ghost use Rattle.meaning.specs.Answer.{memory_after};
@@ -21,7 +23,7 @@ use read_both::{Both, read_both};
 
 // What comes of a call before it is answered: too little memory is lent; a text is not read; no module is called as asked; a module is refused; or
 // `count` modules are normalised, the asked one, called `name`, among them, and its form is kept for number `last`, on a tape of t entries.
-#[derive(Drop)]
+#[derive(Clone, Copy)]
 enum Sought {
     Short,
     Unread {

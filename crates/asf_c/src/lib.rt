@@ -1,5 +1,7 @@
 // Normalising as C calls it, on slices of bytes and numbers only: each slice is a pointer and a length. Values and names are handed over in
 // lent slices; what has no room there is left out. The library has the functions of `parts_c` too.
+#![tactic(auto)]
+
 ghost use Rattle.std.specs.Prelude.{◌≡◌};
 ghost use Rattle.meaning.specs.Texts.{two_texts};
 ghost use Rattle.meaning.specs.Contract.{call};

@@ -1,4 +1,6 @@
 // Reads a request and a specification from standard input, and prints the normal form of the asked module or its refusal.
+#![tactic(auto)]
+
 ghost use Rattle.std.specs.Prelude.{◌+◌, ◌≤◌, length};
 ghost use Rattle.responding.specs.Program.{page_room};
 

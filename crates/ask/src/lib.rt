@@ -1,6 +1,8 @@
 // Whether a stored visible part of a module may be kept: from the old specification and the new one, each of two texts. Both are read into the lent
 // working memory, each onto a tape of its own, or onto one where the texts are the same, and the modules that the asked one reaches are compared in
 // pairs (`ask_walk`). A module's name by its number (`ask_names`) is handed on.
+#![tactic(auto)]
+
 ghost use Rattle.std.specs.Prelude.{◌≡◌, ◌&&◌, [], ◌≤◌, length};
 ghost use Rattle.meaning.specs.Numbers.{memory_size};
 ghost use Rattle.meaning.specs.Names.{same};
@@ -34,7 +36,7 @@ use text_names::same_bytes;
 // What to do before the stored part of the asked module is shown. `answer` is 0: keep it once the modules of `set`, by their numbers in the new
 // specification, are answered 0; 1: ask the module itself, for the reason, with the module concerned and another name; 2: one of the two is not
 // read, the new one where `in_new` says so, with the refusal's number and place; 19: too little working memory is lent. What is not told is 0.
-#[derive(Drop)]
+#[derive(Clone, Copy)]
 pub struct Decision {
     pub answer: u32,
     pub set: u64,

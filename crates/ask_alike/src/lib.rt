@@ -1,5 +1,7 @@
 // Entries of two tapes compared, each tape that of a text and the library behind it: two entries are the same if their roles are, and their names,
 // wherever these stand. Compared are so many entries, those up to a place, and those of one section of a module.
+#![tactic(auto)]
+
 pub mod sections;
 
 ghost use Rattle.std.specs.Prelude.{◌≡◌, ◌-◌};

@@ -1,4 +1,6 @@
 // The name of module k of two texts. They are read into the lent working memory, onto a tape, and the name stands where the module begins on it.
+#![tactic(auto)]
+
 ghost use Rattle.std.specs.Prelude.{◌≡◌, ◌≤◌, length};
 ghost use Rattle.meaning.specs.Numbers.{memory_size};
 ghost use Rattle.meaning.specs.Texts.{two_texts, read_texts};

@@ -1,5 +1,7 @@
 // What speaks against keeping a stored visible part: of one reached module of the old specification and its counterpart in the new one. Both lie on
 // tapes of their own: `behind` and `other` are the new one's library and text, `more` its tape, g its heads, n the counterpart's number.
+#![tactic(auto)]
+
 ghost use Rattle.std.specs.Prelude.{◌≡◌, false};
 ghost use Rattle.meaning.specs.Lists.{agree, before};
 ghost use Rattle.meaning.specs.Names.{same};
@@ -18,7 +20,7 @@ use text_spelling::{is_called, same_wherever};
 
 // The reason's number; the module concerned, a word of the old texts; and the other name, a word of the new texts where `new_name` says so, else of
 // the old ones. A name that is not told has the word 0.
-#[derive(Drop)]
+#[derive(Clone, Copy)]
 pub struct Why {
     pub reason: u32,
     pub by: u32,
@@ -26,7 +28,7 @@ pub struct Why {
     pub new_name: bool,
 }
 
-#[derive(Drop)]
+#[derive(Clone, Copy)]
 pub enum Objection {
     Nothing,
     Against(Why),

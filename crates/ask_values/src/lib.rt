@@ -1,4 +1,6 @@
 // The values and names of a decision, as they are handed over in lent slices.
+#![tactic(auto)]
+
 ghost use Rattle.std.specs.Prelude.{◌≡◌};
 ghost use Rattle.values_c.specs.Values.{laid};
 ghost use Rattle.ask_values.specs.Laid.{decision_values, names_laid};

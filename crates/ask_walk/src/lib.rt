@@ -1,5 +1,7 @@
 // Two sets of modules, one of the old specification and one of the new, walked upwards in pairs. Each specification lies on a tape of its own, with
 // its texts and its heads: `library`, `text`, `tape` and `h` are the old one's, `behind`, `other`, `more` and `g` the new one's.
+#![tactic(auto)]
+
 ghost use Rattle.std.specs.Prelude.{◌≡◌, ◌+◌, ◌-◌, ◌<◌};
 ghost use Rattle.text_names.specs.Joint.{joint};
 ghost use Rattle.module_set.specs.ModuleSet.{holds, nothing};

@@ -1,4 +1,6 @@
 // A parameter of a form bound to a form: 15, 22 to 27, and formal items replaced by actual ones. The form is made in a block, and checked.
+#![tactic(auto)]
+
 pub mod renaming;
 
 ghost use Rattle.std.specs.Prelude.{◌≡◌, ◌≤◌, length};

@@ -1,4 +1,6 @@
 // The clauses of an import expression: renaming, 14, and for binding its parameter, 15, and where formal items are found once they are bound.
+#![tactic(auto)]
+
 pub mod notes;
 pub mod pairs;
 pub mod parameters;
@@ -7,7 +9,7 @@ pub mod searches;
 pub mod sorts;
 
 // The word of a name, or none.
-#[derive(Drop)]
+#[derive(Clone, Copy)]
 pub enum Found {
     At(u32),
     Nothing,

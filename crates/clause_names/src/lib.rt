@@ -1,4 +1,6 @@
 // What a name may stand for, by the kind of an item.
+#![tactic(auto)]
+
 ghost use Rattle.std.specs.Prelude.{◌≡◌};
 ghost use Rattle.text_names.specs.Word.{name_of};
 ghost use Rattle.text_names.specs.Joint.{joint};

@@ -1,4 +1,6 @@
 // What the pairs of a clause make of a name.
+#![tactic(auto)]
+
 ghost use Rattle.text_names.specs.Joint.{joint};
 ghost use Rattle.clause_pairs.specs.Pairs.{SmallWord, Renamed};
 

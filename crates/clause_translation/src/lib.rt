@@ -1,11 +1,13 @@
 // Rows of items under new names: what a renaming, a binding or a mere import makes of a row.
+#![tactic(auto)]
+
 pub mod formals;
 pub mod modes;
 pub mod rows;
 
 // How a row is translated, by one of the `modes`: pairs stand on the tape from `pairs` on, and the items to be bound, of the parameter, in a table
 // of `count` rows from `visible` on.
-#[derive(Drop)]
+#[derive(Clone, Copy)]
 pub struct Mode {
     pub kind: u32,
     pub pairs: u32,

@@ -1,4 +1,6 @@
 // The structure diagram of one module of two texts: from bytes to the answer and the lines. All working memory is lent, and zero afterwards.
+#![tactic(auto)]
+
 ghost use Rattle.std.specs.Prelude.{◌≡◌, ◌≤◌, length};
 ghost use Rattle.meaning.specs.Numbers.{memory_size};
 ghost use Rattle.meaning.specs.Texts.{two_texts, read_texts};

@@ -1,4 +1,6 @@
 // The answer of a call for a diagram of more than 1,024 lines.
+#![tactic(auto)]
+
 ghost use Rattle.std.specs.Prelude.{◌≡◌, []};
 ghost use Rattle.meaning.specs.Numbers.{no_room};
 ghost use Rattle.meaning.specs.Checks.{lone};

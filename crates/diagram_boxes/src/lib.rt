@@ -1,4 +1,6 @@
 // The lines of a box: its module's name, the parameters that the module declares itself, and the bindings of the expression that brought it in.
+#![tactic(auto)]
+
 ghost use Rattle.std.specs.Prelude.{◌≡◌, map, ◌-◌, get_or};
 ghost use Rattle.text_names.specs.Word.{name_of};
 ghost use Rattle.text_names.specs.Joint.{joint};

@@ -1,5 +1,7 @@
 // Structure diagrams as C calls it, on slices of bytes and numbers only: each slice is a pointer and a length. Values and names are handed over in
 // lent slices, as `asf_normalise` hands them over.
+#![tactic(auto)]
+
 ghost use Rattle.std.specs.Prelude.{◌≡◌};
 ghost use Rattle.meaning.specs.Texts.{two_texts};
 ghost use Rattle.answer.specs.Answers.{told_call};

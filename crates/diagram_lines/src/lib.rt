@@ -1,4 +1,6 @@
 // Lines of a diagram, each with its depth, written to lent output and counted: 1,025 of them at most, one more than a diagram may have.
+#![tactic(auto)]
+
 ghost use Rattle.std.specs.Prelude.{◌≡◌, [], ◌∷◌};
 ghost use Rattle.text_names.specs.Word.{name_of};
 ghost use Rattle.text_names.specs.Joint.{joint};
@@ -12,7 +14,7 @@ use list_pen::{put_name, put_number, put_text};
 pub const LINES: u32 = 1025;
 
 // Where the next byte goes, and how many lines there are.
-#[derive(Drop)]
+#[derive(Clone, Copy)]
 pub struct Sheet {
     pub at: usize,
     pub lines: u32,

@@ -1,6 +1,6 @@
 -- What is computed of a diagram are its first lines: none is left out before the limit. So a diagram of at most 1,024 lines is answered whole, and a
 -- longer one by 18.
-use Rattle.std.specs.Prelude.{◌≡◌, Bool, true, false, leb, take}
+use Rattle.std.specs.Prelude.{◌≡◌, Bool, true, false, take}
 use Rattle.std.proofs.Math.Path.{refl, sym, ap}
 use Rattle.std.proofs.Common.{◌∙◌, arith}
 use Prim.Native.Nat.{ℕ, zero, suc, ◌-◌, ◌<◌, ◌≤◌}

@@ -1,5 +1,7 @@
 // The walk through the import expressions of a module, and of the modules that they name: without recursion. Of each open box its module's number and
 // the place on the tape from which its expressions are still to be drawn stand in the working memory, behind the tape; at most 64 boxes are open.
+#![tactic(auto)]
+
 ghost use Rattle.std.specs.Prelude.{◌<◌, ◌≤◌, length};
 ghost use Rattle.text_names.specs.Joint.{joint};
 ghost use Rattle.modules.specs.Modules.{heads_in};
@@ -12,7 +14,7 @@ use modules::{Heads, find_number, place_at};
 use tape::roles;
 
 // Where the next byte goes, how many lines there are, and how many boxes are open.
-#[derive(Drop)]
+#[derive(Clone, Copy)]
 pub struct Step {
     pub at: usize,
     pub lines: u32,

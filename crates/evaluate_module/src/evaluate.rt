@@ -11,7 +11,7 @@ use form::{Culprit, Made};
 use modules::Heads;
 
 // How a module's evaluation ends: its normal form is kept, or it is refused with the number and the culprit.
-#[derive(Drop)]
+#[derive(Clone, Copy)]
 pub enum Stepped {
     Kept(State),
     Refused(u32, Culprit),

@@ -1,4 +1,6 @@
 // What is kept so far: where the next normal form goes, and the sizes of all together.
+#![tactic(auto)]
+
 ghost use Rattle.std.specs.Prelude.{◌≡◌, length};
 ghost use Rattle.text_names.specs.Joint.{joint};
 ghost use Rattle.form.specs.declared.Made.TheVariants.{Done};
@@ -10,7 +12,7 @@ use form::Form;
 use form_layout::kept_start;
 use own_completing::Totals;
 
-#[derive(Drop)]
+#[derive(Clone, Copy)]
 pub struct State {
     pub cursor: u32,
     pub totals: Totals,

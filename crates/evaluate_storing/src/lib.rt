@@ -1,4 +1,6 @@
 // A module's normal form put in order and kept: its parts from the cursor on, its places in the module's row of the table.
+#![tactic(auto)]
+
 ghost use Rattle.std.specs.Prelude.{◌≡◌, ◌+◌, ◌*◌, ◌≤◌, length};
 ghost use Rattle.std.proofs.lemmas.List.Edits.{sets};
 ghost use Rattle.text_names.specs.Joint.{joint};

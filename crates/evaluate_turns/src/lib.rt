@@ -1,4 +1,6 @@
 // The modules that the asked one reaches, in text order, each once, up to the first refused.
+#![tactic(auto)]
+
 ghost use Rattle.std.specs.Prelude.{◌<◌, ◌≤◌};
 ghost use Rattle.text_names.specs.Joint.{joint};
 ghost use Rattle.evaluate_turns.specs.Asked.{Asked};
@@ -15,7 +17,7 @@ use modules::{Heads, module_count, name_of_module, reached};
 
 // How a call ends: each normal form is kept, that of the latest module for number `last`; or the refusal's number with the word of the module
 // evaluated then and the culprit. `count` modules were evaluated, the refused one included.
-#[derive(Drop)]
+#[derive(Clone, Copy)]
 pub enum Ended {
     Normalised {
         count: u32,

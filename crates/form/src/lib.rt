@@ -1,4 +1,6 @@
 // Where a normal form lies in the working memory, and how much of it there is; and how a check ends.
+#![tactic(auto)]
+
 pub mod equations;
 
 // The words of a parameter, which are its name and the name of the module that declares it; of an equation's row; and of a form in the table
@@ -14,7 +16,7 @@ pub const EQUATION_STEP: usize = EQUATION_SIZE as usize;
 pub const FORM_STEP: usize = 16;
 
 // Places are words of the working memory; a node is one word.
-#[derive(Drop)]
+#[derive(Clone, Copy)]
 pub struct Form {
     pub parameters: u32,
     pub parameter_count: u32,
@@ -30,7 +32,7 @@ pub struct Form {
 
 // An equation's row: its module's number, its position there, its tag, how many conditions it has, and its nodes: the conclusion's two terms
 // and then each condition's, in prefix order, from `start` of the form's nodes on.
-#[derive(Drop)]
+#[derive(Clone, Copy)]
 pub struct EquationRow {
     pub home: u32,
     pub position: u32,
@@ -41,21 +43,21 @@ pub struct EquationRow {
 }
 
 // The culprit of a refusal: the word of its name, and where a binding's pair is wrong the word of the actual name; 0 for a blank one.
-#[derive(Drop)]
+#[derive(Clone, Copy)]
 pub struct Culprit {
     pub name: u32,
     pub actual: u32,
 }
 
 // How a check ends: passed, or refused with its number and the culprit.
-#[derive(Drop)]
+#[derive(Clone, Copy)]
 pub enum Verdict {
     Fine,
     Stop(u32, Culprit),
 }
 
 // How an evaluation ends: with a normal form, or refused with the number and the culprit.
-#[derive(Drop)]
+#[derive(Clone, Copy)]
 pub enum Made {
     Done(Form),
     Refused(u32, Culprit),
@@ -63,7 +65,7 @@ pub enum Made {
 
 // A part of the working memory from `low` up to `high`, in which a normal form is made: its parts in this order, each with room for so many
 // names, rows or nodes, then the notes of visible and of hidden items, and the order table.
-#[derive(Drop)]
+#[derive(Clone, Copy)]
 pub struct Block {
     pub low: u32,
     pub parameters: u32,

@@ -1,6 +1,6 @@
 -- What tests tell of sorts, shapes and items, in the code's terms: p, q and r are answers, and the premises are what led there.
 use mathlib.Core.Path.{◌≡◌, refl, sym, ap, ◌∙◌}
-use mathlib.Core.Bool.{Bool, true, false, not, ◌&&◌, beq, and_true, and_false, true≢false}
+use mathlib.Core.Bool.{Bool, true, false, not, ◌&&◌, beq, and-true, and-false, true≢false}
 use mathlib.Core.List.{List, map}
 use Prim.Native.Nat.{ℕ, suc, ◌+◌, ◌-◌, ◌/◌, ◌%◌, ◌<◌, ◌≤◌, min}
 use native.Mathlib.Numerals.{add-one}
@@ -26,11 +26,11 @@ module _ (text tape : List ℕ) (d e : ℕ) (p : Bool) (c : p ≡ same (name_at 
   pub hidden_told : (h k : ℕ) (r : Bool) → p ≡ true → h ≡ home_at tape d → k ≡ home_at tape e → r ≡ same (name_of text h) (name_of text k)
       → r ≡ same_origin (hidden_origin text tape d) (hidden_origin text tape e)
   unfolding same_origin hidden_origin same_section same_declared
-  hidden_told h k r g i j l = rw (← c, g, ← i, ← j, ← l, and_true r) (sym (and_true r))
+  hidden_told h k r g i j l = rw (← c, g, ← i, ← j, ← l, and-true r) (sym (and-true r))
 
   pub hidden_names : p ≡ false → false ≡ same_origin (hidden_origin text tape d) (hidden_origin text tape e)
   unfolding same_origin hidden_origin same_section same_declared
-  hidden_names g = rw (← c, g) (sym (and_false (same (name_of text (home_at tape d)) (name_of text (home_at tape e)) && true)))
+  hidden_names g = rw (← c, g) (sym (and-false (same (name_of text (home_at tape d)) (name_of text (home_at tape e)) && true)))
 
 module _ (text tape : List ℕ) (a b : ℕ) where
   abbrev one_sort : Bool
@@ -226,18 +226,18 @@ module _ (text tape : List ℕ) (a b : Row) where
   module _ (p : Bool) (e : p ≡ same_shape (shape_of text tape a.kind a.sorts) (shape_of text tape b.kind b.sorts)) where
     pub item_shapes : p ≡ false → false ≡ one_but_name text tape a b
     unfolding one_but_name
-    item_shapes h = rw (← e, h, and_false (same_section (section_of text a.standing) (section_of text b.standing)))
+    item_shapes h = rw (← e, h, and-false (same_section (section_of text a.standing) (section_of text b.standing)))
 
     module _ (q : Bool) (f : q ≡ same_origin (origin_of text tape a.origin) (origin_of text tape b.origin)) (h : p ≡ true) where
       pub item_origins : q ≡ false → false ≡ one_but_name text tape a b
       unfolding one_but_name
       item_origins g =
-          rw (← e, h, ← f, g) (sym (and_false (same_section (section_of text a.standing) (section_of text b.standing) && true)))
+          rw (← e, h, ← f, g) (sym (and-false (same_section (section_of text a.standing) (section_of text b.standing) && true)))
 
       pub item_standings : (r : Bool) → q ≡ true → r ≡ same_section (section_of text a.standing) (section_of text b.standing)
           → r ≡ one_but_name text tape a b
       unfolding one_but_name
-      item_standings r g t = rw (← e, h, ← f, g, ← t, and_true r) (sym (and_true r))
+      item_standings r g t = rw (← e, h, ← f, g, ← t, and-true r) (sym (and-true r))
 
   by_name : one_item (item_of text tape a) (item_of text tape b) ≡ (same (name_of text a.name) (name_of text b.name) && one_but_name text tape a b)
   unfolding one_item item_of one_but_name

@@ -1,6 +1,6 @@
 -- What tests tell of declarations and origins, in the code's terms: p, q and r are answers, and the premises are what led there.
 use mathlib.Core.Path.{◌≡◌, refl, sym, ap, ◌∙◌}
-use mathlib.Core.Bool.{Bool, true, false, ◌&&◌, and_true, and_false, and_assoc}
+use mathlib.Core.Bool.{Bool, true, false, ◌&&◌, and-true, and-false, and_assoc}
 use mathlib.Core.List.{List}
 use Prim.Native.Nat.{ℕ, zero, suc, ◌+◌, ◌-◌, ◌<◌, ◌≤◌}
 use native.Mathlib.Nat.{add-zero}
@@ -102,14 +102,14 @@ module _ (text tape : List ℕ) (d e : ℕ) where
 
   by_kinds : (k l : ℕ) → same_declared (declared_by text tape d k) (declared_by text tape e l) ≡ (named && rest_of k l)
   unfolding declared_by same_declared rest_of
-  by_kinds zero zero = sym (and_true named)
-  by_kinds zero (suc zero) = sym (and_false named)
-  by_kinds zero (suc (suc m)) = sym (and_false named)
-  by_kinds (suc zero) zero = sym (and_false named)
-  by_kinds (suc (suc n)) zero = sym (and_false named)
+  by_kinds zero zero = sym (and-true named)
+  by_kinds zero (suc zero) = sym (and-false named)
+  by_kinds zero (suc (suc m)) = sym (and-false named)
+  by_kinds (suc zero) zero = sym (and-false named)
+  by_kinds (suc (suc n)) zero = sym (and-false named)
   by_kinds (suc zero) (suc zero) = refl
-  by_kinds (suc zero) (suc (suc m)) = sym (and_false named)
-  by_kinds (suc (suc n)) (suc zero) = sym (and_false named)
+  by_kinds (suc zero) (suc (suc m)) = sym (and-false named)
+  by_kinds (suc (suc n)) (suc zero) = sym (and-false named)
   by_kinds (suc (suc n)) (suc (suc m)) =
       and_assoc named (agree same (names_from text tape (d + 1) n) (names_from text tape (e + 1) m)) (same (name_at text tape (d + 1 + n)) (name_at text tape (e + 1 + m)))
 
@@ -185,7 +185,7 @@ module _ (text tape : List ℕ) (a b : Origin) where
     unfolding same_origin origin_of
     origin_declared h =
         rw (← e, h)
-        (sym (and_false (same (name_of text a.home) (name_of text b.home) && same_section (section_of text a.section) (section_of text b.section))))
+        (sym (and-false (same (name_of text a.home) (name_of text b.home) && same_section (section_of text a.section) (section_of text b.section))))
 
     module _ (q : Bool) (f : q ≡ same (name_of text a.home) (name_of text b.home)) (h : p ≡ true) where
       pub origin_homes : q ≡ false → false ≡ one
@@ -194,4 +194,4 @@ module _ (text tape : List ℕ) (a b : Origin) where
 
       pub origin_told : (r : Bool) → q ≡ true → r ≡ same_section (section_of text a.section) (section_of text b.section) → r ≡ one
       unfolding same_origin origin_of
-      origin_told r g k = rw (← f, g, ← e, h, ← k) (sym (and_true r))
+      origin_told r g k = rw (← f, g, ← e, h, ← k) (sym (and-true r))

@@ -1,4 +1,6 @@
 // The table of where each module's normal form is kept: a row of sixteen words for each module, and one more for a name that no module has.
+#![tactic(auto)]
+
 ghost use Rattle.std.specs.Prelude.{◌≡◌, [], ◌∷◌, ◌+◌, ◌*◌, ◌^◌, ◌≤◌, ◌<◌, length};
 ghost use Rattle.std.proofs.lemmas.List.Edits.{sets};
 ghost use Rattle.form.specs.Forms.{form_size};

@@ -1,5 +1,7 @@
 // Where things lie in the working memory: the tape, the block in which a module's imports are united and its own items join them, two blocks
 // in which the clauses of an import expression work in turn, and the normal forms that are kept, with a table of where each module's is.
+#![tactic(auto)]
+
 ghost use Rattle.std.specs.Prelude.{◌≡◌, ◌+◌, ◌*◌, ◌≤◌};
 ghost use Rattle.form_layout.specs.Layout.{block_span, block_at, tape_end, joining_block, first_block, second_block, kept_start, table_start};
 

@@ -1,5 +1,7 @@
 // Tables of names put in order: the names stay where they are, and a table beside them holds their numbers in the order of the names.
 // Name i of a table stands at place b + i * s of the working memory.
+#![tactic(auto)]
+
 ghost use Rattle.std.specs.Prelude.{◌≡◌, ◌+◌, ◌-◌, ◌*◌, ◌/◌, ◌≤◌, ◌<◌, length, get_or};
 ghost use Rattle.meaning.specs.Names.{not_after};
 ghost use Rattle.text_names.specs.Word.{name_of};

@@ -1,4 +1,6 @@
 // Items, origins and sorts as words of the working memory: rows moved in and out as structs by value, and the tests on them.
+#![tactic(auto)]
+
 use form_sections::Section;
 
 pub mod entries;
@@ -7,7 +9,7 @@ pub mod rows;
 pub mod sections;
 
 // The home module's name, the section, and the place on the tape of the declaration.
-#[derive(Drop)]
+#[derive(Clone, Copy)]
 pub struct Origin {
     pub home: u32,
     pub section: Section,
@@ -15,7 +17,7 @@ pub struct Origin {
 }
 
 // An item, of one of the `kinds`. The output, or a variable's sort, is the last of sorts.
-#[derive(Drop)]
+#[derive(Clone, Copy)]
 pub struct Row {
     pub standing: Section,
     pub name: u32,

@@ -1,9 +1,11 @@
 // Where items are declared and where they stand: sections, each as one word of the working memory.
+#![tactic(auto)]
+
 ghost use Rattle.std.specs.Prelude.{◌≡◌};
 ghost use Rattle.form_sections.specs.Sections.{section_word, word_section};
 
 // Where an item is declared, and where it stands. A parameter carries its name's word.
-#[derive(Drop)]
+#[derive(Clone, Copy)]
 pub enum Section {
     Export,
     Hidden,

@@ -1,5 +1,7 @@
 // How an input is framed: its first line, which says what is asked for and names the module, and the line behind it that may say how long the
 // library is.
+#![tactic(auto)]
+
 ghost use Rattle.std.specs.Prelude.{◌≡◌, ◌-◌, ◌≤◌, length};
 ghost use Rattle.meaning.specs.Names.{same};
 ghost use Rattle.meaning.specs.Tokens.{run_end};
@@ -93,7 +95,7 @@ fn has_library_line(rest: &[u8], e: usize) -> bool
 }
 
 // What follows the first line: the customer's text alone, a library and that text behind it, or a library that is too long.
-#[derive(Drop)]
+#[derive(Clone, Copy)]
 pub enum Framing {
     Alone,
     TooLong,

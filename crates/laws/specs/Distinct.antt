@@ -9,7 +9,7 @@ use Rattle.meaning.specs.Lists.{pick}
 use Rattle.meaning.specs.Names.{Name, same, member}
 use Rattle.meaning.specs.Numbers.{module_limit}
 use Rattle.meaning.specs.Syntax.{Module}
-use Rattle.meaning.specs.Grammar.{State, Result, done, refused, after, ◌>>=◌, ◌>>◌, return, refuse, unexpected, if_next, too_many, name, fresh_name, a_module, modules, read}
+use Rattle.meaning.specs.Grammar.{State, Result, done, refused, after, ◌>>=◌, ◌>>◌, return, refuse, unexpected, if_next, too_many, fresh_name, a_module, modules, read}
 use Rattle.meaning.specs.Reached.{module_names}
 use Rattle.meaning.specs.Texts.{Texts, read_texts, all_read}
 use Rattle.meaning.specs.TextsLaws.{Parts, read_parts, by_library}

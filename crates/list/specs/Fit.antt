@@ -9,8 +9,8 @@ pub record Result : Type 0 where
   pub ended : Written
   pub out : List ℕ
 
-abbrev pub result : Written → List ℕ → Result
-result r o = record { ended = r; out = o }
+abbrev pub result_of : Written → List ℕ → Result
+result_of r o = record { ended = r; out = o }
 
 unfoldable pub fitted : List ℕ → List ℕ → Result
-fitted bs o = pick (leb (length bs) (length o)) (result (Fits (length bs)) (bs ++ drop (length bs) o)) (result TooLong o)
+fitted bs o = pick (leb (length bs) (length o)) (result_of (Fits (length bs)) (bs ++ drop (length bs) o)) (result_of TooLong o)

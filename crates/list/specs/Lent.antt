@@ -17,7 +17,7 @@ use Rattle.list.specs.declared.Written.{Written}
 use Rattle.list.specs.declared.Written.TheVariants.{Fits, TooLong}
 use Rattle.list.specs.Lines.{listing_text}
 use Rattle.list.specs.Meant.{listing_meant}
-use Rattle.list.specs.Fit.{Result, result, fitted}
+use Rattle.list.specs.Fit.{Result, result_of, fitted}
 
 -- the answer to one who asked, when its listing was written so: 19 where it is too long
 unfoldable pub answer_when : Name → Answer → Written → Answer
@@ -29,21 +29,21 @@ pub record Lent (asked : Name) (a : Answer) (o : List ℕ) (r : Written) (o' : L
   pub answer : within (length o) asked a ≡ answer_when asked a r
   pub output : output_after (within (length o) asked a) o ≡ o'
 
-pub lent_meant : (asked : Name) (a : Answer) (o : List ℕ) (r : Written) (o' : List ℕ) → result r o' ≡ fitted (listing a) o → Lent asked a o r o'
+pub lent_meant : (asked : Name) (a : Answer) (o : List ℕ) (r : Written) (o' : List ℕ) → result_of r o' ≡ fitted (listing a) o → Lent asked a o r o'
 unfolding fitted within pick answer_when output_after refusal lines_text each
 lent_meant asked a o r o' e = go (leb (length (listing a)) (length o)) refl
   where
     go : (b : Bool) → leb (length (listing a)) (length o) ≡ b → Lent asked a o r o'
     go true q =
-        let f : result r o' ≡ result (Fits (length (listing a))) (listing a ++ drop (length (listing a)) o) = rw q at e in
+        let f : result_of r o' ≡ result_of (Fits (length (listing a))) (listing a ++ drop (length (listing a)) o) = rw q at e in
         record { answer = rw (q, ap (λ (x : Result). x.ended) f); output = rw q (sym (ap (λ (x : Result). x.out) f)) }
     go false q =
-        let f : result r o' ≡ result TooLong o = rw q at e in
+        let f : result_of r o' ≡ result_of TooLong o = rw q at e in
         record { answer = rw (q, ap (λ (x : Result). x.ended) f); output = rw q (sym (ap (λ (x : Result). x.out) f)) }
 
 -- the form stands for what a call ended with
 pub listing_lent : (text tape w : List ℕ) (f : Form) (n : Normal) (name count : ℕ) (asked : Name) (o : List ℕ) (r : Written) (o' : List ℕ)
-    → Stands text tape w f n → HiddenSound n → name_of text name ≡ asked → result r o' ≡ fitted (listing_text text tape w name f) o
+    → Stands text tape w f n → HiddenSound n → name_of text name ≡ asked → result_of r o' ≡ fitted (listing_text text tape w name f) o
     → Lent asked (of_ended asked (normalised count n)) o r o'
 unfolding of_ended
 listing_lent text tape w f n name count asked o r o' s h e q =

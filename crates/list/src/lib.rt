@@ -1,18 +1,20 @@
 // The listing of a normal form, written to lent output: all of it or nothing. The form is in order, and its tape stands in front of the
 // working memory.
+#![tactic(auto)]
+
 ghost use Rattle.std.specs.Prelude.{◌≡◌, ◌^◌, ◌<◌, ◌≤◌, length};
 ghost use Rattle.text_names.specs.Joint.{joint};
 ghost use Rattle.form.specs.Memory.{part};
 ghost use Rattle.list_pen.specs.Pen.{pen, written};
 ghost use Rattle.list.specs.Lines.{listing_text};
-ghost use Rattle.list.specs.Fit.{result, fitted};
+ghost use Rattle.list.specs.Fit.{result_of, fitted};
 
 use form::Form;
 use list_lines::put_line;
 use list_parts::{put_hidden, put_visible};
 
 // How writing ended: with so many bytes, or, where they are more than there is room for, with none.
-#[derive(Drop)]
+#[derive(Clone, Copy)]
 pub enum Written {
     Fits(usize),
     TooLong,
@@ -31,7 +33,7 @@ pub fn put_listing(
     f: Form,
 ) -> usize
     requires { f.hidden_count < 2 ^ 31 }
-    ensures* { λ r. ⌜ pen r out.new ≡ written limit (listing_text (joint library.now text.now) tape.now work.now name f) (pen at out.old) ⌝ }
+    ensures { pen result out.new ≡ written limit (listing_text (joint library.now text.now) tape.now work.now name f) (pen at out.old) }
 {
     let a = put_line(out, at, limit, library, text, b"module", name);
     let b = put_visible(out, a, limit, library, text, tape, work, f);
@@ -51,7 +53,7 @@ pub fn write_listing(
 ) -> Written
     requires t_in_bounds { t ≤ length work.now }
     requires hidden_count_bound { f.hidden_count < 2 ^ 31 }
-    ensures* { λ r. ⌜ result r out.new ≡ fitted (listing_text (joint library.now text.now) (part work.now 0 t) work.now name f) out.old ⌝ }
+    ensures { result_of result out.new ≡ fitted (listing_text (joint library.now text.now) (part work.now 0 t) work.now name f) out.old }
 {
     let room = out.len();
     let size = put_listing(

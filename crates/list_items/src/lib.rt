@@ -1,4 +1,6 @@
 // Origins and declarations written to lent output, as document 01's listing has them. What is declared stands on the tape.
+#![tactic(auto)]
+
 ghost use Rattle.std.specs.Prelude.{◌≡◌, ◌++◌, ◌-◌};
 ghost use Rattle.meaning.specs.Names.{bytes};
 ghost use Rattle.meaning.specs.Written.{between_marks, type_text, section_text, declared_text, origin_text};

@@ -1,5 +1,7 @@
 // A normal form copied in the order of its listing: parameters, visible items, hidden items with the hidden sorts in order first, and
 // equations, whose nodes follow their items.
+#![tactic(auto)]
+
 ghost use Rattle.std.specs.Prelude.{◌≡◌, ◌+◌, ◌*◌, ◌≤◌, ◌<◌, length};
 ghost use Rattle.meaning.specs.Written.{visible_order, hidden_order};
 ghost use Rattle.text_names.specs.Joint.{joint};

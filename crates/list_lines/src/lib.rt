@@ -1,4 +1,6 @@
 // Single lines `key=value` of a listing, and the two lines of an item: what it is, and its origin.
+#![tactic(auto)]
+
 ghost use Rattle.std.specs.Prelude.{◌≡◌, [], ◌^◌, ◌<◌};
 ghost use Rattle.meaning.specs.Names.{bytes};
 ghost use Rattle.meaning.specs.Written.{numbered};

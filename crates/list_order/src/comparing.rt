@@ -19,7 +19,7 @@ use text_names::joint::compare;
 
 // By which order the rows of items are compared: as visible ones; hidden sorts, by their origins alone; hidden items, in whose types the hidden
 // sorts in order are `count` rows from `sorts` on.
-#[derive(Drop)]
+#[derive(Clone, Copy)]
 pub enum Order {
     Visible,
     Sorts,

@@ -1,4 +1,6 @@
 // The parts of a listing: a form's visible items, its parameters with theirs, its hidden items by number, and its equations.
+#![tactic(auto)]
+
 ghost use Rattle.std.specs.Prelude.{◌≡◌, ◌^◌, ◌<◌};
 ghost use Rattle.text_names.specs.Word.{name_of};
 ghost use Rattle.text_names.specs.Joint.{joint};

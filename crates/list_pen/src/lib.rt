@@ -1,4 +1,6 @@
 // Texts, names and numbers written to lent output, each byte as `list_window` writes it; its `put` is handed on.
+#![tactic(auto)]
+
 ghost use Rattle.std.specs.Prelude.{◌≡◌};
 ghost use Rattle.meaning.specs.Written.{digits, decimal, numbered};
 ghost use Rattle.text_names.specs.Word.{token_of, name_of};

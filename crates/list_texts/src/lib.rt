@@ -1,5 +1,7 @@
 // Origins, types and equations compared by the bytes that they are written as: part by part, of fewer bytes than a name may have, so that no
 // more of a line than such a part is ever in memory.
+#![tactic(auto)]
+
 ghost use Rattle.std.specs.Prelude.{◌≡◌, ◌-◌, ◌^◌, ◌<◌, ◌≤◌, min, length, take};
 ghost use Rattle.meaning.specs.Names.{bytes_not_after};
 ghost use Rattle.meaning.specs.Written.{origin_text, shape_text};
@@ -19,7 +21,7 @@ use list_types::put_shape;
 use text_names::compare_bytes;
 
 // A part of a written line: the first `size` bytes.
-#[derive(Drop)]
+#[derive(Clone, Copy)]
 pub struct Part {
     pub bytes: [u8; 32],
     pub size: usize,
@@ -27,7 +29,7 @@ pub struct Part {
 
 // What of two items is compared as it is written: their origins; or what follows their names, where the hidden sorts in order are `count` rows
 // from `base` on.
-#[derive(Drop)]
+#[derive(Clone, Copy)]
 pub enum Facet {
     Origin,
     Shape { base: u32, count: u32 },

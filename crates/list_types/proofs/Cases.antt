@@ -1,6 +1,6 @@
 -- One law for each way through the code that writes sorts and types, in the code's terms: p is where the pen stands before, q after.
 use mathlib.Core.Path.{◌≡◌, refl, sym, ap, ap₂, ◌∙◌}
-use mathlib.Core.Bool.{Bool, true, false, ◌&&◌, and_true, and_false}
+use mathlib.Core.Bool.{Bool, true, false, ◌&&◌, and-true, and-false}
 use mathlib.Core.List.{List, ◌∷◌, ◌++◌, map}
 use Prim.Native.Nat.{ℕ, zero, suc, ◌+◌, ◌-◌, ◌*◌, ◌/◌, ◌%◌, ◌<◌, ◌≤◌, min}
 use native.Mathlib.Omega.{arith}
@@ -78,16 +78,16 @@ module _ (text tape : List ℕ) (d : ℕ) (o : Origin) where
     pub sort_named : (m r : Bool) → k ≡ 0 → m ≡ same (name_at text tape d) (name_at text tape o.place) → m ≡ true → r ≡ there
         → r ≡ same_origin (hidden_origin text tape d) (origin_of text tape o)
     unfolding same_origin hidden_origin origin_of
-    sort_named m r z f g t = rw (sort_there text tape (name_at text tape d) o.place (sym h ∙ z), ← f, g) (t ∙ sym (and_true there))
+    sort_named m r z f g t = rw (sort_there text tape (name_at text tape d) o.place (sym h ∙ z), ← f, g) (t ∙ sym (and-true there))
 
     pub sort_unnamed : (m : Bool) → k ≡ 0 → m ≡ same (name_at text tape d) (name_at text tape o.place) → m ≡ false
         → false ≡ same_origin (hidden_origin text tape d) (origin_of text tape o)
     unfolding same_origin hidden_origin origin_of
-    sort_unnamed m z f g = rw (sort_there text tape (name_at text tape d) o.place (sym h ∙ z), ← f, g) (sym (and_false there))
+    sort_unnamed m z f g = rw (sort_there text tape (name_at text tape d) o.place (sym h ∙ z), ← f, g) (sym (and-false there))
 
     pub no_sort : (k ≡ 0 → ⊥) → false ≡ same_origin (hidden_origin text tape d) (origin_of text tape o)
     unfolding same_origin hidden_origin origin_of
-    no_sort z = rw (other_there text tape (name_at text tape d) o.place (λ q. z (h ∙ q))) (sym (and_false there))
+    no_sort z = rw (other_there text tape (name_at text tape d) o.place (λ q. z (h ∙ q))) (sym (and-false there))
 
 pub row_told : (text tape w : List ℕ) (b d : ℕ) (row : Row) (r : Bool) → row ≡ row_at w b → r ≡ same_origin (hidden_origin text tape d) (origin_of text tape row.origin)
     → r ≡ same_origin (hidden_origin text tape d) (item_of text tape (row_at w b)).origin

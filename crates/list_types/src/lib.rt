@@ -1,5 +1,7 @@
 // Sorts and types written to lent output, as document 01's listing has them: a hidden sort is written by its number. The hidden items in
 // order are the rows of a table of the memory: `count` of them from `base` on.
+#![tactic(auto)]
+
 ghost use Rattle.std.specs.Prelude.{◌≡◌, ◌&&◌, map, ◌+◌, ◌-◌, ◌*◌, ◌^◌, ◌<◌, get_or, take};
 ghost use Rattle.meaning.specs.Names.{same, bytes};
 ghost use Rattle.meaning.specs.Origins.{same_section, same_origin, hidden_section};

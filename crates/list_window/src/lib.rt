@@ -1,5 +1,7 @@
 // One byte written to lent output. The same calls count and write: lent no output, they only move the place; lent less than the limit asks,
 // they write the part that ends one before it.
+#![tactic(auto)]
+
 ghost use Rattle.std.specs.Prelude.{◌≡◌, [], ◌∷◌, ◌+◌, ◌-◌};
 ghost use Rattle.list_window.specs.Pen.{shown, pen, written};
 

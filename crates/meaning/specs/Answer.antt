@@ -1,5 +1,5 @@
 -- The answer of a call, what is lent, and what the program prints (document 01, "The numbers that come back" and "The listing").
-use Rattle.std.specs.Prelude.{ℕ, zero, ◌+◌, ◌-◌, ◌*◌, Bool, true, false, ◌&&◌, List, [], ◌∷◌, ◌++◌, map, eqb, leb, ltb, length, take, drop, get_or}
+use Rattle.std.specs.Prelude.{ℕ, ◌+◌, ◌-◌, ◌*◌, Bool, true, false, ◌&&◌, List, [], ◌∷◌, ◌++◌, map, eqb, leb, ltb, length, take, drop, get_or}
 use Rattle.meaning.specs.Lists.{pick}
 use Rattle.meaning.specs.Names.{bytes, byte, slice, Name, same}
 use Rattle.meaning.specs.Numbers.{text_size, name_size, memory_size, program_output, accepted, not_allowed, over_size, lent_short, formal_absent, formal_unpaired}

@@ -1,5 +1,5 @@
 -- With an empty library, or without the line that asks for one, every answer and every printed byte is what document 01 says of the one text.
-use Rattle.std.specs.Prelude.{◌≡◌, refl, ℕ, ◌+◌, Bool, true, false, List, [], ◌∷◌, ◌++◌, eqb, leb, ltb, length, drop}
+use Rattle.std.specs.Prelude.{◌≡◌, refl, ℕ, ◌+◌, Bool, true, false, List, [], ◌∷◌, ◌++◌, eqb, ltb, length, drop}
 use Rattle.std.proofs.Math.Path.{ap}
 use Rattle.std.proofs.Common.{◌∙◌}
 use Rattle.meaning.specs.Lists.{pick}
@@ -11,8 +11,8 @@ use Rattle.meaning.specs.Grammar.{Result, done, refused, read}
 use Rattle.meaning.specs.Written.{decimal}
 use Rattle.meaning.specs.Checks.{lone}
 use Rattle.meaning.specs.Reached.{Ended, normalised, refused_at, normalise, module_names}
-use Rattle.meaning.specs.Texts.{Texts, two_texts, behind, read_behind, read_texts}
-use Rattle.meaning.specs.Listing.{Line, line, lines_text}
+use Rattle.meaning.specs.Texts.{two_texts, behind, read_behind, read_texts}
+use Rattle.meaning.specs.Listing.{line, lines_text}
 use Rattle.meaning.specs.Answer.{Answer, refusal, of_ended, unread, of_read, within, with_memory, answer, place_text, names_told, printed_lines, printed, request, request_end, has_request, has_library_line, library_too_long, texts_in, answer_behind, asked_by, unasked, answer_to, asfnorm}
 
 -- ---- document 01's words

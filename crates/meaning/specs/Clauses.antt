@@ -1,13 +1,13 @@
 -- The clauses of an import expression (document 01, "Evaluating", step 3; 02, requests Two and Five): renaming, 14, and binding, 15 and 22 to 27.
 use Rattle.std.specs.Prelude.{ℕ, Bool, true, false, not, ◌&&◌, ◌||◌, List, [], ◌∷◌, eqb, length}
 use Rattle.std.proofs.Math.Option.{Option, none, some}
-use Rattle.meaning.specs.Lists.{pick, keep, any, first, first_bad}
+use Rattle.meaning.specs.Lists.{pick, keep, any, first_bad}
 use Rattle.meaning.specs.Names.{Name, same, is_operator, is_infix, member, least}
 use Rattle.meaning.specs.Numbers.{bad_renaming, bad_parameter, formal_absent, formal_twice, actual_absent, other_kind, other_type, formal_unpaired}
 use Rattle.meaning.specs.Syntax.{Pair}
 use Rattle.meaning.specs.Origins.{Origin, same_origin, Sort, visible_sort, hidden_sort, FunctionType, Shape, sort_shape, function_shape, variable_shape, same_shape, is_function, Item, in_parameter}
 use Rattle.meaning.specs.Normal.{Slot, Visible, Normal, names_in, sorts_among, sort_names, is_called, origin_of, slot_names, formals, unite, move_type, move}
-use Rattle.meaning.specs.Checks.{Culprit, lone, Outcome, stop, ◌>>=◌, ◌>>◌, Check, unless, needs, each_beside, checked}
+use Rattle.meaning.specs.Checks.{Culprit, lone, Outcome, stop, ◌>>◌, Check, unless, needs, each_beside, checked}
 
 -- ---- pairs
 

@@ -1,5 +1,5 @@
 -- What a call gives: the answer, and the lent slices afterwards. This is what the public function's contract cites.
-use Rattle.std.specs.Prelude.{◌≡◌, refl, ℕ, ◌-◌, ◌≤◌, Bool, true, false, List, [], T, length}
+use Rattle.std.specs.Prelude.{◌≡◌, refl, ℕ, ◌≤◌, Bool, true, false, List, [], T, length}
 use Rattle.std.proofs.Common.{sym, ◌∙◌, arith, leb→le, length-append, length-drop}
 use Rattle.meaning.specs.Laws.{by_cases}
 use Rattle.meaning.specs.Lists.{each}

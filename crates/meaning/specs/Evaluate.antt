@@ -1,6 +1,5 @@
 -- One module (document 01, "Evaluating", steps 1 to 4).
 use Rattle.std.specs.Prelude.{ℕ, Bool, not, ◌&&◌, List, [], ◌∷◌, ◌++◌}
-use Rattle.std.proofs.Math.Option.{none}
 use Rattle.meaning.specs.Lists.{pick, each, agree, union, repeated}
 use Rattle.meaning.specs.Names.{Name, same, member}
 use Rattle.meaning.specs.Numbers.{named_absent, named_late, declared_twice, bad_variable}

@@ -1,11 +1,11 @@
 -- The grammar (document 01, "The text"; 02, request Two; 004, section 2.1): from a text to its modules, or its leftmost offence with the
 -- smaller number at one place: refusals 1 to 5.
-use Rattle.std.specs.Prelude.{ℕ, zero, suc, ◌+◌, ◌-◌, Bool, not, ◌||◌, List, [], ◌∷◌, ◌++◌, eqb, leb, length}
+use Rattle.std.specs.Prelude.{ℕ, zero, suc, ◌-◌, Bool, ◌||◌, List, [], ◌∷◌, ◌++◌, eqb, leb, length}
 use Rattle.types.specs.declared.Token.{Token}
-use Rattle.meaning.specs.Lists.{pick, before}
+use Rattle.meaning.specs.Lists.{pick}
 use Rattle.meaning.specs.Names.{byte, slice, Name, same, prefix_name, infix_name, member}
 use Rattle.meaning.specs.Numbers.{text_size, name_size, import_limit, binding_limit, pair_limit, argument_limit, condition_limit, bracket_limit, node_limit, no_token_there, not_allowed, other_end, over_size, module_twice}
-use Rattle.meaning.specs.Tokens.{token, end_of_text, ident, arrow, implies, no_token, operator, begin_key, bound_key, by_key, end_key, equations_key, exports_key, functions_key, imports_key, module_key, parameters_key, renamed_key, sorts_key, to_key, variables_key, when_key, token_at}
+use Rattle.meaning.specs.Tokens.{end_of_text, ident, arrow, implies, no_token, operator, begin_key, bound_key, by_key, end_key, equations_key, exports_key, functions_key, imports_key, module_key, parameters_key, renamed_key, sorts_key, to_key, variables_key, when_key, token_at}
 use Rattle.meaning.specs.Syntax.{Function, Signature, Parameter, Pair, Clause, renamed_by, bound_by, Import, VariableGroup, Term, node, terms, Operand, joined_left, Sides, Equation, Module}
 
 -- where reading is: the token that is next, and how many nodes of the equation have been read

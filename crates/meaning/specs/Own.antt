@@ -7,7 +7,7 @@ use Rattle.meaning.specs.Numbers.{bad_sort}
 use Rattle.meaning.specs.Syntax.{Function, Signature, Parameter, Variable, Module, variables_of}
 use Rattle.meaning.specs.Origins.{Section, export_section, hidden_section, parameter_section, Declared, declared_sort, declared_function, declared_variable, Origin, Sort, visible_sort, hidden_sort, FunctionType, Shape, sort_shape, function_shape, variable_shape, Item}
 use Rattle.meaning.specs.Normal.{Slot, Visible, names_in}
-use Rattle.meaning.specs.Checks.{◌>>=◌, ◌>>◌, Check, unless}
+use Rattle.meaning.specs.Checks.{◌>>◌, Check, unless}
 
 -- ---- M's own items, where `seen_sorts` are the names of the visible sorts, M's own included
 

@@ -1,6 +1,6 @@
 -- What a text says, as it is read (document 01, "The text"; 02, request Two; 004, section 2.1): modules, with all in text order.
-use Rattle.std.specs.Prelude.{ℕ, List, [], ◌∷◌, ◌++◌, map}
-use Rattle.meaning.specs.Lists.{before, each}
+use Rattle.std.specs.Prelude.{List, [], ◌∷◌, ◌++◌, map}
+use Rattle.meaning.specs.Lists.{each}
 use Rattle.meaning.specs.Names.{Name, infix_name}
 
 -- `f : A # B -> C`; without inputs, a constant. An operator's name has its underlines: `◌+◌ : A # B -> C`

@@ -1,7 +1,6 @@
 -- Two texts (document 02, One): our library and the customer's. They are read into one sequence of modules, the library's first, and a
 -- module's text is fetched from the one that declares it.
-use Rattle.std.specs.Prelude.{ℕ, zero, suc, ◌+◌, ◌-◌, Bool, true, false, ◌||◌, List, [], ◌∷◌, ◌++◌, eqb, length}
-use Rattle.types.specs.declared.Token.{Token}
+use Rattle.std.specs.Prelude.{ℕ, zero, suc, ◌-◌, Bool, true, false, ◌||◌, List, [], ◌++◌, eqb, length}
 use Rattle.types.specs.declared.Part.{Part}
 use Rattle.meaning.specs.Lists.{pick}
 use Rattle.meaning.specs.Names.{slice, Name, same}

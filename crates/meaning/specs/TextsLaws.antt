@@ -1,13 +1,13 @@
 -- What it means that two texts are read: each is, the customer's behind the library's.
-use Rattle.std.specs.Prelude.{◌≡◌, refl, ◌⊎◌, ℕ, ◌-◌, Bool, true, false, List, [], ◌∷◌, ◌++◌, eqb, length}
-use Rattle.std.proofs.Common.{sym, ap, subst, ◌∙◌, inl, inr, arith}
+use Rattle.std.specs.Prelude.{◌≡◌, refl, ◌⊎◌, ℕ, ◌-◌, Bool, true, false, List, [], ◌++◌, eqb, length}
+use Rattle.std.proofs.Common.{sym, subst, inl, inr, arith}
 use Rattle.meaning.specs.Lists.{pick}
 use Rattle.meaning.specs.Names.{Name}
 use Rattle.meaning.specs.Numbers.{module_limit}
 use Rattle.meaning.specs.Syntax.{Module}
 use Rattle.meaning.specs.Grammar.{State, Result, done, refused, read}
 use Rattle.meaning.specs.Reached.{module_names}
-use Rattle.meaning.specs.Texts.{Texts, two_texts, Reading, all_read, refused_in, behind, read_behind, library_first, read_texts}
+use Rattle.meaning.specs.Texts.{Texts, all_read, refused_in, behind, read_behind, library_first, read_texts}
 
 -- these are the library's modules: none, or what its text is read as
 abbrev pub LibraryRead : List ℕ → List Module → Type 0

@@ -4,10 +4,10 @@ use Rattle.std.proofs.Math.Option.{Option, none, some}
 use Rattle.meaning.specs.Lists.{pick, first, or_else, agree}
 use Rattle.meaning.specs.Names.{Name}
 use Rattle.meaning.specs.Numbers.{ill_typed}
-use Rattle.meaning.specs.Syntax.{Term, node, Terms, no_terms, ◌then◌, terms, Sides, Equation, conditions_of}
+use Rattle.meaning.specs.Syntax.{Term, node, Terms, no_terms, ◌then◌, Sides, Equation, conditions_of}
 use Rattle.meaning.specs.Origins.{Section, export_section, hidden_section, parameter_section, Origin, Sort, same_sort, FunctionType, Head, visible_head, hidden_head, ResolvedTerm, var, app, ResolvedTerms, none_left, ◌and_then◌, ResolvedSides, ResolvedEquation, Shape, sort_shape, function_shape, variable_shape, Item}
 use Rattle.meaning.specs.Normal.{is_called}
-use Rattle.meaning.specs.Checks.{lone, Outcome, fine, stop, ◌>>=◌, ◌>>◌}
+use Rattle.meaning.specs.Checks.{lone, Outcome, fine, stop, ◌>>=◌}
 
 -- ---- what is typed
 

@@ -1,6 +1,6 @@
 -- The trials that document 01 marks proved: L and eleven of 004's appendix, each with all that the program prints, as one table under one
 -- theorem.
-use Rattle.std.specs.Prelude.{◌≡◌, refl, ◌⊎◌}
+use Rattle.std.specs.Prelude.{◌≡◌, refl}
 use Rattle.std.proofs.Common.{sym, subst, inl, inr}
 use Prim.Native.String.{String}
 use mathlib.Core.List.Memᴰ
@@ -128,7 +128,7 @@ trials = (refl, (refl, (refl, (refl, (refl, (refl, (refl, (refl, (refl, (refl, (
 
 pub every_member : {A : Type 0} (P : A → Type 0) (xs : List A) → Every P xs → (x : A) → Memᴰ x xs → P x
 unfolding Every
-every_member P [] e x h = absurd (Memᴰ.not_nil h)
+every_member P [] e x h = absurd (Memᴰ.not-nil h)
 every_member P (y ∷ ys) e x h = elim (Memᴰ.cases_cons h) [ inl p ↦ subst P (sym p) e.0 | inr k ↦ every_member P ys e.1 x k ]
 
 -- so each trial of the table is right

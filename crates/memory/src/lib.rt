@@ -1,4 +1,6 @@
 // The lent working memory: how much of it there is at the least, and how it is set to zero.
+#![tactic(auto)]
+
 ghost use Rattle.std.specs.Prelude.{◌≡◌};
 ghost use Rattle.meaning.specs.Numbers.{memory_size};
 ghost use Rattle.meaning.specs.Answer.{memory_after};

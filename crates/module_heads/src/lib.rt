@@ -1,4 +1,6 @@
 // The heads of a tape: where its modules begin, in text order.
+#![tactic(auto)]
+
 ghost use Rattle.std.specs.Prelude.{◌≡◌, length};
 ghost use Rattle.modules.specs.Modules.{is_module, HeadsOf, heads_in};
 

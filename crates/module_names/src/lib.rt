@@ -1,4 +1,6 @@
 // Step 1: whether the modules that one names are there, and stand before it.
+#![tactic(auto)]
+
 ghost use Rattle.std.specs.Prelude.{◌≡◌, take};
 ghost use Rattle.meaning.specs.Evaluate.{names_right};
 ghost use Rattle.text_names.specs.Word.{name_of};

@@ -1,6 +1,6 @@
 -- Sets of modules, and the set that a mask stands for: module k is in it where binary digit k of the mask is 1.
 use Rattle.std.specs.Prelude.{◌≡◌, refl, Bool, true, false, ℕ, zero, suc, ◌+◌, ◌/◌, ◌%◌, ◌^◌, ◌<◌, eqb, ltb}
-use Rattle.std.proofs.Common.{sym, ap, ◌∙◌, arith, pow-suc, div-one, one-add, lt-ltb, shr-shr}
+use Rattle.std.proofs.Common.{sym, ap, arith, pow-suc, div-one, one-add, lt-ltb, shr-shr}
 use Rattle.std.proofs.lemmas.Bool.{false≢true}
 use Rattle.meaning.specs.Lists.{pick}
 use Rattle.meaning.specs.Numbers.{module_limit}

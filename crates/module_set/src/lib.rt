@@ -1,4 +1,6 @@
 // A set of modules as one mask: module k is in the set where binary digit k is 1. A text has at most 64 modules.
+#![tactic(auto)]
+
 ghost use Rattle.std.specs.Prelude.{◌≡◌};
 ghost use Rattle.module_set.specs.ModuleSet.{holds, nothing, added, either, counted};
 

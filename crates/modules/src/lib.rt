@@ -1,5 +1,7 @@
 // The modules of a tape by their heads: where each is declared, its number by its name, and which modules it reaches.
 // A module's number is its place among the modules of the text, from 0.
+#![tactic(auto)]
+
 ghost use Rattle.std.specs.Prelude.{◌≡◌, [], ◌∷◌, get_or};
 ghost use Rattle.meaning.specs.Lists.{before};
 ghost use Rattle.meaning.specs.Names.{Name, same};

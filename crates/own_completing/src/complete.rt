@@ -16,7 +16,7 @@ use own_items::checking::own_checks;
 use own_items::items::own_items;
 
 // How the module's own items are joined: how many rows there are of each kind, or the refusal.
-#[derive(Drop)]
+#[derive(Clone, Copy)]
 pub enum Joined {
     Refused(u32, Culprit),
     Done(OwnRows),

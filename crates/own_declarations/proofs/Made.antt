@@ -1,7 +1,7 @@
 -- The ways through making rows, one law each: s are nine sorts, v a sort's word, b a test's answer.
 use mathlib.Core.Path.{◌≡◌, refl, sym, ap, ◌∙◌}
 use mathlib.Core.Bool.{Bool, true, false}
-use mathlib.Core.List.{List, [], ◌∷◌, ◌++◌, map, map_append, append-nil, append_assoc}
+use mathlib.Core.List.{List, [], ◌∷◌, ◌++◌, map, map-append, append-nil, append_assoc}
 use mathlib.Core.Logic.{inl}
 use Prim.Native.Nat.{ℕ, suc, ◌+◌, ◌-◌, ◌*◌, ◌<◌, ◌≤◌}
 use native.Mathlib.Numerals.{add-one, add-two}
@@ -60,7 +60,7 @@ module _ (text tape w : List ℕ) (own : Own) (d n : ℕ) (s : List ℕ) where
         let j : suc (d + 1 + i) ≡ d + 1 + (i + 1) = omega arith in
         let k : i < length s = omega (arith, g.nine, g.few) in
         let first : map (sort_of text tape) (take (i + 1) s') ≡ map (sort_of text tape) (take i s) ++ (sort_of text tape v ∷ []) =
-        rw (q, add-one i, take-suc-set s i v k) (map_append (sort_of text tape) (take i s) (v ∷ [])) in
+        rw (q, add-one i, take-suc-set s i v k) (map-append (sort_of text tape) (take i s) (v ∷ [])) in
         let old : map (sort_of text tape) (take i s) ++ (resolved_in text tape w own (name_at text tape (d + 1 + i)) ∷ resolved_from text tape w own (d + 1 + (i + 1)) (n - (i + 1)))
         ≡ resolved_from text tape w own (d + 1) n = rw (m, j) at g.so_far in
         record { nine = ap length q ∙ simp length-set g.nine; few = g.few; within = omega arith; so_far = rw (first, append_assoc, e) old }

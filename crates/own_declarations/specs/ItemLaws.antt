@@ -3,7 +3,7 @@ use Rattle.std.specs.Prelude.{◌≡◌, Bool, ltb, get_or}
 use Rattle.std.proofs.Math.Path.{refl, sym, ap₂}
 use Rattle.std.proofs.Common.{ap, ◌∙◌, add-zero, add-one, ltb-true, ltb-false, lt-ltb, le-ltb, ne_eqb}
 use Rattle.std.proofs.Math.Bool.{true, false}
-use mathlib.Core.List.{List, [], ◌∷◌, ◌++◌, map, map_append, append-nil, append_assoc}
+use mathlib.Core.List.{List, [], ◌∷◌, ◌++◌, map, map-append, append-nil, append_assoc}
 use Prim.Native.Nat.{ℕ, zero, suc, ◌+◌, ◌-◌, ◌<◌, ◌≤◌}
 use Rattle.std.proofs.Math.Numerals.{add-two}
 use native.Mathlib.Omega.{arith}
@@ -357,7 +357,7 @@ module _ (text tape w : List ℕ) (own : Own) (m : Module) (v : Visible) (s : St
       ∙ ap₂ (λ (x y : List Item). x ++ y)
       (group_own g.names g.sort d h (omega (arith, size)) (spells_front text tape es (each flat_group gs) d k))
       (groups_own gs (d + length es) (omega arith) (omega (arith, size)) (spells_behind text tape es (each flat_group gs) d k))
-      ∙ sym (map_append (own_variable m (seen_sorts m v)) (group_variables g) (each group_variables gs))
+      ∙ sym (map-append (own_variable m (seen_sorts m v)) (group_variables g) (each group_variables gs))
 
   hidden_over : FewInputs m → over true own.from (flat_module m) ≡ own_hidden_items m (seen_sorts m v)
   unfolding own_hidden_items variables_of is_own own_role is_function_role is_parameter_role is_export_role pick

@@ -3,7 +3,7 @@ use Rattle.std.specs.Prelude.{◌≡◌, Bool, true, false, ◌||◌, length}
 use Rattle.std.proofs.Math.Path.{refl, sym, ap}
 use Rattle.std.proofs.Common.{◌∙◌, add-zero}
 use Rattle.std.proofs.Math.Option.{Option, some}
-use mathlib.Core.List.{List, [], ◌∷◌, ◌++◌, map, map_append}
+use mathlib.Core.List.{List, [], ◌∷◌, ◌++◌, map, map-append}
 use Prim.Native.Nat.{ℕ, zero, suc, ◌+◌, ◌-◌, ◌≤◌}
 use native.Mathlib.Omega.{arith}
 use borrow.Author.Tests.{ne_eqb}
@@ -36,7 +36,7 @@ constants_append : (xs ys : List Item) → constants (xs ++ ys) ≡ constants xs
 unfolding constants names_in
 constants_append xs ys =
     ap (map (λ (i : Item). i.name)) (keep_append (λ (i : Item). is_constant i.shape) xs ys)
-    ∙ map_append (λ (i : Item). i.name) (keep (λ (i : Item). is_constant i.shape) xs) (keep (λ (i : Item). is_constant i.shape) ys)
+    ∙ map-append (λ (i : Item). i.name) (keep (λ (i : Item). is_constant i.shape) xs) (keep (λ (i : Item). is_constant i.shape) ys)
 
 either : (a b : Bool) → pick a true b ≡ (a || b)
 unfolding pick

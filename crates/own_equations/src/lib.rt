@@ -1,4 +1,6 @@
 // A module's equations typed into a form that has its visible items and its own hidden ones (17).
+#![tactic(auto)]
+
 ghost use Rattle.std.specs.Prelude.{◌≡◌, ◌+◌, ◌≤◌, length};
 ghost use Rattle.text_names.specs.Joint.{joint};
 ghost use Rattle.own_typing.specs.Equations.{told, equations_from};

@@ -3,10 +3,10 @@
 use Rattle.std.specs.Prelude.{◌≡◌, Bool, ◌&&◌, eqb, set, take, drop}
 use Rattle.std.proofs.Math.Path.{refl, ap, ap₂}
 use Rattle.std.proofs.Common.{sym, ◌∙◌, add-one, add-zero, length-take}
-use Rattle.std.proofs.Math.Bool.{true, false, and_false}
+use Rattle.std.proofs.Math.Bool.{true, false, and-false}
 use Rattle.std.proofs.lemmas.Bool.{false≢true}
 use Rattle.std.proofs.Math.Option.{Option, none, some}
-use mathlib.Core.List.{List, [], ◌∷◌, ◌++◌, map, map_append, append_assoc}
+use mathlib.Core.List.{List, [], ◌∷◌, ◌++◌, map, map-append, append_assoc}
 use Prim.Native.Nat.{ℕ, zero, suc, ◌+◌, ◌-◌, ◌*◌, ◌<◌, ◌≤◌}
 use native.Mathlib.Omega.{arith}
 use Rattle.std.proofs.Math.Dec.{ltb, leb}
@@ -59,7 +59,7 @@ module _ (text tape w : List ℕ) (f : Name) (ss : List Sort) (many : 9 < length
       let r = row_at w b in
       let c = is_called f (item_of text tape r) in
       by_kind text tape r.kind r.sorts (λ (s : Shape). (c && takes ss s) ≡ false)
-      (λ e. and_false c) (λ e. and_false c) (λ l. rw (few text tape (r.kind - 2) r.sorts ss (nine_sorts w b) many) (and_false c))
+      (λ e. and-false c) (λ e. and-false c) (λ l. rw (few text tape (r.kind - 2) r.sorts ss (nine_sorts w b) many) (and-false c))
 
   first_never : (b n : ℕ) → first (function_called f ss) (items_at text tape w b n) ≡ none
   unfolding first items_at pick
@@ -129,7 +129,7 @@ module _ (text : List ℕ) (k : Known) (w₀ : List ℕ) where
           over = λ l. a.over (omega arith);
           closed = λ l. a.closed (omega arith);
           sorted = ap₂ ◌∷◌ h.sorted a.sorted;
-          nodes = map_append (node_here text k w₀) h.words a.words ∙ ap₂ ◌++◌ h.nodes a.nodes;
+          nodes = map-append (node_here text k w₀) h.words a.words ∙ ap₂ ◌++◌ h.nodes a.nodes;
           pointed = every_append (Pointed text k w₀) h.words a.words h.pointed a.pointed;
           counted = ap suc a.counted;
           room = omega (arith, length-append h.words a.words, h.room, a.room);
@@ -152,7 +152,7 @@ module _ (text : List ℕ) (k : Known) (w₀ : List ℕ) where
           over = λ l. refl;
           closed = λ l. h';
           sorted = ap₂ ◌∷◌ h.sorted a.sorted;
-          nodes = map_append (node_here text k w₀) h.words a.words ∙ ap₂ ◌++◌ h.nodes a.nodes;
+          nodes = map-append (node_here text k w₀) h.words a.words ∙ ap₂ ◌++◌ h.nodes a.nodes;
           pointed = every_append (Pointed text k w₀) h.words a.words h.pointed a.pointed;
           counted = ap suc a.counted;
           room = omega (arith, length-append h.words a.words, h.room, a.room);

@@ -4,7 +4,7 @@ use Rattle.std.proofs.Math.Path.{sym, ap, ap₂}
 use Rattle.std.proofs.Common.{◌∙◌, add-zero, length-set, get_or-set_same}
 use Rattle.std.proofs.Math.Bool.{true, false}
 use Rattle.std.proofs.Math.Option.{Option, none, some}
-use mathlib.Core.List.{List, [], ◌∷◌, ◌++◌, map, map_append, append_assoc}
+use mathlib.Core.List.{List, [], ◌∷◌, ◌++◌, map, map-append, append_assoc}
 use Prim.Native.Nat.{ℕ, zero, suc, ◌+◌, ◌<◌, ◌≤◌}
 use native.Mathlib.Omega.{arith}
 use borrow.Author.Tests.{lt-ltb}
@@ -121,7 +121,7 @@ module _ (text : List ℕ) (k : Known) (w₀ : List ℕ) (role : ℕ) where
                 stand_append h.words r.words q _
                 (stand_stays h.words q u _ (λ j a b. r.below j b) (stand_sets h.words q w (omega (arith, h.room, kept.size, l.inside))))
                 r.stand;
-            nodes = map_append (node_here text k w₀) h.words r.words ∙ ap₂ ◌++◌ h.nodes r.nodes;
+            nodes = map-append (node_here text k w₀) h.words r.words ∙ ap₂ ◌++◌ h.nodes r.nodes;
             pointed = every_append (Pointed text k w₀) h.words r.words h.pointed r.pointed;
             room = omega (arith, length-append h.words r.words, h.room, r.room);
           }

@@ -5,7 +5,7 @@ use Rattle.std.proofs.Math.Path.{refl, ap, ap₂}
 use Rattle.std.proofs.Common.{sym, ◌∙◌}
 use Rattle.std.proofs.Math.Bool.{true, false}
 use Rattle.std.proofs.Math.Option.{Option, none, some}
-use mathlib.Core.List.{List, [], ◌∷◌, ◌++◌, map, map_append, append-nil}
+use mathlib.Core.List.{List, [], ◌∷◌, ◌++◌, map, map-append, append-nil}
 use Prim.Native.Nat.{ℕ, suc, ◌+◌, ◌<◌, ◌≤◌}
 use native.Mathlib.Omega.{arith}
 use Rattle.std.proofs.Math.ListN.{length, length-append}
@@ -151,7 +151,7 @@ module _ (text : List ℕ) (k : Known) (w₀ : List ℕ) where
           below = λ j a. g.below j (omega arith) ∙ h.below j a;
           stand = stand_append h.words g.words q _ (stand_stays h.words q o.memory _ (λ j a b. g.below j b) h.stand) g.stand;
           nodes =
-              map_append (node_here text k w₀) h.words g.words
+              map-append (node_here text k w₀) h.words g.words
               ∙ ap₂ ◌++◌ (h.nodes ∙ append-nil (flat_sides c)) g.nodes;
           pointed = every_append (Pointed text k w₀) h.words g.words h.pointed g.pointed;
           room = omega (arith, length-append h.words g.words, h.room, g.room);

@@ -5,7 +5,7 @@ use Rattle.std.proofs.Math.Path.{refl, ap₂}
 use Rattle.std.proofs.Common.{◌∙◌}
 use Rattle.std.proofs.Math.Bool.{true, false}
 use Rattle.std.proofs.Math.Option.{Option, none, some}
-use mathlib.Core.List.{List, [], ◌∷◌, ◌++◌, map, map_append}
+use mathlib.Core.List.{List, [], ◌∷◌, ◌++◌, map, map-append}
 use native.Mathlib.Omega.{arith}
 use Rattle.std.proofs.Math.ListN.{length, length-append}
 use Rattle.std.proofs.Math.Seq.{sets}
@@ -68,7 +68,7 @@ module _ (text : List ℕ) (k : Known) (w₀ : List ℕ) where
           sort = s;
           words = vs ++ us;
           same = λ z. out (Sorted s (next z) (free z)) (sets_append vs us w q z);
-          nodes = map_append (node_here text k w₀) vs us ∙ ap₂ ◌++◌ e f;
+          nodes = map-append (node_here text k w₀) vs us ∙ ap₂ ◌++◌ e f;
           pointed = every_append (Pointed text k w₀) vs us g h;
           room = omega (arith, length-append vs us);
         }

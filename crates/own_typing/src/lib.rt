@@ -1,8 +1,10 @@
 // Equations of the tape, typed (17): the terms of their two sides have one sort, and each equation has its row written.
+#![tactic(auto)]
+
 pub mod equations;
 
 // How many sides were kept, the entry behind the last and the place behind their nodes; or some are ill typed.
-#[derive(Drop)]
+#[derive(Clone, Copy)]
 pub enum Passed {
     Counted {
         count: u32,
@@ -13,7 +15,7 @@ pub enum Passed {
 }
 
 // A module's number, the end of its equations on the tape, and where their rows and the form's nodes begin.
-#[derive(Drop)]
+#[derive(Clone, Copy)]
 pub struct Module {
     pub home: u32,
     pub end: usize,
@@ -22,7 +24,7 @@ pub struct Module {
 }
 
 // How many equations there are, and the place behind their nodes; or the tag of the first that is ill typed.
-#[derive(Drop)]
+#[derive(Clone, Copy)]
 pub enum Equated {
     All { count: u32, free: usize },
     Stop(u32),

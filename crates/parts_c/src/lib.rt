@@ -1,5 +1,7 @@
 // A module's text fetched, and a listing's lines, as C calls them, on slices of bytes and numbers only: each slice is a pointer and a length.
 // None of it needs the evaluation, so it stands apart from `asf_c`, and the library has the functions of both.
+#![tactic(auto)]
+
 ghost use Rattle.std.specs.Prelude.{◌≡◌};
 ghost use Rattle.meaning.specs.Texts.{two_texts, fetched};
 ghost use Rattle.reader.specs.Places.{places_at};

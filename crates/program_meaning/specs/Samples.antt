@@ -1,5 +1,5 @@
 -- What is printed for a diagram, computed: boxes and what stands in them, modules that are absent or late, and each refusal of the call's own.
-use Rattle.std.specs.Prelude.{◌≡◌, refl, List}
+use Rattle.std.specs.Prelude.{◌≡◌, refl}
 use Prim.Native.String.{String}
 use Rattle.meaning.specs.Names.{bytes}
 use Rattle.meaning.specs.Numbers.{memory_size}

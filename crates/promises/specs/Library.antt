@@ -3,7 +3,7 @@
 use Rattle.std.specs.Prelude.{◌≡◌, refl, ℕ, true, false, List, [], ◌∷◌, ◌++◌}
 use Rattle.std.proofs.Common.{sym, ap, subst, ◌∙◌, ⊎_elim}
 use Rattle.meaning.specs.Lists.{pick}
-use Rattle.meaning.specs.Names.{Name, same, member}
+use Rattle.meaning.specs.Names.{Name, member}
 use Rattle.meaning.specs.Numbers.{named_late}
 use Rattle.meaning.specs.Syntax.{Module}
 use Rattle.meaning.specs.Checks.{lone, stop}

@@ -1,11 +1,11 @@
 -- Binding as it was before its mistakes were told apart (document 02, Five): 16 for each, with the formal's name alone. It stands here, with a
 -- call by that rule, for the statements of Mistakes.antt.
-use Rattle.std.specs.Prelude.{◌≡◌, refl, ℕ, ◌+◌, Bool, true, false, not, ◌&&◌, List, [], ◌∷◌, ◌++◌, eqb, ltb, length, drop}
+use Rattle.std.specs.Prelude.{◌≡◌, refl, ℕ, ◌+◌, Bool, true, not, ◌&&◌, List, [], ◌∷◌, ◌++◌, eqb, length}
 use Prim.Native.String.{String}
 use Rattle.std.proofs.Math.Option.{Option, none, some}
 use Rattle.meaning.specs.Lists.{pick, any}
-use Rattle.meaning.specs.Names.{bytes, Name, slice, member}
-use Rattle.meaning.specs.Numbers.{text_size, memory_size, program_output, accepted, not_allowed, over_size, asked_absent, bad_parameter, lent_short}
+use Rattle.meaning.specs.Names.{bytes, Name, member}
+use Rattle.meaning.specs.Numbers.{memory_size, program_output, accepted, asked_absent, bad_parameter}
 use Rattle.meaning.specs.Syntax.{Pair, Clause, renamed_by, bound_by, Import, Module}
 use Rattle.meaning.specs.Origins.{Shape, sort_shape, function_shape, variable_shape, same_shape, Item}
 use Rattle.meaning.specs.Written.{decimal}

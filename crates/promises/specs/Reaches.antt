@@ -6,7 +6,7 @@ use Rattle.std.proofs.Math.Logic.{⊎_elim}
 use Rattle.std.proofs.Math.Bool.{true, false, not}
 use mathlib.Core.List.{List, [], ◌∷◌, ◌++◌, map, append_assoc}
 use Rattle.meaning.specs.Lists.{each}
-use Rattle.meaning.specs.Names.{Name, same, member}
+use Rattle.meaning.specs.Names.{Name, member}
 use Rattle.meaning.specs.Syntax.{Module}
 use Rattle.meaning.specs.Evaluate.{named_by, missing, too_late}
 use Rattle.meaning.specs.Reached.{wanted, Placed, reached_among, reached, module_names}

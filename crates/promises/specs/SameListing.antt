@@ -5,14 +5,14 @@ use Rattle.std.proofs.Common.{ap, ◌∙◌, eqb-true}
 use Rattle.std.proofs.Math.Bool.{true, false}
 use Rattle.std.proofs.lemmas.Bool.{false≢true}
 use mathlib.Core.List.Permᴰ
-use mathlib.Core.List.{List, [], ◌∷◌, map, map_map, Memᴰ}
+use mathlib.Core.List.{List, [], ◌∷◌, map, map-map, Memᴰ}
 use Rattle.meaning.specs.Lists.{pick, keep, sorted}
 use Rattle.meaning.specs.Names.{Name, bytes_not_after, not_after, by_bytes}
 use Rattle.meaning.specs.Origins.{Shape, sort_shape, function_shape, variable_shape, is_sort, Item, ResolvedEquation}
 use Rattle.meaning.specs.Normal.{Slot, Visible, Normal, sorts_among}
 use Rattle.meaning.specs.Written.{origin_text, shape_text, equation_text, equation_order, shape_rank, standing_text, visible_order, visible_in_order, hidden_order, hidden_in_order, in_order}
 use Rattle.meaning.specs.Listing.{line, lines_text, equation_line, hidden_lines, listing_lines}
-use Rattle.meaning.specs.Grammar.{name, is}
+use Rattle.meaning.specs.Grammar.{is}
 use Rattle.meaning.specs.OrderLaws.{Rearranged, NoTie, order_of, then_both, bytes_ordered, bytes_antisymmetric, bytes_levelled, names_ordered, names_levelled, same_equal, not_after_antisymmetric, by_two_both, sorted_map, sorted_one, sorted_rearranged}
 use Rattle.meaning.specs.ListingOrder.{by_standing, by_rank, visible_ordered, hidden_ordered, Place, place_order, by_position, place_ordered, by_module}
 use Rattle.laws.specs.EveryLaws.{kept_member}
@@ -158,7 +158,7 @@ module _ (hidden : List Item) where
   lines_of_places : (es : List ResolvedEquation)
       → map (equation_line hidden) es ≡ map (λ (p : Place). line "equation" p.text) (map place_of es)
   unfolding place_of equation_line
-  lines_of_places es = sym (map_map (λ (p : Place). line "equation" p.text) place_of es)
+  lines_of_places es = sym (map-map (λ (p : Place). line "equation" p.text) place_of es)
 
   ordered_places : (es : List ResolvedEquation) → map place_of (ordered_equations es) ≡ sorted place_order (map place_of es)
   unfolding equation_order place_order place_of

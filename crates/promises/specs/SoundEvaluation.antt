@@ -12,16 +12,14 @@ use Rattle.meaning.specs.Names.{Name, same, member}
 use Rattle.meaning.specs.Origins.{visible_sort, Section, export_section, parameter_section, hidden_section, Declared, declared_sort, declared_function, is_sort, one_item, one_equation, Item, ResolvedEquation, in_parameter}
 use Rattle.meaning.specs.Checks.{lone, fine, Size, size, fits, room}
 use Rattle.meaning.specs.Own.{resolved, function_type, own_sort, own_function, own_section, own_slot, own_visible, own_variable, own_hidden_items, available_sorts}
-use Rattle.meaning.specs.Typing.{typed}
 use Rattle.meaning.specs.Syntax.{Function, Signature, group_variables, variables_of, Clause, renamed_by, bound_by, Import, Module}
-use Rattle.meaning.specs.Evaluate.{Evaluated, normal_of, clause, clauses, expressions, united, seen_sorts, joined_visible, own_checks, own_equations, joined_hidden, evaluate}
+use Rattle.meaning.specs.Evaluate.{Evaluated, normal_of, clause, expressions, seen_sorts, joined_visible, own_checks, own_equations, joined_hidden, evaluate}
 use Rattle.meaning.specs.Clauses.{without_visible, without}
 use Rattle.meaning.specs.Normal.{Visible, nothing_visible, nothing_hidden, empty, unite_hidden, Slot, Normal, sorts_among}
 use Rattle.meaning.specs.Written.{shape_rank, visible_in_order, hidden_in_order, in_order}
 use Rattle.meaning.specs.Listing.{lines_text, listing_lines}
 use Rattle.promises.specs.ListingLaws.{member_found, Plain, PlainSection, PlainDeclared, PlainOrigin, SortIn}
 use Rattle.meaning.specs.Numbers.{asked_absent, parameter_room, item_room}
-use Rattle.meaning.specs.Grammar.{name, signature, exports, imports, is}
 use Rattle.meaning.specs.Reached.{reached_among, reached, normalised, refused_at, in_turn, module_names, short_or_blank, normalise}
 use Rattle.meaning.specs.OrderLaws.{rearranged_every, rearranged_length, rearranged_member, Every, Pairwise}
 use Rattle.laws.specs.EveryLaws.{every_so, every_append, every_kept, every_keep, every_map, every_member, every_union, member_keep, member_map_to, every_of, every_each}

@@ -1,12 +1,12 @@
 -- From a listing the items of its normal form can be told, and the equations as they are written: stage by stage, from bytes to lines, to
 -- items.
-use Rattle.std.specs.Prelude.{◌≡◌, ◌⊎◌, ℕ, ◌+◌, ◌-◌, ◌^◌, ◌≤◌, ◌<◌, true, false, length}
+use Rattle.std.specs.Prelude.{◌≡◌, ℕ, ◌+◌, ◌^◌, ◌≤◌, ◌<◌, true, false, length}
 use Rattle.std.proofs.Math.Path.{refl, sym, ap, ap₂, subst}
 use Rattle.std.proofs.Common.{◌∙◌, ⊎_elim, arith, lit<}
 use Prim.Native.String.{String}
 use Rattle.std.proofs.Math.Bool.{Bool}
 use mathlib.Core.List.Memᴰ
-use mathlib.Core.List.{List, [], ◌∷◌, ◌++◌, map, map_map, append_assoc, append_cancel_left, Memᴰ}
+use mathlib.Core.List.{List, [], ◌∷◌, ◌++◌, map, map-map, append_assoc, append_cancel_left, Memᴰ}
 use Rattle.meaning.specs.Lists.{pick, keep, before, each}
 use Rattle.meaning.specs.Tokens.{is_in, is_word}
 use Rattle.meaning.specs.Names.{bytes, Name, same, member, words}
@@ -330,7 +330,7 @@ after_exported m n =
 equation_values : (hidden : List Item) (es : List ResolvedEquation)
     → map (λ (l : Line). l.value) (map (equation_line hidden) es) ≡ map (equation_text hidden) es
 unfolding equation_line
-equation_values hidden es = map_map (λ (l : Line). l.value) (equation_line hidden) es
+equation_values hidden es = map-map (λ (l : Line). l.value) (equation_line hidden) es
 
 module _ (m m' : Name) (n n' : Normal) (sound : Sound n) (sound' : Sound n') (few : Few n) where
   -- the lines of a listing tell the normal form, but for the parameters' modules, the equations' modules and positions, and what stands at a

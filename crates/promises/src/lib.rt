@@ -1,1 +1,2 @@
 // Promises over the meaning, proved of the definitions alone: this crate has no code.
+#![tactic(auto)]

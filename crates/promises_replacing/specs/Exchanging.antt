@@ -5,8 +5,8 @@ use Rattle.std.proofs.Common.{sym, ◌∙◌}
 use Rattle.std.proofs.Math.Bool.{true}
 use Rattle.std.proofs.Math.Option
 use Rattle.std.proofs.Math.Option.{Option, some}
-use mathlib.Core.List.{List, [], ◌∷◌, ◌++◌, map, map_append}
-use Rattle.meaning.specs.Lists.{pick, keep, any, first, each, agree, union}
+use mathlib.Core.List.{List, [], ◌∷◌, ◌++◌, map, map-append}
+use Rattle.meaning.specs.Lists.{pick, keep, any, first, agree, union}
 use Rattle.meaning.specs.Names.{Name, same, member}
 use Rattle.meaning.specs.Origins.{Declared, declared_sort, declared_function, declared_variable, Origin, same_declared, same_origin, Sort, visible_sort, hidden_sort, same_sort, FunctionType, same_type, Head, visible_head, hidden_head, same_head, ResolvedTerm, var, app, ResolvedTerms, none_left, ◌and_then◌, same_term, same_terms, ResolvedSides, same_sides, ResolvedEquation, Shape, sort_shape, function_shape, variable_shape, same_shape, is_sort, is_function, Item, one_item, one_equation}
 use Rattle.meaning.specs.Normal.{names_in, is_called, move_sort, move_type, move_shape, move_name, move_item, move_hidden_item, move_head, move_term, move_terms, move_sides, move_equation}
@@ -64,7 +64,7 @@ module _ {A B : Type 0} (g : A → B) (e : B → B → Bool) (d : A → A → Bo
   union_map xs [] = refl
   union_map xs (y ∷ ys) =
       (λ i. pick (any_map g (e (g y)) (d y) (h y) xs i) (union_map xs ys i)
-      ((ap (λ (r : List B). union e r (map g ys)) (sym (map_append g xs (y ∷ []))) ∙ union_map (xs ++ (y ∷ [])) ys) i))
+      ((ap (λ (r : List B). union e r (map g ys)) (sym (map-append g xs (y ∷ []))) ∙ union_map (xs ++ (y ∷ [])) ys) i))
       ∙ pick_map (map g) (any (d y) xs) (union d xs ys) (union d (xs ++ (y ∷ [])) ys)
 
 -- ---- under a change of names

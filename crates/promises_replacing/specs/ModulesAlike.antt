@@ -5,11 +5,11 @@ use Rattle.std.proofs.Math.Path.{◌≡◌, ap, refl, sym, ap₂, subst}
 use Rattle.std.proofs.Common.{◌∙◌, arith}
 use Rattle.std.specs.Prelude.{ℕ, ◌+◌, Bool, ◌||◌, not, get_or}
 use mathlib.Core.List.Permᴰ
-use mathlib.Core.List.{List, [], ◌∷◌, map, ◌++◌, map_append}
+use mathlib.Core.List.{List, [], ◌∷◌, map, ◌++◌, map-append}
 use Rattle.std.proofs.Math.Option
 use Rattle.std.proofs.Math.Option.{Option, none, some}
 use Rattle.meaning.specs.Names.{Name, same, member}
-use Rattle.meaning.specs.Numbers.{accepted, declared_twice}
+use Rattle.meaning.specs.Numbers.{declared_twice}
 use Rattle.meaning.specs.Syntax.{Equation, Module, Function, Signature, Parameter, Clause, renamed_by, bound_by, Import, variables_of}
 use Rattle.meaning.specs.Normal.{Normal, Visible, nothing_visible, nothing_hidden, empty, sort_names, unite_hidden, unite}
 use Rattle.meaning.specs.Written.{in_order}
@@ -181,7 +181,7 @@ module _ (τ : Name → Name) (keeps : (v w : Name) → same (τ v) (τ w) ≡ s
     own_sorts_kept =
         ap (λ (r : List Name). r ++ map τ m.exports.sorts)
         (each_map (re_parameter τ) τ (λ (p : Parameter). p.signature.sorts) (λ (p : Parameter). p.signature.sorts) (λ p. refl) m.parameters)
-        ∙ sym (map_append τ (each (λ (p : Parameter). p.signature.sorts) m.parameters) m.exports.sorts)
+        ∙ sym (map-append τ (each (λ (p : Parameter). p.signature.sorts) m.parameters) m.exports.sorts)
 
     seen_same : (s : Name) → member (τ s) seen' ≡ member s seen
     unfolding seen_sorts

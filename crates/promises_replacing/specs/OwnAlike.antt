@@ -1,7 +1,7 @@
 -- M's own declarations and equations under a change of names, joined to normal forms that are alike, give normal forms that are alike.
 use Rattle.std.proofs.Math.Path.{◌≡◌, refl, sym, ap, ap₂, subst}
 use Rattle.std.proofs.Common.{◌∙◌, arith}
-use Rattle.std.specs.Prelude.{◌⊎◌, ℕ, ◌+◌, Bool, ◌&&◌, ◌||◌}
+use Rattle.std.specs.Prelude.{ℕ, ◌+◌, Bool, ◌&&◌, ◌||◌}
 use Rattle.std.proofs.Math.Logic.{⊎_elim}
 use Rattle.std.proofs.Math.Bool.{true, false, not}
 use Rattle.std.proofs.lemmas.Bool.{false≢true}
@@ -9,7 +9,7 @@ use Rattle.std.proofs.Math.Option
 use Rattle.std.proofs.Math.Option.{Option, none, some}
 use mathlib.Core.List.Memᴰ
 use mathlib.Core.List.Permᴰ
-use mathlib.Core.List.{List, [], ◌∷◌, ◌++◌, map, map_append, Memᴰ}
+use mathlib.Core.List.{List, [], ◌∷◌, ◌++◌, map, map-append, Memᴰ}
 use Rattle.meaning.specs.Lists.{pick, any, first, or_else, first_some, none_in, each, first_bad}
 use Rattle.meaning.specs.Names.{Name, same, member}
 use Rattle.meaning.specs.Syntax.{Function, Signature, Parameter, Variable, Term, node, Terms, no_terms, ◌then◌, Sides, Equation, Module, conditions_of, group_variables, variables_of}
@@ -38,7 +38,7 @@ pub each_map : {A B C D : Type 0} (g : A → B) (h : C → D) (f : B → List D)
     → each f (map g xs) ≡ map h (each f' xs)
 unfolding each
 each_map g h f f' e [] = refl
-each_map g h f f' e (x ∷ xs) = ap₂ (λ (u v : List _). u ++ v) (e x) (each_map g h f f' e xs) ∙ sym (map_append h (f' x) (each f' xs))
+each_map g h f f' e (x ∷ xs) = ap₂ (λ (u v : List _). u ++ v) (e x) (each_map g h f f' e xs) ∙ sym (map-append h (f' x) (each f' xs))
 
 or_else_map : {A B : Type 0} (h : A → B) (a b : Option A) → or_else (Option.map h a) (Option.map h b) ≡ Option.map h (or_else a b)
 unfolding or_else
@@ -108,7 +108,7 @@ module _ (τ : Name → Name) (keeps : (v w : Name) → same (τ v) (τ w) ≡ s
     own_section_kept c g =
         ap₂ (λ (u v : List Item). u ++ v) (map_twice τ (own_sort m' seen' c) (own_sort m seen c) (re_item τ) (λ a. refl) g.sorts)
         (map_twice (re_function τ) (own_function m' seen' c) (own_function m seen c) (re_item τ) (own_function_kept c) g.functions)
-        ∙ sym (map_append (re_item τ) (map (own_sort m seen c) g.sorts) (map (own_function m seen c) g.functions))
+        ∙ sym (map-append (re_item τ) (map (own_sort m seen c) g.sorts) (map (own_function m seen c) g.functions))
 
     own_visible_items_kept : (own_visible m' seen').items ≡ map (re_item τ) (own_visible m seen).items
     unfolding own_visible re_module re_parameter
@@ -117,7 +117,7 @@ module _ (τ : Name → Name) (keeps : (v w : Name) → same (τ v) (τ w) ≡ s
         (each_map (re_parameter τ) (re_item τ) (λ (p : Parameter). own_section m' seen' (parameter_section p.name) p.signature)
         (λ (p : Parameter). own_section m seen (parameter_section p.name) p.signature)
         (λ p. own_section_kept (parameter_section p.name) p.signature) m.parameters) (own_section_kept export_section m.exports)
-        ∙ sym (map_append (re_item τ) (each (λ (p : Parameter). own_section m seen (parameter_section p.name) p.signature) m.parameters)
+        ∙ sym (map-append (re_item τ) (each (λ (p : Parameter). own_section m seen (parameter_section p.name) p.signature) m.parameters)
         (own_section m seen export_section m.exports))
 
     pub own_visible_alike : AlikeVisible τ keeps (own_visible m seen) (own_visible m' seen')
@@ -143,7 +143,7 @@ module _ (τ : Name → Name) (keeps : (v w : Name) → same (τ v) (τ w) ≡ s
     own_hidden_kept =
         ap₂ (λ (u v : List Item). u ++ v) (own_section_kept hidden_section m.hidden) (ap (map (own_variable m' seen')) (variables_kept m)
         ∙ map_twice re_variable (own_variable m' seen') (own_variable m seen) (re_item τ) own_variable_kept (variables_of m))
-        ∙ sym (map_append (re_item τ) (own_section m seen hidden_section m.hidden) (map (own_variable m seen) (variables_of m)))
+        ∙ sym (map-append (re_item τ) (own_section m seen hidden_section m.hidden) (map (own_variable m seen) (variables_of m)))
 
     -- ---- 13
 
@@ -337,7 +337,7 @@ module _ (τ : Name → Name) (keeps : (v w : Name) → same (τ v) (τ w) ≡ s
 
     conditions_kept : (e : Equation) → conditions_of (re_raw_equation τ e) ≡ map (re_raw_sides τ) (conditions_of e)
     unfolding conditions_of re_raw_equation
-    conditions_kept e = sym (map_append (re_raw_sides τ) e.before e.after)
+    conditions_kept e = sym (map-append (re_raw_sides τ) e.before e.after)
 
     made_kept : (home at : ℕ) (tag : Name) (o : Option ResolvedSides) (p : Option (List ResolvedSides)) (x : ResolvedEquation)
         → made_equation home at tag o p ≡ fine x

@@ -1,6 +1,6 @@
 -- Two visible parts that are alike: the second has the items of the first under a change of names, and the same parameters, in whatever order.
 -- Sorts have the same origins in both, the checks find as little, and they are united alike, where sorts of one name have one origin.
-use Rattle.std.specs.Prelude.{◌≡◌, ◌⊎◌, Bool, true, false}
+use Rattle.std.specs.Prelude.{◌≡◌, Bool, true, false}
 use Rattle.std.proofs.Math.Path.{refl, sym, ap, ap₂}
 use Rattle.std.proofs.Common.{subst, ◌∙◌, ⊎_elim}
 use Rattle.std.proofs.Math.Bool.{not}
@@ -8,7 +8,7 @@ use Rattle.std.proofs.Math.Option
 use Rattle.std.proofs.Math.Option.{Option, none, some}
 use mathlib.Core.List.Memᴰ
 use mathlib.Core.List.Permᴰ
-use mathlib.Core.List.{List, [], ◌∷◌, ◌++◌, map, map_append, Memᴰ}
+use mathlib.Core.List.{List, [], ◌∷◌, ◌++◌, map, map-append, Memᴰ}
 use Rattle.meaning.specs.Lists.{pick, keep, any, first, all_among, union}
 use Rattle.meaning.specs.Names.{Name, same, member}
 use Rattle.meaning.specs.Origins.{Origin, Sort, visible_sort, hidden_sort, Shape, sort_shape, function_shape, variable_shape, is_sort, Item, one_item}
@@ -184,7 +184,7 @@ module _ (τ : Name → Name) (keeps : (v w : Name) → same (τ v) (τ w) ≡ s
   -- with items of a module's own behind them
   pub known_alike : {v v' : Visible} → AlikeVisible v v' → (own : List Item) → Like (re_item τ) (v.items ++ own) (v'.items ++ map (re_item τ) own)
   known_alike {v} a own =
-      like (re_item τ) (v.items ++ own) (sym (map_append (re_item τ) v.items own)) (Permᴰ.append_right (map (re_item τ) own) a.items.arranged)
+      like (re_item τ) (v.items ++ own) (sym (map-append (re_item τ) v.items own)) (Permᴰ.append_right (map (re_item τ) own) a.items.arranged)
 
   clear_alike : {v v' : Visible} → AlikeVisible v v' → (own : List Item) → Clear v own → Clear v' (map (re_item τ) own)
   clear_alike {v} {v'} a own h =

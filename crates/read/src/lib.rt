@@ -1,4 +1,6 @@
 // The grammar: a text is read token by token, and what it says is written to the tape; or it is refused, with a number and a place.
+#![tactic(auto)]
+
 ghost use Rattle.std.specs.Prelude.{◌≡◌, length, replicate};
 ghost use Rattle.read_steps.specs.Model.{out, wiped, read};
 ghost use Rattle.read_known.specs.Known.{named_so};

@@ -1,4 +1,6 @@
 // Two texts on one tape: what the library says, its places moved by the length of the customer's text, and behind it what that text says.
+#![tactic(auto)]
+
 ghost use Rattle.std.specs.Prelude.{◌≡◌, ◌≤◌, length};
 ghost use Rattle.modules.specs.Modules.{heads_in};
 ghost use Rattle.read_both.specs.Both.{moved, WordsOf, Stands, Told};
@@ -8,7 +10,7 @@ use modules::{HEADS, Heads, module_count, name_of_module};
 use read_steps::Reading;
 
 // What was read: so many entries; or a refusal, in the library or in the customer's text.
-#[derive(Drop)]
+#[derive(Clone, Copy)]
 pub enum Both {
     Done(usize),
     Refused {

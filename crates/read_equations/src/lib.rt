@@ -1,2 +1,4 @@
 // Variables and equations, written to the tape.
+#![tactic(auto)]
+
 pub mod equations;

@@ -1,4 +1,6 @@
 // Names of the modules that stand before a text, in the library.
+#![tactic(auto)]
+
 ghost use Rattle.std.specs.Prelude.{◌≡◌};
 ghost use Rattle.meaning.specs.Names.{member};
 ghost use Rattle.text_names.specs.Word.{name_of};

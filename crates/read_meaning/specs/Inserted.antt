@@ -3,7 +3,7 @@ use Rattle.std.specs.Prelude.{◌≡◌, refl, get_or, set}
 use Rattle.std.proofs.Math.Path.{sym, ap}
 use Rattle.std.proofs.Common.{◌∙◌, take-append-drop, length-set, take-suc-set, drop-set-lt, drop-cons, drop-drop, take-take}
 use Prim.Native.Nat.{ℕ, zero, suc, ◌+◌, ◌-◌, ◌<◌, ◌≤◌}
-use mathlib.Core.List.{List, [], ◌∷◌, ◌++◌, append_assoc, map, map_append}
+use mathlib.Core.List.{List, [], ◌∷◌, ◌++◌, append_assoc, map, map-append}
 use native.Mathlib.Omega.{arith}
 use Rattle.std.proofs.Math.ListN.{length, take, drop, length-take, length-drop, length-append, length-map}
 use Rattle.std.proofs.Math.Seq.{take-add, take_at, drop_at}
@@ -110,7 +110,7 @@ module _ {text : List ℕ} {i j : ℕ} {p q : Place} {t u : List ℕ} {es : List
       let apart : take q.entries u ≡ ws ++ vs = ap (λ (k : ℕ). take k u) (sym both) ∙ take-add p.entries (q.entries - p.entries) u in
       let long : length (map (spelled text) ws) ≡ p.entries = ap length first_part ∙ entries_long in
       sym (drop_at (map (spelled text) ws) (map (spelled text) vs) p.entries long)
-      ∙ ap (drop p.entries) (sym (map_append (spelled text) ws vs) ∙ ap (map (spelled text)) (sym apart) ∙ s.said)
+      ∙ ap (drop p.entries) (sym (map-append (spelled text) ws vs) ∙ ap (map (spelled text)) (sym apart) ∙ s.said)
       ∙ drop_at (entries text p.entries t) es p.entries entries_long
 
   module _ (w k : ℕ) (v : Token) (f : q.entries < length u) (y : Lies text w) (z : Stands text v) (g : q.token.start < v.start) where
@@ -121,7 +121,7 @@ module _ {text : List ℕ} {i j : ℕ} {p q : Place} {t u : List ℕ} {es : List
     unfolding entries
     inserted_said =
         ap (map (spelled text)) (pushed_front p.entries q.entries w u ordered f)
-        ∙ map_append (spelled text) (take p.entries u) (w ∷ take (q.entries - p.entries) (drop p.entries u))
+        ∙ map-append (spelled text) (take p.entries u) (w ∷ take (q.entries - p.entries) (drop p.entries u))
         ∙ ap (λ (xs : List Entry). xs ++ (spelled text w ∷ map (spelled text) (take (q.entries - p.entries) (drop p.entries u)))) first_part
         ∙ ap (λ (xs : List Entry). entries text p.entries t ++ (spelled text w ∷ xs)) rest_part
 

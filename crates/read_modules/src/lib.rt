@@ -1,4 +1,6 @@
 // Modules, to the end of the text.
+#![tactic(auto)]
+
 ghost use Rattle.std.specs.Prelude.{◌≡◌};
 ghost use Rattle.read_steps.specs.Model.{out, onward, declares, taken, fresh_name, front, back, module_named, a_module, modules};
 ghost use Rattle.read_steps.specs.Steps.{twice};

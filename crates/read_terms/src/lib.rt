@@ -1,2 +1,4 @@
 // Terms, written to the tape.
+#![tactic(auto)]
+
 pub mod term;

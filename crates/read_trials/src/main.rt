@@ -1,5 +1,7 @@
 // Reads every text of standard input and prints what reading answers: 0 and how many entries the tape has, or the refusal's number and place.
 // A text stands behind a line with its name and its size.
+#![tactic(auto)]
+
 ghost use Rattle.std.specs.Prelude.{◌≤◌, length};
 
 use libc::{STDIN_FILENO, STDOUT_FILENO};

@@ -1,4 +1,6 @@
 // The lines of a listing, read one at a time by a cursor that is passed by value, and the part of a listing that its visible lines fill.
+#![tactic(auto)]
+
 ghost use Rattle.std.specs.Prelude.{◌≡◌};
 ghost use Rattle.meaning.specs.Tokens.{run_end};
 ghost use Rattle.meaning.specs.Answer.{in_line};
@@ -10,7 +12,7 @@ use text_tokens::number_in;
 
 // A line by its places in the listing. The key goes from the place that was read to `mark`, where `=` stands, and the value from `value`
 // to `end`, where LF stands; `next` is the place after the line. `number` is the key's, from 1 for `module` to 12 for `origin`.
-#[derive(Drop)]
+#[derive(Clone, Copy)]
 pub struct Places {
     pub number: usize,
     pub mark: usize,
@@ -20,7 +22,7 @@ pub struct Places {
 }
 
 // What stands at a place: a line, the end of the listing, or no line (answer 21), with the place where the reader stays.
-#[derive(Drop)]
+#[derive(Clone, Copy)]
 pub enum Line {
     Keyed(Places),
     End,
@@ -110,13 +112,13 @@ pub fn place_after(line: Line, at: usize) -> usize
 }
 
 // A place in a listing that the caller keeps.
-#[derive(Drop)]
+#[derive(Clone, Copy)]
 pub struct Cursor {
     pub at: usize,
 }
 
 // What was read, and the cursor after it.
-#[derive(Drop)]
+#[derive(Clone, Copy)]
 pub struct Step {
     pub line: Line,
     pub cursor: Cursor,

@@ -1,12 +1,14 @@
 // The listing reader as a struct that holds the lent listing together with its place. The work is `reader`'s, on a plain slice and a
 // number; these functions are thin, and `line_from`, whose parameters are plain, is for all other callers.
+#![tactic(auto)]
+
 ghost use Rattle.std.specs.Prelude.{◌≡◌};
 ghost use Rattle.reader.specs.Places.{LineRead};
 ghost use Rattle.reader_held.specs.Handed.{Handed};
 
 use reader::{Line, line_at, place_after};
 
-#[derive(Drop)]
+#[derive(Clone, Copy)]
 pub struct Reader<'a> {
     pub listing: &'a [u8],
     pub at: usize,

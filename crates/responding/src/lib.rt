@@ -1,5 +1,7 @@
 // What `asfnorm` prints for its input: the first line says what is asked for and names the module, the second may say how long the library
 // behind it is, and the rest is the text. All that it works with is lent.
+#![tactic(auto)]
+
 ghost use Rattle.std.specs.Prelude.{◌≡◌, length};
 ghost use Rattle.meaning.specs.Texts.{two_texts};
 ghost use Rattle.meaning.specs.Answer.{answer_behind, unasked};
@@ -17,7 +19,7 @@ use input_lines::{Framing, framed, has_request, line_end};
 use meaning::numbers;
 
 // What a first line asks for.
-#[derive(Drop)]
+#[derive(Clone, Copy)]
 pub enum Request {
     NormalForm,
     Diagram,

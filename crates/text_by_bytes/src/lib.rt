@@ -1,4 +1,6 @@
 // Two texts compared by their bytes.
+#![tactic(auto)]
+
 ghost use Rattle.std.specs.Prelude.{◌≡◌};
 ghost use Rattle.text_runs.specs.Orders.{bytes_compared};
 

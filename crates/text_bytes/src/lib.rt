@@ -1,4 +1,6 @@
 // The bytes of a text, and of two as one, the customer's text with the library behind it; and how many of them a name's token may have.
+#![tactic(auto)]
+
 ghost use Rattle.std.specs.Prelude.{◌≡◌, ◌%◌, min, get_or};
 ghost use Rattle.text_bytes.specs.Joint.{joint};
 

@@ -1,4 +1,6 @@
 // Names compared on slices as far as is seen at once, that is unless a run of digits has a zero in front.
+#![tactic(auto)]
+
 ghost use Rattle.std.specs.Prelude.{◌≡◌, true, ◌+◌, ◌<◌, ltb, length, get_or, drop};
 ghost use Rattle.meaning.specs.Names.{is_digit};
 ghost use Rattle.text_runs.specs.Runs.{digits_of, by_size, plainly_compared, has_zeros, plain_size, Seen, Decides};

@@ -1,4 +1,6 @@
 // Two names of two texts as one, compared element by element wherever they lie: an element is a run of digits, or one other byte.
+#![tactic(auto)]
+
 ghost use Rattle.std.specs.Prelude.{◌≡◌, ◌+◌, ◌<◌, ◌≤◌, length, take, drop};
 ghost use Rattle.text_spelling.specs.Word.{name_of};
 ghost use Rattle.text_spelling.specs.Joint.{joint};

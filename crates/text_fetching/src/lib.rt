@@ -1,4 +1,6 @@
 // A module's text: the part of whichever of the two lent texts declares it. Nothing is copied.
+#![tactic(auto)]
+
 ghost use Rattle.std.specs.Prelude.{◌≡◌};
 ghost use Rattle.meaning.specs.Texts.{two_texts, ends_part, part_end, no_part, part_of, fetched, part_bytes};
 

@@ -1,4 +1,6 @@
 // Single bytes, layout, comments and runs of signs: what a token is found by.
+#![tactic(auto)]
+
 ghost use Rattle.std.specs.Prelude.{◌≡◌, ◌-◌, ltb, length, get_or, drop};
 ghost use Rattle.meaning.specs.Lists.{pick};
 ghost use Rattle.meaning.specs.Tokens.{is_in, is_layout, is_newline, is_mark, is_symbol};

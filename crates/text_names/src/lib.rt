@@ -1,5 +1,7 @@
 // Names of a text: which of two comes first. The bytes of a name (`text_spelling`) and of two texts (`text_by_bytes`), where an identifier ends
 // (`text_words`) and whether two names are the same (`text_places`) are handed on.
+#![tactic(auto)]
+
 pub mod joint;
 
 ghost use Rattle.std.specs.Prelude.{◌≡◌};

@@ -1,4 +1,6 @@
 // Where the token of a name stands in a text, and whether two names of it are the same: plain ones where they stand, all others byte by byte.
+#![tactic(auto)]
+
 ghost use Rattle.std.specs.Prelude.{◌≡◌, ◌+◌, ◌/◌, min, length};
 ghost use Rattle.meaning.specs.Names.{same};
 ghost use Rattle.text_spelling.specs.Word.{token_of, name_of};

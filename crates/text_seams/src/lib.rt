@@ -1,4 +1,6 @@
 // Where names of two texts as one stand: in the customer's text, apart from the seam, or in the library behind it.
+#![tactic(auto)]
+
 ghost use Rattle.std.specs.Prelude.{◌≡◌, length};
 ghost use Rattle.text_seams.specs.Sides.{has_room, have_room, both_behind};
 

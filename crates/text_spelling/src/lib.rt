@@ -1,5 +1,7 @@
 // The bytes of a name, and whether two are spelled alike: of one text, and of two as one, the customer's text with the library behind it. A name is one
 // word: the place where its token starts times 256, its form (plain, or a prefix or infix operator) times 64, and its token's length.
+#![tactic(auto)]
+
 ghost use Rattle.std.specs.Prelude.{◌≡◌, ◌+◌, length, get_or};
 ghost use Rattle.meaning.specs.Names.{same, is_digit, is_operator, is_infix};
 ghost use Rattle.text_spelling.specs.Word.{leading, trailing, token_of, name_of};

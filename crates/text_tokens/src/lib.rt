@@ -1,4 +1,6 @@
 // The tokens of a text, each found from a place on.
+#![tactic(auto)]
+
 ghost use Rattle.std.specs.Prelude.{◌≡◌, ◌<◌, ◌≤◌, length};
 ghost use Rattle.meaning.specs.Names.{words};
 ghost use Rattle.meaning.specs.Tokens.{run_end, token, equals_at, word_at, dotted_at, start_at, token_at, number_in, word_kind};

@@ -1,4 +1,6 @@
 // Identifiers of a text: which bytes they have, and where one ends.
+#![tactic(auto)]
+
 ghost use Rattle.std.specs.Prelude.{◌≡◌};
 ghost use Rattle.meaning.specs.Tokens.{is_word, run_end, at_hyphen, at_word};
 

@@ -1,6 +1,8 @@
 // Runs every case of standard input through `respond` and compares what is printed, byte for byte, with what must be. A case is a line
 // `MEMORY OUTPUT INPUT PRINTED NAME`, four numbers of seven digits: the words and bytes to lend, and the sizes of the input and of what must be
 // printed, which follow.
+#![tactic(auto)]
+
 ghost use Rattle.std.specs.Prelude.{◌≤◌, length};
 
 use libc::{STDIN_FILENO, STDOUT_FILENO};
@@ -91,7 +93,7 @@ fn behind(at: usize, size: usize) -> usize
 }
 
 // Where the parts of a case lie: the input, what must be printed, and the next case.
-#[derive(Drop)]
+#[derive(Clone, Copy)]
 struct Places {
     input: usize,
     printed: usize,
@@ -111,7 +113,7 @@ fn places_of(cases: &[u8], line: &[u8], end: usize) -> Places {
 }
 
 // Whether a case went well, and where the next one starts.
-#[derive(Drop)]
+#[derive(Clone, Copy)]
 struct Ran {
     well: bool,
     next: usize,

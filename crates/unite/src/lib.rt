@@ -1,5 +1,7 @@
 // One normal form united with another, which lies in a block of the working memory, through a translation: its parameters that are no
 // others go behind, its items are absorbed and noted, and its equations are joined through the notes.
+#![tactic(auto)]
+
 ghost use Rattle.std.specs.Prelude.{◌≡◌, ◌≤◌, length};
 ghost use Rattle.text_names.specs.Joint.{joint};
 ghost use Rattle.unite_items.specs.Turns.{RoomWithin, Room};

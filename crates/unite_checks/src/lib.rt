@@ -1,11 +1,13 @@
 // The checks after each clause and each union: parameters of one name, clashes, overloading, and room.
+#![tactic(auto)]
+
 pub mod checked;
 pub mod clashes;
 pub mod consistency;
 pub mod room;
 
 // The word of a culprit's name, or none.
-#[derive(Drop)]
+#[derive(Clone, Copy)]
 pub enum Found {
     At(u32),
     Nothing,

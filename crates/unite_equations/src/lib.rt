@@ -1,5 +1,7 @@
 // The equations of one normal form absorbed into another, in one working memory: their nodes go through notes of where the items went,
 // and an equation that is there already is not added.
+#![tactic(auto)]
+
 ghost use Rattle.std.specs.Prelude.{◌≡◌, ◌+◌, ◌*◌, ◌≤◌, ◌<◌, length};
 ghost use Rattle.text_names.specs.Joint.{joint};
 ghost use Rattle.form.specs.Forms.{equation_row_at, equation_size};

@@ -3,7 +3,7 @@ use mathlib.Core.Path.{◌≡◌, refl, sym, ap, ap₂, subst, ◌∙◌}
 use mathlib.Core.Logic.{inl, inr, ⊎_elim}
 use Prim.Native.Nat.{ℕ, ◌+◌, ◌-◌, ◌*◌, ◌≤◌, ◌<◌}
 use mathlib.Core.Bool.{Bool, true, false, false≢true}
-use mathlib.Core.List.{List, [], ◌∷◌, ◌++◌, map, map_append, append-nil}
+use mathlib.Core.List.{List, [], ◌∷◌, ◌++◌, map, map-append, append-nil}
 use native.Mathlib.Omega.{arith}
 use native.Mathlib.Numerals.{add-one}
 use lib.Dec.{eqb}
@@ -246,7 +246,7 @@ module _ (text w₀ : List ℕ) (t : ℕ) (m : Mode) (visible drop : Bool) (s ns
         let e : ns ≡ k + (ns - k) = omega arith in
         ap come e ∙ ap (λ (xs : List Item). map new (keep wanted xs)) (items_split text tape w₀ s k (ns - k))
         ∙ ap (map new) (keep_append wanted (items_at text tape w₀ s k) (items_at text tape w₀ (s + k * row_size) (ns - k)))
-        ∙ map_append new (keep wanted (items_at text tape w₀ s k)) (keep wanted (items_at text tape w₀ (s + k * row_size) (ns - k)))
+        ∙ map-append new (keep wanted (items_at text tape w₀ s k)) (keep wanted (items_at text tape w₀ (s + k * row_size) (ns - k)))
 
     pub absorb_full : k < ns → cap ≤ n → AbsorbedWithin text tape w₀ m visible drop s ns d nd o cap n w
     absorb_full h l =

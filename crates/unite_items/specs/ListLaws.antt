@@ -3,7 +3,7 @@ use Rattle.std.specs.Prelude.{◌≡◌, ℕ, ◌<◌, Bool, length}
 use Rattle.std.proofs.Math.Path.{refl}
 use Rattle.std.proofs.Common.{ap, ◌∙◌, arith}
 use Rattle.std.proofs.Math.Bool.{true, false}
-use mathlib.Core.List.{List, [], ◌∷◌, ◌++◌, map, map_append}
+use mathlib.Core.List.{List, [], ◌∷◌, ◌++◌, map, map-append}
 use Rattle.std.proofs.Math.ListN.{get_or, length-append, get_or-append}
 use Rattle.meaning.specs.Lists.{pick, keep, any, union}
 use Rattle.form_walks.specs.Lists.{keep_append}
@@ -46,7 +46,7 @@ module _ {A : Type 0} (e : A → A → Bool) where
 
 module _ {A B : Type 0} (p : A → Bool) (f : A → B) (x : A) where
   pub map_keep_more : (xs : List A) → map f (keep p (xs ++ (x ∷ []))) ≡ map f (keep p xs) ++ map f (keep p (x ∷ []))
-  map_keep_more xs = ap (map f) (keep_append p xs (x ∷ [])) ∙ map_append f (keep p xs) (keep p (x ∷ []))
+  map_keep_more xs = ap (map f) (keep_append p xs (x ∷ [])) ∙ map-append f (keep p xs) (keep p (x ∷ []))
 
   pub keep_taken : p x ≡ true → map f (keep p (x ∷ [])) ≡ f x ∷ []
   unfolding keep pick

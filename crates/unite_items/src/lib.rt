@@ -1,4 +1,6 @@
 // Items of one table absorbed into another, all in one working memory: each is found there, or goes behind. A note says where each went.
+#![tactic(auto)]
+
 ghost use Rattle.std.specs.Prelude.{◌≡◌, ◌≤◌, length};
 ghost use Rattle.text_names.specs.Joint.{joint};
 ghost use Rattle.form_rows.specs.Rows.{item_of};

@@ -1,6 +1,6 @@
 -- What tests tell of nodes, in the code's terms: p, q and r are answers, and the premises are what led there.
 use mathlib.Core.Path.{◌≡◌, refl, sym, ◌∙◌}
-use mathlib.Core.Bool.{Bool, true, false, ◌&&◌, and_true, and_false}
+use mathlib.Core.Bool.{Bool, true, false, ◌&&◌, and-true, and-false}
 use mathlib.Core.List.{List}
 use Prim.Native.Nat.{ℕ, ◌+◌, ◌-◌, ◌*◌, ◌/◌, ◌%◌, ◌<◌, ◌≤◌}
 use native.Mathlib.Omega.{arith}
@@ -66,13 +66,13 @@ module _ (text tape : List ℕ) (o : Origin) (w : ℕ) where
       sort_names f = sym (sort_odd ∙ rw (← e, f) (go (homes && sections) (eqb (kind_at tape o.place) 0)))
         where
           go : (a k : Bool) → (a && pick k false false) ≡ false
-          go a true = and_false a
-          go a false = and_false a
+          go a true = and-false a
+          go a false = and-false a
 
       module _ (k : ℕ) (f : p ≡ true) (ek : k ≡ kind_at tape o.place) where
         pub sort_kind : (k ≡ 0 → ⊥) → false ≡ sort_is
         unfolding pick
-        sort_kind g = sym (sort_odd ∙ rw (← ek, ne_eqb k 0 g) (and_false (homes && sections)))
+        sort_kind g = sym (sort_odd ∙ rw (← ek, ne_eqb k 0 g) (and-false (homes && sections)))
 
         module _ (g : k ≡ 0) (m : ℕ) (q : Bool) (em : m ≡ home_at tape (w / 2)) (eq : q ≡ same (name_of text o.home) (name_of text m)) where
           pub sort_home : q ≡ false → false ≡ sort_is
@@ -80,7 +80,7 @@ module _ (text tape : List ℕ) (o : Origin) (w : ℕ) where
 
           pub sort_told : (r : Bool) → q ≡ true → r ≡ same_section (section_of text o.section) (section_of text Hidden) → r ≡ sort_is
           unfolding pick section_of
-          sort_told r i j = sym (sort_odd ∙ rw (← em, ← eq, i, ← ek, eq-eqb k 0 g, ← e, f, ← j) (and_true r))
+          sort_told r i j = sym (sort_odd ∙ rw (← em, ← eq, i, ← ek, eq-eqb k 0 g, ← e, f, ← j) (and-true r))
 
 -- ---- `same_node_sorts`
 
@@ -217,8 +217,8 @@ module _ (text tape : List ℕ) (u : ℕ) (a : Row) (v : ℕ) (b : Row) where
 
       bools : (e s n : Bool) → pick e (pick s n false) false ≡ (e && (n && s))
       unfolding pick
-      bools true true n = sym (and_true n)
-      bools true false n = sym (and_false n)
+      bools true true n = sym (and-true n)
+      bools true false n = sym (and-false n)
       bools false s n = refl
 
       functions_one : functions_agree text tape u a v b ≡ (eqb (u % 16) (v % 16) && same_head (head_at text tape a h (eqb (u / 16 % 2) 0)) (head_at text tape b g (eqb (v / 16 % 2) 0)))
@@ -235,11 +235,11 @@ module _ (text tape : List ℕ) (u : ℕ) (a : Row) (v : ℕ) (b : Row) where
           go true false e f =
               let x = eqb-true (u / 16 % 2) 0 e in
               let y = eqb-false (v / 16 % 2) 0 f in
-              rw (ne_eqb (u % 32) (v % 32) (λ z. omega arith)) (sym (and_false (eqb (u % 16) (v % 16))))
+              rw (ne_eqb (u % 32) (v % 32) (λ z. omega arith)) (sym (and-false (eqb (u % 16) (v % 16))))
           go false true e f =
               let x = eqb-false (u / 16 % 2) 0 e in
               let y = eqb-true (v / 16 % 2) 0 f in
-              rw (ne_eqb (u % 32) (v % 32) (λ z. omega arith)) (sym (and_false (eqb (u % 16) (v % 16))))
+              rw (ne_eqb (u % 32) (v % 32) (λ z. omega arith)) (sym (and-false (eqb (u % 16) (v % 16))))
           go false false e f =
               let x = eqb-false (u / 16 % 2) 0 e in
               let y = eqb-false (v / 16 % 2) 0 f in

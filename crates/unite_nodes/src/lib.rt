@@ -1,5 +1,7 @@
 // Nodes of equations compared and copied, in one working memory: a copied node goes through notes of where its item went. The definitions are those
 // of whole equations too, which `unite_equations` absorbs.
+#![tactic(auto)]
+
 ghost use Rattle.std.specs.Prelude.{◌≡◌, ◌+◌, ◌/◌, ◌%◌, ◌≤◌, length, set, get_or, eqb};
 ghost use Rattle.meaning.specs.Origins.{hidden_sort, same_sort};
 ghost use Rattle.text_names.specs.Joint.{joint};
@@ -19,7 +21,7 @@ use form_sections::Section;
 
 // Where the notes of visible and of hidden items stand, a word for each row of the source; and how many equations and nodes the
 // destination has room for.
-#[derive(Drop)]
+#[derive(Clone, Copy)]
 pub struct Notes {
     pub visible: u32,
     pub hidden: u32,

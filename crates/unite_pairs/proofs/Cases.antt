@@ -1,6 +1,6 @@
 -- What the places of the tests on two items ask, one law each: the hypotheses are the facts that the place has.
 use mathlib.Core.Path.{◌≡◌, refl, sym, ap, ◌∙◌}
-use mathlib.Core.Bool.{Bool, true, false, and_true, and_false}
+use mathlib.Core.Bool.{Bool, true, false, and-true, and-false}
 use mathlib.Core.List.{List, map}
 use Prim.Native.Nat.{ℕ, ◌-◌, ◌≤◌, ◌<◌, min}
 use native.Mathlib.Omega.{arith}
@@ -159,7 +159,7 @@ module _ (text tape : List ℕ) (k : ℕ) (a : List ℕ) (l : ℕ) (b : List ℕ
       unfolding overloaded_types type_of
       types_one q =
           let s = sort_of text tape in
-          rw (← g, q) (sym (and_false (agree same_sort (map s (take (k - 2) a)) (map s (take (l - 2) b)))))
+          rw (← g, q) (sym (and-false (agree same_sort (map s (take (k - 2) a)) (map s (take (l - 2) b)))))
 
       pub types_told : (r : Bool) → p ≡ false
           → r ≡ agree same_sort (map (sort_of text tape) (take n a)) (map (sort_of text tape) (take n b)) → r ≡ overloaded_types text tape k a l b
@@ -168,7 +168,7 @@ module _ (text tape : List ℕ) (k : ℕ) (a : List ℕ) (l : ℕ) (b : List ℕ
           let s = sort_of text tape in
           let x : take n a ≡ take (k - 2) a = ap (λ (i : ℕ). take i a) e ∙ take_nine (k - 2) a la in
           let y : take n b ≡ take (l - 2) b = ap (λ (i : ℕ). take i b) (h ∙ f) ∙ take_nine (l - 2) b lb in
-          rw (← g, q) ((rw (x, y) at t) ∙ sym (and_true (agree same_sort (map s (take (k - 2) a)) (map s (take (l - 2) b)))))
+          rw (← g, q) ((rw (x, y) at t) ∙ sym (and-true (agree same_sort (map s (take (k - 2) a)) (map s (take (l - 2) b)))))
 
   pub output_first : k < 2 → false ≡ other_output (shape_of text tape k a) (shape_of text tape l b)
   unfolding other_output

@@ -1,4 +1,6 @@
 // Tests on two items that have one name.
+#![tactic(auto)]
+
 ghost use Rattle.std.specs.Prelude.{◌≡◌};
 ghost use Rattle.meaning.specs.Checks.{other_origin, other_output, in_one_parameter, both_in_one};
 ghost use Rattle.meaning.specs.Names.{same};
@@ -14,7 +16,7 @@ use form_rows::{Row, kinds};
 use form_sections::Section;
 
 // What two items of one name are tested for.
-#[derive(Drop)]
+#[derive(Clone, Copy)]
 pub enum Test {
     Sorts,
     Functions,

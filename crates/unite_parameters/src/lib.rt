@@ -1,5 +1,7 @@
 // When a parameter of one normal form is one of another's (document 02, request Seven): of one name, declared in one module, and with the
 // same sorts and functions now, from the same places, over the same sorts.
+#![tactic(auto)]
+
 ghost use Rattle.std.specs.Prelude.{◌≡◌, ◌-◌, ◌^◌, ◌≤◌, ◌∷◌, length, get_or, take};
 ghost use Rattle.meaning.specs.Normal.{origin_of, origins_agree, sort_agrees, shape_agrees, same_formals, is_parameter_of};
 ghost use Rattle.text_names.specs.Word.{name_of};

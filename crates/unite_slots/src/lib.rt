@@ -1,4 +1,6 @@
 // Parameters of normal forms in the working memory by their slots: the name, and the module that declares it.
+#![tactic(auto)]
+
 ghost use Rattle.std.specs.Prelude.{◌≡◌, ◌^◌, ◌≤◌};
 ghost use Rattle.meaning.specs.Lists.{any};
 ghost use Rattle.meaning.specs.Normal.{same_slot};

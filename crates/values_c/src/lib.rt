@@ -1,4 +1,6 @@
 // Values handed over in lent slices, where there is room: a slice that is too short is no fault, and what has no place there is left out.
+#![tactic(auto)]
+
 ghost use Rattle.std.specs.Prelude.{◌≡◌, [], ◌∷◌, ◌≤◌, set};
 ghost use Rattle.values_c.specs.Values.{laid, bit_of};
 

@@ -1,4 +1,6 @@
 // Reads a listing from standard input, of at most 65,536 bytes, and prints its visible part: what a console would store.
+#![tactic(auto)]
+
 use libc::{STDIN_FILENO, STDOUT_FILENO};
 
 fn main() {

@@ -1,0 +1,38 @@
+-- `text_comparing::plain_end` meets its contract.
+-- Assumes nothing.
+use Rattle.text_spelling.proofs.Auto.{on, done}
+use Rattle.text_comparing.proofs.Plain.{cases}
+use Rattle.text_comparing.proofs.plain_end.Goals as goal
+
+pub loop-i-init : goal.loop-i-init
+loop-i-init c = search cases
+
+pub returns-then-b-i : goal.returns-then-b-i
+returns-then-b-i c = search (done, cases)
+
+pub bounds-a-i : goal.bounds-a-i
+bounds-a-i c = search cases
+
+pub bounds-b-i : goal.bounds-b-i
+bounds-b-i c = search cases
+
+pub returns-then-a-i : goal.returns-then-a-i
+returns-then-a-i c = search (done, cases)
+
+pub bounds-a-i-in-loop-i : goal.bounds-a-i-in-loop-i
+bounds-a-i-in-loop-i c = search cases
+
+pub returns-then-is_digit : goal.returns-then-is_digit
+returns-then-is_digit c = search (done, cases)
+
+pub overflow_add-i : goal.overflow_add-i
+overflow_add-i c = search cases
+
+pub loop-i-smaller : goal.loop-i-smaller
+loop-i-smaller c = search cases
+
+pub loop-i-preserved : goal.loop-i-preserved
+loop-i-preserved c = search (on, cases)
+
+pub returns : goal.returns
+returns c = search (done, cases)

@@ -1,0 +1,9 @@
+-- `values_c::bit` meets its contract. Assumes nothing.
+use Rattle.values_c.proofs.Cases.{cases}
+use Rattle.values_c.proofs.bit.Goals as goal
+
+pub returns-then-b : goal.returns-then-b
+returns-then-b c = search cases
+
+pub returns : goal.returns
+returns c = search cases
