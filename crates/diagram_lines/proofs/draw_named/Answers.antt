@@ -1,0 +1,9 @@
+use Rattle.diagram_lines.proofs.Cases.{cases}
+use borrow.Author.Rules.{rules}
+use Rattle.diagram_lines.proofs.draw_named.Goals as goal
+
+pub returns-then-lines-ge-LINES : goal.returns-then-lines-ge-LINES
+returns-then-lines-ge-LINES c = search cases
+
+pub returns : goal.returns
+returns c = search cases
