@@ -1,5 +1,4 @@
 use Rattle.diagram_lines.proofs.Cases.{cases}
-use borrow.Author.Rules.{rules}
 use Rattle.diagram_lines.proofs.draw_named.Goals as goal
 
 pub returns-then-lines-ge-LINES : goal.returns-then-lines-ge-LINES

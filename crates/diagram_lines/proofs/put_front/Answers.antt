@@ -1,5 +1,4 @@
 use Rattle.diagram_lines.proofs.Cases.{cases}
-use borrow.Author.Rules.{rules}
 use Rattle.diagram_lines.proofs.put_front.Goals as goal
 
 pub returns : goal.returns

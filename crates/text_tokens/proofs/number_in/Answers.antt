@@ -1,10 +1,5 @@
 -- `text_tokens::number_in` meets its contract: what is left of the table is searched as the whole is, with the number of the next word.
 -- Assumes nothing.
-use mathlib.Core.Path.{◌≡◌}
-use Prim.Native.Nat.{◌+◌, ◌-◌, ◌≤◌}
-use lib.ListN.{length, drop}
-use Rattle.meaning.specs.Names.{words}
-use Rattle.meaning.specs.Tokens.{number_in}
 use Rattle.text_names.proofs.Auto.{on, done, told}
 use Rattle.text_names.proofs.Runs.{run_from, run_to}
 use Rattle.text_tokens.proofs.Keywords.{run_less, run_count, table_hit, table_miss, table_last}
@@ -22,3 +17,12 @@ loop-at-smaller c = search (run_less, rules)
 
 pub loop-at-preserved : goal.loop-at-preserved
 loop-at-preserved c = (search rules, search (run_count, rules), search (on, table_miss, told, rules))
+
+pub slice_bounds-same_bytes-count : goal.slice_bounds-same_bytes-count
+slice_bounds-same_bytes-count c = search (run_from, rules)
+
+pub slice_bounds-same_bytes-start : goal.slice_bounds-same_bytes-start
+slice_bounds-same_bytes-start c = search (run_from, rules)
+
+pub slice_bounds-same_bytes-end : goal.slice_bounds-same_bytes-end
+slice_bounds-same_bytes-end c = search (run_to, rules)

@@ -5,10 +5,6 @@ use Prim.Native.Nat.{◌+◌, ◌-◌, ◌≤◌}
 use lib.ListN.{length, drop}
 use Rattle.meaning.specs.Names.{words}
 use Rattle.meaning.specs.Tokens.{number_in}
-use Rattle.text_names.proofs.Auto.{on, done, told}
-use Rattle.text_names.proofs.Runs.{run_from, run_to}
-use Rattle.text_tokens.proofs.Keywords.{run_less, run_count, table_hit, table_miss, table_last}
-use borrow.Author.Rules.{rules}
 use Rattle.text_tokens.proofs.number_in.Given as goal
 
 abbrev pub invariant-loop-at : goal.invariant-loop-at

@@ -1,9 +1,5 @@
 -- `text_tokens::word_stop` meets its contract.
 -- Assumes nothing.
-use mathlib.Core.Path.{◌≡◌}
-use Prim.Native.Nat.{◌-◌}
-use lib.ListN.{length}
-use Rattle.meaning.specs.Tokens.{run_end}
 use Rattle.text_tokens.specs.Table.{in_word}
 use Rattle.text_names.proofs.Auto.{on, done, tests}
 use Rattle.text_names.proofs.Runs.{run_on, run_stop, run_ends, front}

@@ -5,9 +5,6 @@ use Prim.Native.Nat.{◌-◌}
 use lib.ListN.{length}
 use Rattle.meaning.specs.Tokens.{run_end}
 use Rattle.text_tokens.specs.Table.{in_word}
-use Rattle.text_names.proofs.Auto.{on, done, tests}
-use Rattle.text_names.proofs.Runs.{run_on, run_stop, run_ends, front}
-use borrow.Author.Rules.{rules}
 use Rattle.text_tokens.proofs.word_stop.Given as goal
 
 abbrev pub invariant-loop-i : goal.invariant-loop-i
