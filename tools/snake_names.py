@@ -16,11 +16,8 @@ KEBAB = re.compile(r"[A-Za-z_][\w']*(?:-[\w']+)+")
 USE = re.compile(r"^(?:ghost |pub )*use ([^\s{;]+?)(?:\.\{([^}]*)\})?;?\s*$", re.M)
 HEAD = re.compile(r"^\s*(?:(?:unfoldable|abbrev|pub|reducible|constructor)\s+)*([^\s(){}:;]+)\s*:(?:\s|$)", re.M)
 
-CAMEL = {"after-head": "AfterHead"}  # a predicate: its type ends in Type 0
-
-
 def spelled(name):
-    return CAMEL.get(name, name.replace("-", "_"))
+    return name.replace("-", "_")
 
 
 def files(root):
@@ -116,6 +113,8 @@ def main(argv):
             new = renamed(text, here, "//")
         else:
             new = renamed(text, here, "--")
+        if path.startswith(os.path.join(root, "read_meaning")):
+            new = new.replace("after_head", "AfterHead")  # a predicate: its type ends in Type 0
         if new != text:
             open(path, "w", encoding="utf-8").write(new)
     return 0

@@ -1,6 +1,5 @@
 -- `read_steps::steps::begins_function` meets its contract.
 -- Assumes nothing.
-use borrow.Author.Rules.{rules}
 use Rattle.read_steps.proofs.Cases.{cases}
 use Rattle.read_steps.proofs.steps.begins_function.Goals as goal
 

@@ -1,6 +1,5 @@
 -- `read_steps::steps::next_in` meets its contract.
 -- Assumes nothing.
-use borrow.Author.Rules.{rules}
 use Rattle.read_steps.proofs.Cases.{cases}
 use Rattle.read_steps.proofs.steps.next_in.Goals as goal
 

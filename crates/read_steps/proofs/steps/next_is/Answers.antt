@@ -1,7 +1,6 @@
 -- `read_steps::steps::next_is` meets its contract.
 -- Assumes nothing.
 use Rattle.read_steps.proofs.Cases.{cases}
-use borrow.Author.Rules.{rules}
 use Rattle.read_steps.proofs.steps.next_is.Goals as goal
 
 pub returns-in-Refused : goal.returns-in-Refused

@@ -2,7 +2,6 @@
 -- Assumes nothing.
 use Rattle.read_steps.specs.Model.{name}
 use Rattle.read_steps.proofs.Cases.{cases}
-use borrow.Author.Rules.{rules}
 use Rattle.read_steps.proofs.steps.read_name.Goals as goal
 
 pub returns-then-next_is : goal.returns-then-next_is

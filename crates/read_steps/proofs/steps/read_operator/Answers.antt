@@ -1,7 +1,6 @@
 -- `read_steps::steps::read_operator` meets its contract.
 -- Assumes nothing.
 use Rattle.read_steps.specs.Model.{bare_operator}
-use borrow.Author.Rules.{rules}
 use Rattle.read_steps.proofs.Cases.{cases}
 use Rattle.read_steps.proofs.steps.read_operator.Goals as goal
 

@@ -2,7 +2,6 @@
 -- Assumes nothing.
 use Rattle.read_steps.specs.Model.{this_name}
 use Rattle.read_steps.proofs.Cases.{cases}
-use borrow.Author.Rules.{rules}
 use Rattle.read_steps.proofs.steps.this_name.Goals as goal
 
 pub returns-then-next_named : goal.returns-then-next_named

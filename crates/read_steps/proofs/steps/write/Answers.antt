@@ -1,7 +1,6 @@
 -- `read_steps::steps::write` meets its contract.
 -- Assumes nothing.
 use Rattle.read_steps.proofs.Cases.{cases}
-use borrow.Author.Rules.{rules}
 use Rattle.read_steps.proofs.steps.write.Goals as goal
 
 pub returns-then-n-tape : goal.returns-then-n-tape
