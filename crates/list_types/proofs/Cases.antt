@@ -24,7 +24,7 @@ use Rattle.form_rows.specs.Kinds.{kind_at}
 use Rattle.form_rows.specs.Rows.{section_of, origin_of, hidden_origin, sort_of, type_of, shape_of, item_of, row_at, row_size}
 use Rattle.form_rows.specs.RowLaws.{take_nine}
 use Rattle.form.specs.Forms.{items_at}
-use Rattle.list_pen.specs.Pen.{Pen, pen, written, rows_text, rows_texts}
+use Rattle.list_pen.specs.Pen.{Pen, written, rows_text, rows_texts}
 use Rattle.list_pen.proofs.Laws.{then}
 use Rattle.list_pen.proofs.Rows.{rows_start, rows_again, rows_end, rows_between}
 use Rattle.list_types.specs.Sorts.{sort_number, marked_sort}

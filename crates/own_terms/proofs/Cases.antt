@@ -104,7 +104,7 @@ module _ (text : List ℕ) (k : Known) (d head place c i q n : ℕ) (sorts w : L
       unfolding args_by further pick
       args_more s next free more g m =
           let h : ends_at (tape_in k w) c (suc (left - 1)) i ≡ false = rw onward at (sym e ∙ z) in
-          ap (λ (x : ℕ). args_at text k d head place c x i q n sorts w) onward ∙ rw (h, ← f, g, ← m)
+          ap (λ (x : ℕ). args_at text k d head place c x i q n sorts w) onward ∙ rw (h, ← f, g, m)
 
 -- what is wanted is what is wanted from here
 pub record Arguing (text : List ℕ) (k : Known) (d head place c left₀ i₀ q₀ n₀ : ℕ) (sorts₀ : List ℕ) (w₀ : Lent) (left i q n : ℕ) (sorts : List ℕ) (w : Lent) : Type 0 where

@@ -139,7 +139,7 @@ module _ (text p : List ℕ) (w : Lent) (row p₁ w' : List ℕ) (o : Operators 
       (reached_on _ kr (get_or p 7 0) w u r p' v primary.stays (rw (at.known, at.deep, total) at h))
 
 -- the memory comes back as the reference that is handed back shows it, since both have one name
-module _ (text : List ℕ) (known : Known) (d i q : ℕ) (p₀ : List ℕ) (w : Lent) (r : ℕ) (p : List ℕ) (w' : Lent) (u : List ℕ) (f : w.name ≡ w'.ghost_name → u ≡ w'.now)
+module _ (text : List ℕ) (known : Known) (d i q : ℕ) (p₀ : List ℕ) (w : Lent) (r : ℕ) (p : List ℕ) (w' : Lent) (u : List ℕ) (f : w.ghost_name ≡ w'.ghost_name → u ≡ w'.now)
     (e : At known i q d p₀)
     (h : Reached (term_at text (known_of p₀) (get_or p₀ 7 0) (get_or p₀ 5 0) (get_or p₀ 6 0) w.now) (known_of p₀) (get_or p₀ 7 0) w r p w') where
   came_back : out (answered r (get_or p 5 0) (get_or p 6 0)) u ≡ term_at text known d i q w.now

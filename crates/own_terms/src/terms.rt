@@ -295,7 +295,7 @@ fn operators_from(work: &mut [u32], words: &mut [usize; 8], i: usize, q: usize) 
 }
 
 // The operator at the row, whose first operand is typed, and whose second follows if it is infix.
-#[cycle(type_args_type_back_type_deep_type_onward_type_operator_type_primary)]
+#[cycle(typing)]
 fn type_operator(
     library: &&[u8],
     text: &&[u8],
@@ -343,7 +343,7 @@ fn shorten(row: &mut [usize; 3])
 }
 
 // The operators of the row, from the last one to the first; the term behind them is typed.
-#[cycle(type_args_type_back_type_deep_type_onward_type_operator_type_primary)]
+#[cycle(typing)]
 fn type_back(
     library: &&[u8],
     text: &&[u8],
@@ -387,7 +387,7 @@ fn role_in(work: &mut [u32], t: usize, i: usize) -> u32
 }
 
 // The name at the row with the arguments in its brackets, which are from the places on. Where the tape ends is read at each turn: no level keeps it.
-#[cycle(type_args_type_back_type_deep_type_onward_type_operator_type_primary)]
+#[cycle(typing)]
 fn type_args(
     library: &&[u8],
     text: &&[u8],
@@ -423,7 +423,7 @@ fn type_args(
 }
 
 // The term behind as many operators as a word tells of. Apart, so that what its call is lent is not kept beside what the others are.
-#[cycle(type_args_type_back_type_deep_type_onward_type_operator_type_primary)]
+#[cycle(typing)]
 fn type_onward(
     library: &&[u8],
     text: &&[u8],
@@ -437,7 +437,7 @@ fn type_onward(
 }
 
 // The term behind the row. One with an operator in front may be there only if the row has some: all that a word tells of.
-#[cycle(type_args_type_back_type_deep_type_onward_type_operator_type_primary)]
+#[cycle(typing)]
 fn type_primary(
     library: &&[u8],
     text: &&[u8],
@@ -478,7 +478,7 @@ fn type_primary(
 
 // The term at the place, down to a depth; its nodes are written from the second place on. An operator stands before its first operand, so a loop
 // goes over a row of them and another one back: a level is a pair of brackets or a second operand. The sorts are lent to both, so that it has them once.
-#[cycle(type_args_type_back_type_deep_type_onward_type_operator_type_primary)]
+#[cycle(typing)]
 fn type_deep(library: &&[u8], text: &&[u8], work: &mut &mut [u32], words: &mut [usize; 8]) -> usize
     requires { Room words.old work.old.now }
     ensures { Reached (term_at (joint library.now.now text.now.now) (known_of words.old) (get_or words.old 7 0) (get_or words.old 5 0) (get_or words.old 6 0) work.old.now) (known_of words.old) (get_or words.old 7 0) work.old result words.new work.new }

@@ -1,7 +1,6 @@
 -- Where reading is, as six words, so that the functions of terms hand it on as one reference: one more than the number of a refusal and else 0, the
 -- kind, the start and the end of the next token (the start is where a refusal is), nodes and entries. Any six words say something.
 use Rattle.std.specs.Prelude.{ℕ, ◌-◌, ◌%◌, List, eqb, get_or}
-use Rattle.types.specs.declared.Token.{Token}
 use Rattle.meaning.specs.Lists.{pick}
 use Rattle.read_steps.specs.declared.Reading.{Reading}
 use Rattle.read_steps.specs.declared.Reading.TheVariants.{Done, Refused}

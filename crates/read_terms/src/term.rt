@@ -139,7 +139,7 @@ fn read_flat(text: &&[u8], tape: &mut [u32], state: &mut [usize; 6])
 }
 
 // A term in which `depth` more brackets may be open: a primary, perhaps after a prefix operator, and what infix operators join to it.
-#[cycle(read_arguments_read_deep_read_inside_read_named_read_operands_read_primary)]
+#[cycle(reading)]
 fn read_deep(text: &&[u8], tape: &mut [u32], state: &mut [usize; 6], depth: usize)
     ensures { out (kept state.new) tape.new ≡ onward (kept state.old) tape.old (term text.now.now depth) }
 {
@@ -149,7 +149,7 @@ fn read_deep(text: &&[u8], tape: &mut [u32], state: &mut [usize; 6], depth: usiz
 }
 
 // A term inside brackets: one function for both kinds of them, so that what `read_deep` is lent does not stand twice in a level.
-#[cycle(read_arguments_read_deep_read_inside_read_named_read_operands_read_primary)]
+#[cycle(reading)]
 fn read_inside(text: &&[u8], tape: &mut [u32], state: &mut [usize; 6], depth: usize)
     ensures { out (kept state.new) tape.new ≡ onward (kept state.old) tape.old (term text.now.now depth) }
 {
@@ -157,7 +157,7 @@ fn read_inside(text: &&[u8], tape: &mut [u32], state: &mut [usize; 6], depth: us
 }
 
 // A primary, and operators, each with the primary that it joins to the entries from `start` on.
-#[cycle(read_arguments_read_deep_read_inside_read_named_read_operands_read_primary)]
+#[cycle(reading)]
 fn read_operands(text: &&[u8], tape: &mut [u32], state: &mut [usize; 6], start: usize, depth: usize)
     ensures { out (kept state.new) tape.new ≡ onward (kept state.old) tape.old (operands_from text.now.now start depth) }
 {
@@ -178,7 +178,7 @@ fn read_operands(text: &&[u8], tape: &mut [u32], state: &mut [usize; 6], start: 
 }
 
 // A name, a name with arguments, or a term in brackets.
-#[cycle(read_arguments_read_deep_read_inside_read_named_read_operands_read_primary)]
+#[cycle(reading)]
 fn read_primary(text: &&[u8], tape: &mut [u32], state: &mut [usize; 6], depth: usize)
     ensures { out (kept state.new) tape.new ≡ onward (kept state.old) tape.old (primary text.now.now depth) }
 {
@@ -196,7 +196,7 @@ fn read_primary(text: &&[u8], tape: &mut [u32], state: &mut [usize; 6], depth: u
 }
 
 // A name, with its arguments if it has some.
-#[cycle(read_arguments_read_deep_read_inside_read_named_read_operands_read_primary)]
+#[cycle(reading)]
 fn read_named(text: &&[u8], tape: &mut [u32], state: &mut [usize; 6], depth: usize)
     ensures { out (kept state.new) tape.new ≡ onward (kept state.old) tape.old (named text.now.now depth) }
 {
@@ -210,7 +210,7 @@ fn read_named(text: &&[u8], tape: &mut [u32], state: &mut [usize; 6], depth: usi
 }
 
 // Arguments, of which `left` more may come.
-#[cycle(read_arguments_read_deep_read_inside_read_named_read_operands_read_primary)]
+#[cycle(reading)]
 fn read_arguments(text: &&[u8], tape: &mut [u32], state: &mut [usize; 6], depth: usize, left: usize)
     ensures { out (kept state.new) tape.new ≡ onward (kept state.old) tape.old (separated text.now.now left (byte ",") begins_term (term text.now.now depth)) }
 {

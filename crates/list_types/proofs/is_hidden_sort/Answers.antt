@@ -1,7 +1,6 @@
 -- `list_types::is_hidden_sort` meets its contract.
 -- Assumes nothing.
 use Rattle.list_types.proofs.Cases.{cases}
-use borrow.Author.Rules.{rules}
 use Rattle.list_types.proofs.is_hidden_sort.Goals as goal
 
 pub returns-then-same_name_at : goal.returns-then-same_name_at

@@ -1,8 +1,6 @@
 -- `list_types::number_of_sort` meets its contract.
 -- Assumes nothing.
-use Prim.Native.Nat.{◌-◌}
-use Rattle.text_names.specs.Joint.{joint}
-use Rattle.list_types.proofs.Cases.{cases, Numbering}
+use Rattle.list_types.proofs.Cases.{cases}
 use Rattle.list_types.proofs.number_of_sort.Goals as goal
 
 pub loop-i-init : goal.loop-i-init

@@ -2,7 +2,7 @@
 -- Assumes nothing.
 use Prim.Native.Nat.{◌-◌}
 use Rattle.text_names.specs.Joint.{joint}
-use Rattle.list_types.proofs.Cases.{cases, Numbering}
+use Rattle.list_types.proofs.Cases.{Numbering}
 use Rattle.list_types.proofs.number_of_sort.Given as goal
 
 abbrev pub invariant-loop-i : goal.invariant-loop-i

@@ -4,8 +4,6 @@ use Prim.Native.Nat.{◌-◌}
 use Rattle.text_names.specs.Joint.{joint}
 use Rattle.list_pen.proofs.Rows.{Writing}
 use Rattle.list_types.specs.Sorts.{marked_sort}
-use Rattle.list_types.proofs.Cases.{cases}
-use borrow.Author.Rules.{rules}
 use Rattle.list_types.proofs.put_others.Given as goal
 
 abbrev pub invariant-loop-i : goal.invariant-loop-i

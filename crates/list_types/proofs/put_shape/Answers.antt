@@ -1,7 +1,6 @@
 -- `list_types::put_shape` meets its contract.
 -- Assumes nothing.
 use Rattle.list_types.proofs.Cases.{cases}
-use borrow.Author.Rules.{rules}
 use Rattle.list_types.proofs.put_shape.Goals as goal
 
 pub returns-then-kind-eq-SORT : goal.returns-then-kind-eq-SORT

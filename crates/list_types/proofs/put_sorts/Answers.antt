@@ -1,7 +1,6 @@
 -- `list_types::put_sorts` meets its contract.
 -- Assumes nothing.
 use Rattle.list_types.proofs.Cases.{cases}
-use borrow.Author.Rules.{rules}
 use Rattle.list_types.proofs.put_sorts.Goals as goal
 
 pub returns-then-n-gt0 : goal.returns-then-n-gt0

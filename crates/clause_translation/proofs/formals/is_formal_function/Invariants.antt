@@ -1,7 +1,6 @@
 -- `clause_translation::formals::is_formal_function` meets its contract.
 -- Assumes nothing.
 use Rattle.form_walks.specs.Rows.{Finding}
-use Rattle.clause_translation.proofs.FormalItems.{asks}
 use Prim.Native.Nat.{◌-◌}
 use Rattle.text_names.specs.Word.{name_of}
 use Rattle.text_names.specs.Joint.{joint}

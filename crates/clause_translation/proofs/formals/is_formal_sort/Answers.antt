@@ -1,12 +1,6 @@
 -- `clause_translation::formals::is_formal_sort` meets its contract.
 -- Assumes nothing.
-use Rattle.form_walks.specs.Rows.{Finding}
 use Rattle.clause_translation.proofs.FormalItems.{asks}
-use Prim.Native.Nat.{◌-◌}
-use Rattle.text_names.specs.Word.{name_of}
-use Rattle.text_names.specs.Joint.{joint}
-use Rattle.form.specs.Memory.{part}
-use Rattle.clause_translation.specs.Moved.{formal_sort}
 use Rattle.clause_translation.proofs.formals.is_formal_sort.Goals as goal
 
 pub loop-i-init : goal.loop-i-init

@@ -1,7 +1,6 @@
 -- `clause_translation::formals::is_such_function` meets its contract.
 -- Assumes nothing.
 use Rattle.clause_translation.proofs.FormalItems.{tests}
-use borrow.Author.Rules.{rules}
 use Rattle.clause_translation.proofs.formals.is_such_function.Goals as goal
 
 pub returns-then-same_word : goal.returns-then-same_word

@@ -1,7 +1,6 @@
 -- `clause_translation::formals::is_such_sort` meets its contract.
 -- Assumes nothing.
 use Rattle.clause_translation.proofs.FormalItems.{tests}
-use borrow.Author.Rules.{rules}
 use Rattle.clause_translation.proofs.formals.is_such_sort.Goals as goal
 
 pub returns-then-in_parameter : goal.returns-then-in_parameter

@@ -1,7 +1,6 @@
 -- `clause_translation::rows::moved_name` meets its contract.
 -- Assumes nothing.
 use Rattle.clause_translation.proofs.MovedRows.{names}
-use borrow.Author.Rules.{rules}
 use Rattle.clause_translation.proofs.rows.moved_name.Goals as goal
 
 pub returns-then-kind-eq-SORT : goal.returns-then-kind-eq-SORT

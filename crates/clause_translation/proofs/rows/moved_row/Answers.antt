@@ -1,7 +1,6 @@
 -- `clause_translation::rows::moved_row` meets its contract.
 -- Assumes nothing.
 use Rattle.clause_translation.proofs.MovedRows.{rows}
-use borrow.Author.Rules.{rules}
 use Rattle.clause_translation.proofs.rows.moved_row.Goals as goal
 
 pub returns-then-mode-eq-AS_IS : goal.returns-then-mode-eq-AS_IS

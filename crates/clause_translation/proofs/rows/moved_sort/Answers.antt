@@ -2,7 +2,6 @@
 -- Assumes nothing.
 use Rattle.clause_translation.proofs.MovedRows.{names}
 use native.Mathlib.Omega.{arith}
-use borrow.Author.Rules.{rules}
 use Rattle.clause_translation.proofs.rows.moved_sort.Goals as goal
 
 pub overflow_mul-result : goal.overflow_mul-result

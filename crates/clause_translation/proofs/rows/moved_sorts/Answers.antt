@@ -1,9 +1,6 @@
 -- `clause_translation::rows::moved_sorts` meets its contract.
 -- Assumes nothing.
-use Rattle.clause_translation.proofs.MovedRows.{Moving, moving_start, moving_again, moving_end}
-use Prim.Native.Nat.{◌-◌}
-use Rattle.text_names.specs.Joint.{joint}
-use Rattle.form.specs.Memory.{part}
+use Rattle.clause_translation.proofs.MovedRows.{moving_start, moving_again, moving_end}
 use borrow.Author.Rules.{rules}
 use Rattle.clause_translation.proofs.rows.moved_sorts.Goals as goal
 

@@ -1,10 +1,9 @@
 -- `clause_translation::rows::moved_sorts` meets its contract.
 -- Assumes nothing.
-use Rattle.clause_translation.proofs.MovedRows.{Moving, moving_start, moving_again, moving_end}
+use Rattle.clause_translation.proofs.MovedRows.{Moving}
 use Prim.Native.Nat.{◌-◌}
 use Rattle.text_names.specs.Joint.{joint}
 use Rattle.form.specs.Memory.{part}
-use borrow.Author.Rules.{rules}
 use Rattle.clause_translation.proofs.rows.moved_sorts.Given as goal
 
 abbrev pub invariant-loop-i : goal.invariant-loop-i

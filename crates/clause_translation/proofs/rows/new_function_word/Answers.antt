@@ -1,7 +1,6 @@
 -- `clause_translation::rows::new_function_word` meets its contract.
 -- Assumes nothing.
 use Rattle.clause_translation.proofs.NewNames.{kinds}
-use borrow.Author.Rules.{rules}
 use Rattle.clause_translation.proofs.rows.new_function_word.Goals as goal
 
 pub returns-then-kind-eq-AS_IS : goal.returns-then-kind-eq-AS_IS

@@ -1,9 +1,7 @@
 -- `list_terms::equations::put_conditions` meets its contract.
 -- Assumes nothing.
 use borrow.Author.Rules.{rules}
-use Rattle.text_names.specs.Joint.{joint}
-use Rattle.list_terms.specs.Terms.{sides_at}
-use Rattle.list_terms.proofs.TermCases.{Listing, listing_again, terms}
+use Rattle.list_terms.proofs.TermCases.{listing_again, terms}
 use Rattle.list_terms.proofs.equations.put_conditions.Goals as goal
 
 pub loop-more-init : goal.loop-more-init

@@ -1,9 +1,8 @@
 -- `list_terms::equations::put_conditions` meets its contract.
 -- Assumes nothing.
-use borrow.Author.Rules.{rules}
 use Rattle.text_names.specs.Joint.{joint}
 use Rattle.list_terms.specs.Terms.{sides_at}
-use Rattle.list_terms.proofs.TermCases.{Listing, listing_again, terms}
+use Rattle.list_terms.proofs.TermCases.{Listing}
 use Rattle.list_terms.proofs.equations.put_conditions.Given as goal
 
 abbrev pub invariant-loop-more : goal.invariant-loop-more

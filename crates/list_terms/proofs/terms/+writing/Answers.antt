@@ -1,10 +1,6 @@
 -- The cycle of calls {put_deep, put_more} meets its contracts. Two for each level that is left, and one more for what follows a first argument.
-use Rattle.text_names.specs.Joint.{joint}
-use Rattle.list_terms.specs.Terms.{term_at, closed}
-use Rattle.list_terms.proofs.PlaceCases.{Leaving, leaving_first, closing_again, closing_end}
-use Rattle.list_terms.proofs.PlaceCases.{Backing, backing_first, backing_some, backing_again, backing_end}
-use Prim.Native.Nat.{ℕ, ◌+◌, ◌*◌, ◌<◌}
-use lib.ListN.{get_or}
+use Rattle.list_terms.proofs.PlaceCases.{leaving_first, closing_again, closing_end}
+use Rattle.list_terms.proofs.PlaceCases.{backing_first, backing_some, backing_again, backing_end}
 use borrow.Author.Rules.{rules}
 use Rattle.list_terms.proofs.terms.+writing.Goals as goal
 

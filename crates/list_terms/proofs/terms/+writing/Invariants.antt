@@ -2,11 +2,10 @@
 -- Assumes nothing.
 use Rattle.text_names.specs.Joint.{joint}
 use Rattle.list_terms.specs.Terms.{term_at, closed}
-use Rattle.list_terms.proofs.PlaceCases.{Leaving, leaving_first, closing_again, closing_end}
-use Rattle.list_terms.proofs.PlaceCases.{Backing, backing_first, backing_some, backing_again, backing_end}
-use Prim.Native.Nat.{ℕ, ◌+◌, ◌*◌, ◌<◌}
+use Rattle.list_terms.proofs.PlaceCases.{Leaving}
+use Rattle.list_terms.proofs.PlaceCases.{Backing}
+use Prim.Native.Nat.{◌+◌, ◌*◌}
 use lib.ListN.{get_or}
-use borrow.Author.Rules.{rules}
 use Rattle.list_terms.proofs.terms.+writing.Given as goal
 
 abbrev pub decreases-put_deep : goal.decreases-put_deep

@@ -3,7 +3,6 @@
 use Rattle.list_terms.proofs.TermCases.{node_there}
 use Prim.Native.Nat.{◌+◌}
 use native.Mathlib.Omega.{arith}
-use borrow.Author.Rules.{rules}
 use Rattle.list_terms.proofs.terms.others_at.Goals as goal
 
 pub overflow_add-i : goal.overflow_add-i

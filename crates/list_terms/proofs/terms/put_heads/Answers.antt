@@ -1,9 +1,6 @@
 -- `list_terms::terms::put_heads` meets its contract.
 -- Assumes nothing.
-use Prim.Native.Nat.{◌-◌}
-use borrow.Author.Rules.{rules}
-use Rattle.text_names.specs.Joint.{joint}
-use Rattle.list_terms.proofs.PlaceCases.{Heading, places}
+use Rattle.list_terms.proofs.PlaceCases.{places}
 use Rattle.list_terms.proofs.terms.put_heads.Goals as goal
 
 pub loop-n-init : goal.loop-n-init

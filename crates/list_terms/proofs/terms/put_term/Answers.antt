@@ -1,7 +1,6 @@
 -- `list_terms::terms::put_term` meets its contract.
 -- Assumes nothing.
 use Rattle.list_terms.proofs.PlaceCases.{came_back}
-use borrow.Author.Rules.{rules}
 use Rattle.list_terms.proofs.terms.put_term.Goals as goal
 
 pub returns : goal.returns

@@ -1,7 +1,6 @@
 -- `read_kept::nodes::counted` meets its contract.
 -- Assumes nothing.
 use Rattle.read_kept.proofs.Cases.{cases}
-use borrow.Author.Rules.{rules}
 use Rattle.read_kept.proofs.nodes.counted.Goals as goal
 
 pub returns-then-nodes-ge-NODE_LIMIT : goal.returns-then-nodes-ge-NODE_LIMIT

@@ -1,7 +1,6 @@
 -- `read_kept::nodes::next_role` meets its contract.
 -- Assumes nothing.
 use Rattle.read_kept.proofs.Cases.{cases}
-use borrow.Author.Rules.{rules}
 use Rattle.read_kept.proofs.nodes.next_role.Goals as goal
 
 pub returns-in-Refused : goal.returns-in-Refused

@@ -1,7 +1,6 @@
 -- `read_kept::nodes::node_role` meets its contract.
 -- Assumes nothing.
 use Rattle.read_kept.proofs.Cases.{cases}
-use borrow.Author.Rules.{rules}
 use Rattle.read_kept.proofs.nodes.node_role.Goals as goal
 
 pub returns-then-kind-eq40 : goal.returns-then-kind-eq40

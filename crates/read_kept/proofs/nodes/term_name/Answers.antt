@@ -1,7 +1,6 @@
 -- `read_kept::nodes::term_name` meets its contract.
 -- Assumes nothing.
 use Rattle.read_kept.proofs.Cases.{nodes}
-use borrow.Author.Rules.{rules}
 use Rattle.read_kept.proofs.nodes.term_name.Goals as goal
 
 pub returns-then-next_is : goal.returns-then-next_is

@@ -1,0 +1,31 @@
+-- `clause_checks::searches::find_called` meets its contract.
+-- Assumes nothing.
+use Rattle.clause_checks.proofs.RowSearches.{finds}
+use Rattle.clause_checks.proofs.searches.find_called.Goals as goal
+
+pub loop-i-init : goal.loop-i-init
+loop-i-init c = search finds
+
+pub slice_bounds-is_row_called-count : goal.slice_bounds-is_row_called-count
+slice_bounds-is_row_called-count c = search finds
+
+pub slice_bounds-is_row_called-start : goal.slice_bounds-is_row_called-start
+slice_bounds-is_row_called-start c = search finds
+
+pub slice_bounds-is_row_called-end : goal.slice_bounds-is_row_called-end
+slice_bounds-is_row_called-end c = search finds
+
+pub returns-then-is_row_called : goal.returns-then-is_row_called
+returns-then-is_row_called c = search finds
+
+pub overflow_add-i : goal.overflow_add-i
+overflow_add-i c = search finds
+
+pub loop-i-smaller : goal.loop-i-smaller
+loop-i-smaller c = search finds
+
+pub loop-i-preserved : goal.loop-i-preserved
+loop-i-preserved c = search finds
+
+pub returns : goal.returns
+returns c = search finds

@@ -1,0 +1,5 @@
+use Rattle.form_layout.proofs.Cases.{cases}
+use Rattle.form_layout.proofs.table_start.Goals as goal
+
+pub returns : goal.returns
+returns c = search cases

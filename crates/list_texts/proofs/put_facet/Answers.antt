@@ -1,0 +1,13 @@
+-- `list_texts::put_facet` meets its contract. Assumes nothing.
+use Rattle.list_texts.proofs.Cases.{cases}
+use borrow.Author.Rules.{rules}
+use Rattle.list_texts.proofs.put_facet.Goals as goal
+
+pub put_shape-requires : goal.put_shape-requires
+put_shape-requires c = search cases
+
+pub returns-in-Origin : goal.returns-in-Origin
+returns-in-Origin c = search cases
+
+pub returns-in-Shape : goal.returns-in-Shape
+returns-in-Shape c = search cases

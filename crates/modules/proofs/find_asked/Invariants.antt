@@ -1,0 +1,15 @@
+-- `modules::find_asked` meets its contract.
+-- Assumes nothing.
+use borrow.Author.Rules.{rules}
+use Prim.Native.Nat.{◌-◌}
+use Rattle.meaning.specs.Names.{Name, same}
+use Rattle.text_names.specs.Joint.{joint}
+use Rattle.modules.proofs.Cases.{numbers, Seeking}
+use Rattle.modules.specs.Modules.{heads_in}
+use Rattle.modules.proofs.find_asked.Given as goal
+
+abbrev pub invariant-loop-k : goal.invariant-loop-k
+invariant-loop-k l = Seeking (λ (w : Name). same w l.asked) (joint l.library l.text) l.tape (heads_in l.h) l.count l.k
+
+abbrev pub decreases-loop-k : goal.decreases-loop-k
+decreases-loop-k l = l.count - l.k

@@ -1,0 +1,16 @@
+-- `own_terms::terms::shorten` meets its contract.
+-- Assumes nothing.
+use Rattle.own_terms.proofs.Operators.{onward}
+use Rattle.own_terms.proofs.terms.shorten.Goals as goal
+
+pub bounds-row-0 : goal.bounds-row-0
+bounds-row-0 c = search onward
+
+pub bounds-row-1 : goal.bounds-row-1
+bounds-row-1 c = search onward
+
+pub bounds-row-2 : goal.bounds-row-2
+bounds-row-2 c = search onward
+
+pub returns : goal.returns
+returns c = search onward

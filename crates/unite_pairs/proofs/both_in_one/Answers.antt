@@ -1,0 +1,12 @@
+-- `unite_pairs::both_in_one` meets its contract. Assumes nothing.
+use Rattle.unite_pairs.proofs.Cases.{cases}
+use Rattle.unite_pairs.proofs.both_in_one.Goals as goal
+
+pub returns-then-k-lt-FUNCTION : goal.returns-then-k-lt-FUNCTION
+returns-then-k-lt-FUNCTION c = search cases
+
+pub returns-then-l-lt-FUNCTION : goal.returns-then-l-lt-FUNCTION
+returns-then-l-lt-FUNCTION c = search cases
+
+pub returns : goal.returns
+returns c = search cases
