@@ -1,8 +1,5 @@
 -- `list_texts::compare_equations` meets its contract. Assumes nothing.
-use Prim.Native.Nat.{◌-◌}
-use Rattle.text_names.specs.Joint.{joint}
-use Rattle.list_terms.specs.Terms.{equation_at}
-use Rattle.list_texts.proofs.Cases.{cases, Level}
+use Rattle.list_texts.proofs.Cases.{cases}
 use Rattle.list_texts.proofs.compare_equations.Goals as goal
 
 pub loop-i-init : goal.loop-i-init

@@ -2,7 +2,7 @@
 use Prim.Native.Nat.{◌-◌}
 use Rattle.text_names.specs.Joint.{joint}
 use Rattle.list_terms.specs.Terms.{equation_at}
-use Rattle.list_texts.proofs.Cases.{cases, Level}
+use Rattle.list_texts.proofs.Cases.{Level}
 use Rattle.list_texts.proofs.compare_equations.Given as goal
 
 abbrev pub invariant-loop-i : goal.invariant-loop-i

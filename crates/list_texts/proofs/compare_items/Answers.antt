@@ -1,8 +1,5 @@
 -- `list_texts::compare_items` meets its contract. Assumes nothing.
-use Prim.Native.Nat.{◌-◌}
-use Rattle.text_names.specs.Joint.{joint}
-use Rattle.list_texts.proofs.Cases.{cases, Level}
-use Rattle.list_texts.specs.Parts.{facet_text}
+use Rattle.list_texts.proofs.Cases.{cases}
 use Rattle.list_texts.proofs.compare_items.Goals as goal
 
 pub loop-i-init : goal.loop-i-init

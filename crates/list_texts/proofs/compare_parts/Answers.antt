@@ -1,6 +1,5 @@
 -- `list_texts::compare_parts` meets its contract. Assumes nothing.
 use Rattle.list_texts.proofs.Cases.{cases}
-use borrow.Author.Rules.{rules}
 use Rattle.list_texts.proofs.compare_parts.Goals as goal
 
 pub returns-then-c-eq1 : goal.returns-then-c-eq1

@@ -1,6 +1,5 @@
 -- `list_texts::equation_part` meets its contract. Assumes nothing.
 use Rattle.list_texts.proofs.Cases.{cases}
-use borrow.Author.Rules.{rules}
 use Rattle.list_texts.proofs.equation_part.Goals as goal
 
 pub returns : goal.returns

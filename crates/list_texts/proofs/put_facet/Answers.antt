@@ -1,6 +1,5 @@
 -- `list_texts::put_facet` meets its contract. Assumes nothing.
 use Rattle.list_texts.proofs.Cases.{cases}
-use borrow.Author.Rules.{rules}
 use Rattle.list_texts.proofs.put_facet.Goals as goal
 
 pub put_shape-requires : goal.put_shape-requires

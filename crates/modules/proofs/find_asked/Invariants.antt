@@ -1,10 +1,9 @@
 -- `modules::find_asked` meets its contract.
 -- Assumes nothing.
-use borrow.Author.Rules.{rules}
 use Prim.Native.Nat.{◌-◌}
 use Rattle.meaning.specs.Names.{Name, same}
 use Rattle.text_names.specs.Joint.{joint}
-use Rattle.modules.proofs.Cases.{numbers, Seeking}
+use Rattle.modules.proofs.Cases.{Seeking}
 use Rattle.modules.specs.Modules.{heads_in}
 use Rattle.modules.proofs.find_asked.Given as goal
 

@@ -1,12 +1,6 @@
 -- `modules::find_number` meets its contract.
 -- Assumes nothing.
-use borrow.Author.Rules.{rules}
-use Prim.Native.Nat.{◌-◌}
-use Rattle.meaning.specs.Names.{same}
-use Rattle.text_names.specs.Word.{name_of}
-use Rattle.text_names.specs.Joint.{joint}
-use Rattle.modules.proofs.Cases.{numbers, Seeking}
-use Rattle.modules.specs.Modules.{heads_in}
+use Rattle.modules.proofs.Cases.{numbers}
 use Rattle.modules.proofs.find_number.Goals as goal
 
 pub loop-k-init : goal.loop-k-init

@@ -1,9 +1,8 @@
 -- `modules::gathered` meets its contract.
 -- Assumes nothing.
 use Rattle.text_names.specs.Joint.{joint}
-use borrow.Author.Rules.{rules}
 use Rattle.modules.specs.Modules.{named_set, heads_in}
-use Rattle.modules.proofs.Cases.{sets, Gathering}
+use Rattle.modules.proofs.Cases.{Gathering}
 use Rattle.modules.proofs.gathered.Given as goal
 
 abbrev pub invariant-loop-k : goal.invariant-loop-k

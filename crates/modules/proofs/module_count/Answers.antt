@@ -1,7 +1,6 @@
 -- `modules::module_count` meets its contract.
 -- Assumes nothing.
 use Rattle.modules.proofs.Cases.{heads}
-use borrow.Author.Rules.{rules}
 use Rattle.modules.proofs.module_count.Goals as goal
 
 pub returns : goal.returns

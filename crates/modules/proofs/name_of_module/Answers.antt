@@ -1,7 +1,6 @@
 -- `modules::name_of_module` meets its contract.
 -- Assumes nothing.
 use Rattle.modules.proofs.Cases.{heads}
-use borrow.Author.Rules.{rules}
 use Rattle.modules.proofs.name_of_module.Goals as goal
 
 pub returns : goal.returns

@@ -1,12 +1,6 @@
 -- `modules::named_set` meets its contract.
 -- Assumes nothing.
-use mathlib.Core.Path.{◌≡◌}
-use Prim.Native.Nat.{◌-◌}
-use Rattle.text_names.specs.Joint.{joint}
 use Rattle.form_rows.proofs.Auto.{on, done}
-use borrow.Author.Rules.{rules}
-use Rattle.module_set.specs.ModuleSet.{holds}
-use Rattle.modules.specs.Modules.{names_module, declared, picked, with_named, named_set, heads_in}
 use Rattle.modules.proofs.Cases.{scans}
 use Rattle.modules.proofs.named_set.Goals as goal
 

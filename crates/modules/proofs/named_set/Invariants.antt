@@ -3,11 +3,8 @@
 use mathlib.Core.Path.{◌≡◌}
 use Prim.Native.Nat.{◌-◌}
 use Rattle.text_names.specs.Joint.{joint}
-use Rattle.form_rows.proofs.Auto.{on, done}
-use borrow.Author.Rules.{rules}
 use Rattle.module_set.specs.ModuleSet.{holds}
 use Rattle.modules.specs.Modules.{names_module, declared, picked, with_named, named_set, heads_in}
-use Rattle.modules.proofs.Cases.{scans}
 use Rattle.modules.proofs.named_set.Given as goal
 
 abbrev pub invariant-loop-j : goal.invariant-loop-j

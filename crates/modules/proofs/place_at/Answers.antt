@@ -1,7 +1,6 @@
 -- `modules::place_at` meets its contract.
 -- Assumes nothing.
 use Rattle.modules.proofs.Cases.{heads}
-use borrow.Author.Rules.{rules}
 use Rattle.modules.proofs.place_at.Goals as goal
 
 pub returns-then-k-lt-COUNT : goal.returns-then-k-lt-COUNT

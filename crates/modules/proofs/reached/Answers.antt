@@ -1,7 +1,6 @@
 -- `modules::reached` meets its contract.
 -- Assumes nothing.
 use Rattle.modules.proofs.Cases.{sets}
-use borrow.Author.Rules.{rules}
 use Rattle.modules.proofs.reached.Goals as goal
 
 pub returns : goal.returns

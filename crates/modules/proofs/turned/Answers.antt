@@ -1,7 +1,6 @@
 -- `modules::turned` meets its contract.
 -- Assumes nothing.
 use Rattle.modules.proofs.Cases.{sets}
-use borrow.Author.Rules.{rules}
 use Rattle.modules.proofs.turned.Goals as goal
 
 pub returns-then-has : goal.returns-then-has

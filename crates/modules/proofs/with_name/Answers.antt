@@ -1,7 +1,6 @@
 -- `modules::with_name` meets its contract.
 -- Assumes nothing.
 use Rattle.modules.proofs.Cases.{numbers}
-use borrow.Author.Rules.{rules}
 use Rattle.modules.proofs.with_name.Goals as goal
 
 pub returns-then-p-k : goal.returns-then-p-k

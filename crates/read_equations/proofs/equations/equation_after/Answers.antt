@@ -1,7 +1,6 @@
 -- `read_equations::equations::equation_after` meets its contract.
 -- Assumes nothing.
 use Rattle.read_steps.specs.Model.{equation_after}
-use borrow.Author.Rules.{rules}
 use Rattle.read_steps.proofs.Rules.{grammar}
 use Rattle.read_equations.proofs.equations.equation_after.Goals as goal
 

@@ -1,7 +1,6 @@
 -- `read_equations::equations::mark_by_next` meets its contract.
 -- Assumes nothing.
 use Rattle.read_steps.specs.Model.{by_next}
-use borrow.Author.Rules.{rules}
 use Rattle.read_steps.proofs.Rules.{grammar}
 use Rattle.read_equations.proofs.equations.mark_by_next.Goals as goal
 

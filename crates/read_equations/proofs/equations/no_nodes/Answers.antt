@@ -1,7 +1,6 @@
 -- `read_equations::equations::no_nodes` meets its contract.
 -- Assumes nothing.
 use Rattle.read_equations.proofs.Cases.{cases}
-use borrow.Author.Rules.{rules}
 use Rattle.read_equations.proofs.equations.no_nodes.Goals as goal
 
 pub returns-in-Refused : goal.returns-in-Refused

@@ -1,7 +1,6 @@
 -- `read_equations::equations::open_sides` meets its contract.
 -- Assumes nothing.
 use Rattle.read_steps.specs.Model.{sides}
-use borrow.Author.Rules.{rules}
 use Rattle.read_steps.proofs.Rules.{grammar}
 use Rattle.read_equations.proofs.equations.open_sides.Goals as goal
 

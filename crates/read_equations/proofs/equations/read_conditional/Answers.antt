@@ -1,7 +1,6 @@
 -- `read_equations::equations::read_conditional` meets its contract.
 -- Assumes nothing.
 use Rattle.read_steps.specs.Model.{conditional, optional}
-use borrow.Author.Rules.{rules}
 use Rattle.read_steps.proofs.Rules.{grammar}
 use Rattle.read_equations.proofs.equations.read_conditional.Goals as goal
 

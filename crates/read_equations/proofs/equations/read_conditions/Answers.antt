@@ -1,12 +1,7 @@
 -- `read_equations::equations::read_conditions` meets its contract. The loop keeps what is to be read: what was at first comes to what is now.
 -- Assumes nothing.
-use Rattle.tape.specs.Tape.{condition_role}
-use Rattle.read_steps.specs.Model.{separated, mark, sides}
-use Rattle.meaning.specs.Numbers.{condition_limit}
-use Rattle.meaning.specs.Names.{byte}
-use Rattle.meaning.specs.Grammar.{begins_term}
 use borrow.Author.Rules.{rules}
-use Rattle.read_steps.proofs.Lists.{Comes, loops, sized}
+use Rattle.read_steps.proofs.Lists.{loops, sized}
 use Rattle.read_equations.proofs.equations.read_conditions.Goals as goal
 
 pub loop-left-init : goal.loop-left-init

@@ -5,8 +5,7 @@ use Rattle.read_steps.specs.Model.{separated, mark, sides}
 use Rattle.meaning.specs.Numbers.{condition_limit}
 use Rattle.meaning.specs.Names.{byte}
 use Rattle.meaning.specs.Grammar.{begins_term}
-use borrow.Author.Rules.{rules}
-use Rattle.read_steps.proofs.Lists.{Comes, loops, sized}
+use Rattle.read_steps.proofs.Lists.{Comes}
 use Rattle.read_equations.proofs.equations.read_conditions.Given as goal
 
 abbrev pub invariant-loop-left : goal.invariant-loop-left

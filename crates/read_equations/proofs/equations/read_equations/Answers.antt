@@ -1,11 +1,8 @@
 -- `read_equations::equations::read_equations` meets its contract. The loop keeps what is to be read: what was at first comes to what is now.
 -- Assumes nothing.
-use Rattle.read_steps.specs.Model.{many, equation}
 use Rattle.meaning.specs.Numbers.{text_size}
-use Rattle.meaning.specs.Names.{byte}
-use Rattle.meaning.specs.Grammar.{is}
 use borrow.Author.Rules.{rules}
-use Rattle.read_steps.proofs.Lists.{Comes, loops, sized}
+use Rattle.read_steps.proofs.Lists.{loops, sized}
 use Rattle.read_equations.proofs.equations.read_equations.Goals as goal
 
 pub loop-left-init : goal.loop-left-init

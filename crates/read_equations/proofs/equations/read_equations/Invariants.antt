@@ -4,8 +4,7 @@ use Rattle.read_steps.specs.Model.{many, equation}
 use Rattle.meaning.specs.Numbers.{text_size}
 use Rattle.meaning.specs.Names.{byte}
 use Rattle.meaning.specs.Grammar.{is}
-use borrow.Author.Rules.{rules}
-use Rattle.read_steps.proofs.Lists.{Comes, loops, sized}
+use Rattle.read_steps.proofs.Lists.{Comes}
 use Rattle.read_equations.proofs.equations.read_equations.Given as goal
 
 abbrev pub invariant-loop-left : goal.invariant-loop-left

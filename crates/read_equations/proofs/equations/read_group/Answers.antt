@@ -2,7 +2,6 @@
 -- Assumes nothing.
 use Rattle.read_steps.specs.Model.{variable_group}
 use Rattle.meaning.specs.Numbers.{text_size}
-use borrow.Author.Rules.{rules}
 use Rattle.read_steps.proofs.Rules.{grammar}
 use Rattle.read_equations.proofs.equations.read_group.Goals as goal
 

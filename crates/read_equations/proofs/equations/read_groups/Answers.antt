@@ -1,10 +1,8 @@
 -- `read_equations::equations::read_groups` meets its contract. The loop keeps what is to be read: what was at first comes to what is now.
 -- Assumes nothing.
-use Rattle.read_steps.specs.Model.{many, variable_group}
 use Rattle.meaning.specs.Numbers.{text_size}
-use Rattle.meaning.specs.Grammar.{is_name}
 use borrow.Author.Rules.{rules}
-use Rattle.read_steps.proofs.Lists.{Comes, loops, sized}
+use Rattle.read_steps.proofs.Lists.{loops, sized}
 use Rattle.read_equations.proofs.equations.read_groups.Goals as goal
 
 pub loop-left-init : goal.loop-left-init

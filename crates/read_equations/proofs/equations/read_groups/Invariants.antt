@@ -3,8 +3,7 @@
 use Rattle.read_steps.specs.Model.{many, variable_group}
 use Rattle.meaning.specs.Numbers.{text_size}
 use Rattle.meaning.specs.Grammar.{is_name}
-use borrow.Author.Rules.{rules}
-use Rattle.read_steps.proofs.Lists.{Comes, loops, sized}
+use Rattle.read_steps.proofs.Lists.{Comes}
 use Rattle.read_equations.proofs.equations.read_groups.Given as goal
 
 abbrev pub invariant-loop-left : goal.invariant-loop-left

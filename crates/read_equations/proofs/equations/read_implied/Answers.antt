@@ -1,7 +1,6 @@
 -- `read_equations::equations::read_implied` meets its contract.
 -- Assumes nothing.
 use Rattle.read_steps.specs.Model.{implied}
-use borrow.Author.Rules.{rules}
 use Rattle.read_steps.proofs.Rules.{grammar}
 use Rattle.read_equations.proofs.equations.read_implied.Goals as goal
 

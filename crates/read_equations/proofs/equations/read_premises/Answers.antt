@@ -1,10 +1,7 @@
 -- `read_equations::equations::read_premises` meets its contract. The loop keeps what is to be read: what was at first comes to what is now.
 -- Assumes nothing.
-use Rattle.read_steps.specs.Model.{separated, by_next, sides}
-use Rattle.meaning.specs.Names.{byte}
-use Rattle.meaning.specs.Grammar.{begins_term}
 use borrow.Author.Rules.{rules}
-use Rattle.read_steps.proofs.Lists.{Comes, loops, sized}
+use Rattle.read_steps.proofs.Lists.{loops, sized}
 use Rattle.read_equations.proofs.equations.read_premises.Goals as goal
 
 pub loop-left-init : goal.loop-left-init

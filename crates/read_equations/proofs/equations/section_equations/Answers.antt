@@ -1,7 +1,6 @@
 -- `read_equations::equations::section_equations` meets its contract.
 -- Assumes nothing.
 use Rattle.read_steps.specs.Model.{optional, equations, some_of}
-use borrow.Author.Rules.{rules}
 use Rattle.read_steps.proofs.Rules.{grammar}
 use Rattle.read_equations.proofs.equations.section_equations.Goals as goal
 

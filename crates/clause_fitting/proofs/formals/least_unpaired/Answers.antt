@@ -1,0 +1,24 @@
+-- `clause_fitting::formals::least_unpaired` meets its contract.
+-- Assumes nothing.
+use Rattle.text_names.specs.Joint.{joint}
+use Rattle.clause_fitting.proofs.FormalCases.{lasts, Lasting}
+use Rattle.form.specs.Memory.{part}
+use Rattle.clause_fitting.proofs.formals.least_unpaired.Goals as goal
+
+pub loop-k-init : goal.loop-k-init
+loop-k-init c = search lasts
+
+pub overflow_sub-k : goal.overflow_sub-k
+overflow_sub-k c = search lasts
+
+pub least_from-best-requires : goal.least_from-best-requires
+least_from-best-requires c = search lasts
+
+pub loop-k-smaller : goal.loop-k-smaller
+loop-k-smaller c = search lasts
+
+pub loop-k-preserved : goal.loop-k-preserved
+loop-k-preserved c = search lasts
+
+pub returns : goal.returns
+returns c = search lasts

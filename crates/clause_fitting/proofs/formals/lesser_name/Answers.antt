@@ -1,0 +1,14 @@
+-- `clause_fitting::formals::lesser_name` meets its contract.
+-- Assumes nothing.
+use Rattle.clause_fitting.proofs.FormalCases.{least}
+use borrow.Author.Rules.{rules}
+use Rattle.clause_fitting.proofs.formals.lesser_name.Goals as goal
+
+pub returns-then-not_after : goal.returns-then-not_after
+returns-then-not_after c = search least
+
+pub returns-else-not_after : goal.returns-else-not_after
+returns-else-not_after c = search least
+
+pub returns-in-Nothing : goal.returns-in-Nothing
+returns-in-Nothing c = search least

@@ -1,0 +1,42 @@
+-- `clause_fitting::sorts::inputs_right` meets its contract.
+-- Assumes nothing.
+use Rattle.clause_fitting.proofs.SortCases.{fittings}
+use Rattle.clause_checks.specs.Walks.{Fitting}
+use Rattle.clause_fitting.specs.Fits.{sort_fits}
+use Prim.Native.Nat.{◌-◌}
+use Rattle.text_names.specs.Joint.{joint}
+use Rattle.form.specs.Memory.{part}
+use Rattle.clause_fitting.proofs.sorts.inputs_right.Goals as goal
+
+pub loop-i-init : goal.loop-i-init
+loop-i-init c = search fittings
+
+pub overflow_add-i : goal.overflow_add-i
+overflow_add-i c = search fittings
+
+pub offset_bounds-sorts-i : goal.offset_bounds-sorts-i
+offset_bounds-sorts-i c = search fittings
+
+pub bounds-sorts-i : goal.bounds-sorts-i
+bounds-sorts-i c = search fittings
+
+pub sort_right-requires : goal.sort_right-requires
+sort_right-requires c = search fittings
+
+pub overflow_add-i-then-sort_right : goal.overflow_add-i-then-sort_right
+overflow_add-i-then-sort_right c = search fittings
+
+pub loop-i-smaller : goal.loop-i-smaller
+loop-i-smaller c = search fittings
+
+pub loop-i-preserved : goal.loop-i-preserved
+loop-i-preserved c = search fittings
+
+pub returns-else-sort_right : goal.returns-else-sort_right
+returns-else-sort_right c = search fittings
+
+pub returns-else-i-end : goal.returns-else-i-end
+returns-else-i-end c = search fittings
+
+pub returns : goal.returns
+returns c = search fittings
