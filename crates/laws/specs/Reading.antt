@@ -15,7 +15,7 @@ use Rattle.meaning.specs.Syntax.{Function, Signature, Parameter, Pair, Clause, r
 use Rattle.meaning.specs.Tokens.{ident, operator, token_at}
 use Rattle.meaning.specs.OrderLaws.{Every}
 use Rattle.meaning.specs.Texts.{Texts, all_read, read_texts}
-use Rattle.meaning.specs.TextsLaws.{of_both}
+use Rattle.meaning.proofs.TextsLaws.{of_both}
 use Rattle.laws.specs.EveryLaws.{every_append}
 use Rattle.meaning.specs.Grammar.{State, Result, done, refused, Parser, after, ◌>>=◌ as bind_read, ◌>>◌ as next_read, return, refuse, unexpected, if_next, is, begins_term, too_many, empty_signature, step, expect, short_name, name, bare_operator, that_name, this_name, separated, many, some_of, optional, sort_list, input_type, prefix_operator, infix_operator, one_input, two_inputs, function_by, function, signature, parameter, exports, function_name, pair, pairs, renamed, bound, perhaps_renamed, modifier, modifier_end, import_expression, imports, variable_group, variables, counted, term_name, term_operator, primary_by, prefixed, operand, term_by, in_brackets, term, sides, sides_list, implied, conditional, equation_after, no_nodes, equation, fresh_name, a_module, modules, read}
 

@@ -12,7 +12,8 @@ use Rattle.meaning.specs.Checks.{Culprit, lone, Outcome, fine, stop, Check}
 use Rattle.meaning.specs.Evaluate.{Evaluated, named_by, names_right, evaluate, import_names, missing, too_late, joined_visible}
 use Rattle.meaning.specs.Reached.{Placed, reached, Ended, normalised, refused_at, end_or, total_of, in_turn, module_names, short_or_blank, normalise}
 use Rattle.meaning.specs.OutcomeLaws.{Mirrors}
-use Rattle.meaning.specs.VisiblyLaws.{seen_of, visible_half, evaluate_mirrors}
+use Rattle.meaning.specs.VisiblyLaws.{seen_of, visible_half}
+use Rattle.meaning.proofs.VisiblyLaws.{evaluate_mirrors}
 use Rattle.meaning.specs.Written.{visible_in_order}
 use Rattle.meaning.specs.Texts.{Texts}
 use Rattle.meaning.specs.Listing.{line, lines_text, visible_lines, shown}
