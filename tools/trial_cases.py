@@ -45,10 +45,10 @@ for path in sorted(glob.glob(here + '/rust/reference/vectors/*/*.in')):
 # ---- the help sheet: the input below a number gives it
 
 number = None
-for title, block in re.findall(r'^#+ (\d+)(?: of a diagram)?:|^```\n(.*?)^```', open(here + '/docs/ANSWERS.md').read(), re.M | re.S):
+for title, block in re.findall(r'^#+ (\d+):|^```\n(.*?)^```', open(here + '/docs/ANSWERS.md').read(), re.M | re.S):
     if title:
         number = int(title)
-    elif block.startswith(('normalise=', 'diagram=')):
+    elif block.startswith('normalise='):
         tried('answer-%d' % number, block, number)
 
 # ---- sizes at their limit, and one beyond
@@ -183,26 +183,6 @@ tried('mistake-in-pair-32', bound('M', constants, pairs[:-1] + ['c30 -> A']), 25
 tried('mistake-divided', in_library(bound('M', 'f : X -> X', ['X -> A', 'f -> a'])), 26)
 tried('unpaired-divided', in_library(bound('M', 'c10 : -> X c9 : -> X', ['X -> A'])), 27)
 
-# ---- structure diagrams: as many lines as there may be and one more, 2^63 paths, two texts. Their other sizes are among the vectors
-
-
-def doubled(count, parameters):
-    """the diagram of so many modules, each of which imports the one before twice; the last has so many parameters"""
-    modules = ['module M0 begin end M0'] + ['module M%d begin imports M%d, M%d end M%d' % (i, i - 1, i - 1, i) for i in range(1, count)]
-    modules[-1] = modules[-1].replace('begin', 'begin ' + listed([('P%d' % i, '') for i in range(parameters)]), 1)
-    return 'diagram=M%d\n' % (count - 1) + '\n'.join(modules) + '\n'
-
-
-tried('diagram-1024', doubled(10, 1), 0)
-tried('diagram-1025', doubled(10, 2), 18)
-tried('diagram-paths', doubled(64, 1), 18)
-drawn = ('diagram=M\nmodule N begin parameters P begin end P imports Later end N\nmodule A begin imports N end A\n'
-         'module M begin imports A, N { P bound by [ a -> b ] to Nowhere }, M, N end M\nmodule Later begin end Later\n')
-tried('diagram-small', drawn, 0)
-tried('diagram-divided', divided(drawn, drawn.index('module M') - drawn.index('module N')), 0)
-tried('diagram-late-in-library', divided(drawn, drawn.index('module Later') - drawn.index('module N')), 0)
-tried('diagram-of-library', divided(drawn.replace('=M', '=N', 1), drawn.index('module A') - drawn.index('module N')), 0)
-
 # ---- the listing's size: all that the program lends, and one byte more. An equation's tag makes it longer byte by byte
 
 
@@ -245,18 +225,16 @@ tried('listing-65537', exact.replace(' equations [t', ' equations [tt', 1), 19)
 
 # ---- less is lent: output of the listing's size and one byte less, no output, and a word of working memory less
 
-for name in ['L', 'I.1.18', '3.1-Nstrings', 'diagram-small', 'diagram-1024']:
+for name in ['L', 'I.1.18', '3.1-Nstrings']:
     given, printed = [(g, p) for n, m, o, g, p in cases if n == name][0]
     modules = int(re.search(rb'modules=(\d+)', printed).group(1))
-    asked = given[given.index(b'=') + 1:given.index(b'\n')]
+    asked = given[10:given.index(b'\n')]
     size = size_printed(printed)
     case(name + '-exact', given, printed, output=size)
     case(name + '-one-byte-short', given, refused(19, modules, asked), output=size - 1)
     case(name + '-no-output', given, refused(19, modules, asked), output=0)
     case(name + '-one-word-short', given, refused(19, 0, asked), memory=MEMORY - 1)
     case(name + '-no-memory', given, refused(19, 0, asked), memory=0)
-case('diagram-1025-no-output', doubled(10, 2).encode(), refused(18, 0, b'M9'), output=0)
-case('diagram-1025-no-memory', doubled(10, 2).encode(), refused(19, 0, b'M9'), memory=0)
 case('no-request-no-memory', b'normalise', refused(19, 0, b''), memory=0)
 case('no-library-no-memory', b'normalise=M\nlibrary=999999999\n', refused(19, 0, b'M'), memory=0)
 

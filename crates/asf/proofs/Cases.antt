@@ -17,7 +17,7 @@ use Rattle.meaning.specs.Reached.{short_or_blank}
 use Rattle.meaning.specs.Answer as Meaning
 use Rattle.meaning.specs.Answer.{refusal, unread, of_read, within, answer, output_after, memory_after}
 use Rattle.meaning.specs.Texts.{Texts, Reading, two_texts, read_texts}
-use Rattle.meaning.specs.Contract.{call, call_by}
+use Rattle.meaning.specs.Contract.{call}
 use Rattle.text_names.specs.Word.{name_of}
 use Rattle.text_names.specs.Joint.{joint}
 use Rattle.memory.proofs.Cases.{same_zeros}
@@ -49,7 +49,7 @@ given_within text t w h g = omega (arith, g.size, g.tape)
 module _ (asked : Name) (t : Texts) (w o : List ℕ) (r : Answer) where
   memory_short : length w < memory_size → r ≡ told (refusal lent_short 0 asked (lone []) 0)
       → returned r o (memory_after w) ≡ told_call (call w o asked t)
-  unfolding returned told_call call_by answer pick
+  unfolding returned told_call call answer pick
   memory_short l q =
       let short = lt-ltb (length w) memory_size l in
       rw short
@@ -57,7 +57,7 @@ module _ (asked : Name) (t : Texts) (w o : List ℕ) (r : Answer) where
 
   call_answered : (o' : List ℕ) → memory_size ≤ length w → Answered asked (read_texts t) o r o'
       → returned r o' (memory_after w) ≡ told_call (call w o asked t)
-  unfolding returned told_call call_by answer pick
+  unfolding returned told_call call answer pick
   call_answered o' l a =
       let there = le-ltb (length w) memory_size l in
       rw there
@@ -116,7 +116,7 @@ module _ (asked : Name) (library text w : List ℕ) (what : Sought) (so : Sought
 pub call_over : (asked : Name) (t : Texts) (w o : List ℕ) (r : Answer) (o' w₁ w₂ : List ℕ)
     → returned r o' (memory_after w₁) ≡ told_call (call w₁ o asked t) → length w₁ ≡ length w → w₂ ≡ memory_after w₁
     → returned r o' w₂ ≡ told_call (call w o asked t)
-unfolding returned told_call call_by
+unfolding returned told_call call
 call_over asked t w o r o' w₁ w₂ e s z =
     ap (returned r o') z ∙ e
     ∙ (λ i. record {

@@ -15,7 +15,7 @@ use Rattle.meaning.specs.Reached.{short_or_blank}
 use Rattle.meaning.specs.Texts.{Texts}
 use Rattle.meaning.specs.Answer as Meaning
 use Rattle.meaning.specs.Answer.{answer, output_after, memory_after}
-use Rattle.meaning.specs.Contract.{call, call_by}
+use Rattle.meaning.specs.Contract.{call}
 use Rattle.meaning.specs.Contract as Contract
 use Rattle.promises.specs.Given.{in_cycle}
 use Rattle.promises.specs.NoCycle.{never_in_cycle}
@@ -70,7 +70,7 @@ module _ (memory output : List ℕ) (asked : Names.Name) (texts : Texts) (r : Re
   coincide r' e' = e ∙ sym e'
 
   pub answer_told : r.answer ≡ told a
-  unfolding told_call call_by
+  unfolding told_call call
   answer_told = ap (λ (x : Returned). x.answer) e
 
   pub number_told : r.answer.number ≡ a.number
@@ -112,18 +112,18 @@ module _ (memory output : List ℕ) (asked : Names.Name) (texts : Texts) (r : Re
 
   -- the listing is at the front of the output
   pub listing_told : take r.answer.listing r.output ≡ Meaning.listing a
-  unfolding told_call call_by told output_after
+  unfolding told_call call told output_after
   listing_told = ap (λ (x : Returned). take x.answer.listing x.output) e ∙ take-append_seam (Meaning.listing a) _
 
   pub refused_unchanged : (r.answer.number ≡ 0 → ⊥) → r.output ≡ output
-  unfolding told_call call_by
+  unfolding told_call call
   refused_unchanged h =
       ap (λ (x : Returned). x.output) e ∙ Contract.refused_unchanged memory output asked texts (λ q. h (number_told ∙ q))
 
   pub same_length : length r.output ≡ length output
-  unfolding told_call call_by
+  unfolding told_call call
   same_length = ap (λ (x : Returned). length x.output) e ∙ Contract.same_length memory output asked texts
 
   pub memory_zero : r.memory ≡ memory_after memory
-  unfolding told_call call_by
+  unfolding told_call call
   memory_zero = ap (λ (x : Returned). x.memory) e

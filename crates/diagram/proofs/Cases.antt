@@ -22,7 +22,7 @@ use Rattle.answer.specs.declared.Answer.{Answer}
 use Rattle.answer.specs.Answers.{told, returned, told_call}
 use Rattle.ask_names.specs.Lying.{refused_so, first_end, first_room, first_size, first_short, first_within, first_spoken}
 use Rattle.diagram_meaning.specs.Answer.{diagram_answer, diagram_call}
-use Rattle.meaning.specs.Contract.{call_by}
+use Rattle.diagram_meaning.specs.Calls.{call_by}
 use Rattle.diagram_lent.specs.Drawn.{Drawn, Ready}
 use Rattle.diagram_lent.specs.Lent.{asked_starting, asked_within, counted_starting, counted_within, answer_over, answer_long, answer_done, ready_within, ready_small, absent_drawn, asked_there, unread_drawn}
 

@@ -8,7 +8,7 @@ use Rattle.meaning.specs.Written.{decimal}
 use Rattle.meaning.specs.Listing.{Line, line_text}
 use Rattle.list_pen.specs.Pen.{Pen, pen, written}
 use Rattle.list_pen.proofs.Laws.{then}
-use Rattle.diagram_meaning.specs.Diagram.{Binding, bind_line}
+use Rattle.diagram_meaning.specs.Diagram.{bind_line}
 use Rattle.diagram_lines.specs.Sheet.{line_limit, drawing, drew, named_line, front_of}
 use Rattle.diagram_lines.specs.Laws.{drew_full, line_on}
 

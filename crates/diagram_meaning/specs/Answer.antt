@@ -7,8 +7,9 @@ use Rattle.meaning.specs.Checks.{lone}
 use Rattle.meaning.specs.Reached.{module_names, short_or_blank}
 use Rattle.meaning.specs.Texts.{Texts, Reading, all_read, refused_in, read_texts}
 use Rattle.meaning.specs.Listing.{Line}
-use Rattle.meaning.specs.Answer.{Answer, refusal, unread, within, with_memory, Answering}
-use Rattle.meaning.specs.Contract.{Call, call_by}
+use Rattle.meaning.specs.Answer.{Answer, refusal, unread, within}
+use Rattle.meaning.specs.Contract.{Call}
+use Rattle.diagram_meaning.specs.Calls.{Answering, with_memory, call_by}
 use Rattle.diagram_meaning.specs.Diagram.{diagram_limit, first_lines}
 
 -- ---- the answer: nothing is evaluated, so that the count is 0

@@ -1,6 +1,7 @@
 -- what is drawn
 pub mod Diagram
--- the answer of a call, and what the program prints
+-- the answer of a call
+pub mod Calls
 pub mod Answer
 pub mod Opened
 -- what is computed of it: the lines up to a limit

@@ -2,11 +2,11 @@
 use Rattle.std.specs.Prelude.{◌≡◌, length}
 use Rattle.std.proofs.Math.Path.{refl, sym, ap, ap₂}
 use Rattle.std.proofs.Common.{◌∙◌, arith, length-append}
-use Prim.Native.Nat.{ℕ, zero, suc, ◌+◌}
+use Prim.Native.Nat.{ℕ, suc, ◌+◌}
 use mathlib.Core.List.{List, [], ◌∷◌, ◌++◌, map}
 use Rattle.meaning.specs.Lists.{each, sum}
 use Rattle.meaning.specs.Names.{Name}
-use Rattle.meaning.specs.Origins.{FunctionType, Head, ResolvedTerm, var, app, ResolvedTerms, none_left, ◌and_then◌, ResolvedSides, ResolvedEquation}
+use Rattle.meaning.specs.Origins.{FunctionType, ResolvedTerm, var, app, ResolvedTerms, none_left, ◌and_then◌, ResolvedSides, ResolvedEquation}
 use Rattle.meaning.specs.Normal.{move_sort, move_head, move_term, move_terms, move_sides, move_equation}
 use Rattle.meaning.specs.Checks.{term_nodes, terms_nodes, sides_nodes, equation_nodes}
 use Rattle.form.specs.Forms.{Node, function_node, variable_node, how_many, flat_term, flat_terms, flat_sides, flat_equation}

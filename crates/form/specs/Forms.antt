@@ -1,5 +1,5 @@
 -- What tables of the working memory stand for: lists of items, nodes, equations, and a whole normal form of the meaning.
-use Rattle.std.specs.Prelude.{◌≡◌, ℕ, zero, suc, ◌+◌, ◌-◌, ◌*◌, ◌/◌, ◌%◌, ◌≤◌, ◌<◌, Bool, true, false, List, [], ◌∷◌, ◌++◌, map, eqb, length, get_or, take, drop}
+use Rattle.std.specs.Prelude.{◌≡◌, ℕ, zero, suc, ◌+◌, ◌*◌, ◌/◌, ◌%◌, ◌≤◌, ◌<◌, Bool, true, false, List, [], ◌∷◌, ◌++◌, map, eqb, length, get_or, take, drop}
 use Rattle.meaning.specs.Lists.{pick, each, sum}
 use Rattle.meaning.specs.Numbers.{node_limit}
 use Rattle.meaning.specs.Origins.{Origin, Sort, hidden_sort, Head, visible_head, hidden_head, ResolvedTerm, var, app, ResolvedTerms, none_left, ◌and_then◌, ResolvedSides, ResolvedEquation, Shape, sort_shape, function_shape, variable_shape, is_sort, is_function, Item}

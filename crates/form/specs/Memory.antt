@@ -1,5 +1,5 @@
 -- Parts of the working memory, and what stays as it was.
-use Rattle.std.specs.Prelude.{◌≡◌, ◌⊎◌, ℕ, ◌+◌, ◌-◌, ◌≤◌, ◌<◌, List, length, get_or, take, drop}
+use Rattle.std.specs.Prelude.{◌≡◌, ◌⊎◌, ℕ, ◌-◌, ◌≤◌, ◌<◌, List, length, get_or, take, drop}
 
 -- the words from a up to e, as the borrow checker has them when the part is lent
 abbrev pub part : List ℕ → ℕ → ℕ → List ℕ

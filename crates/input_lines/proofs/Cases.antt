@@ -15,10 +15,10 @@ use lib.Seq.{take_at, drop-cons}
 use Rattle.meaning.specs.Laws.{by_cases}
 use Rattle.meaning.specs.Lists.{pick}
 use Rattle.meaning.specs.Names.{same}
-use Rattle.meaning.specs.Numbers.{text_size, name_size}
+use Rattle.meaning.specs.Numbers.{text_size}
 use Rattle.meaning.specs.Tokens.{run_end}
 use Rattle.meaning.specs.Written.{digits, decimal}
-use Rattle.meaning.specs.Answer.{in_line, request_end, has_request, library_request, library_request_end, said_by, has_library_line, library_too_long, texts_in}
+use Rattle.meaning.specs.Answer.{in_line, request, request_end, has_request, library_request, library_request_end, said_by, has_library_line, library_too_long, texts_in}
 use Rattle.text_names.proofs.Runs.{run_on, run_stop, run_ends, run_from, front}
 use Rattle.list_pen.specs.Pen.{Pen, pen, written}
 use Rattle.list_pen.proofs.Laws.{written_kept, laid, reached}
@@ -41,12 +41,12 @@ module _ (input : List ℕ) (s i : ℕ) where
   pub line_out : length input ≤ i → Seeking → i ≡ run_end in_line input s
   line_out h v = sym (v ∙ run_ends in_line input i h)
 
--- a line ends behind its start: a name starts behind the word
-pub line_start : (input : List ℕ) (n e : ℕ) → e ≡ run_end in_line input n → n ≤ e
-line_start input n e h = run_from in_line input n e h
+-- the name starts behind `normalise=`
+pub request_start : (input : List ℕ) (e : ℕ) → e ≡ request_end input → 10 ≤ e
+request_start input e h = run_from in_line input 10 e h
 
-pub line_room : (input : List ℕ) (n e : ℕ) → e ≡ run_end in_line input n → e < length input → n ≤ length input
-line_room input n e h l = omega (arith, line_start input n e h)
+pub request_room : (input : List ℕ) (e : ℕ) → e ≡ request_end input → e < length input → 10 ≤ length input
+request_room input e h l = omega (arith, request_start input e h)
 
 -- the three tests of a line: where one of the last two fails, and where both pass
 no_end : (s x : Bool) → false ≡ (s && false && x)
@@ -61,24 +61,18 @@ alone : (s : Bool) → s ≡ (s && true && true)
 alone true = refl
 alone false = refl
 
-module _ (word input : List ℕ) (e : ℕ) (at_end : e ≡ request_end word input) where
-  abbrev begins : Bool
-  begins = same (take (length word) input) word
-
-  pub request_unended : length input ≤ e → false ≡ has_request word input
+module _ (input : List ℕ) (e : ℕ) (at_end : e ≡ request_end input) where
+  pub request_unended : length input ≤ e → false ≡ has_request input
   unfolding has_request pick
-  request_unended h = rw (← at_end, le-ltb e (length input) h) (no_end begins _)
+  request_unended h = rw (← at_end, le-ltb e (length input) h) (no_end (same (take 10 input) request) _)
 
-  pub request_long : e < length input → name_size < e - length word → false ≡ has_request word input
+  pub request_long : e < length input → 50 < e → false ≡ has_request input
   unfolding has_request pick
-  request_long h k = rw (← at_end, lt-ltb e (length input) h, lt-leb e (length word + name_size) (omega (arith, k))) (too_long begins)
+  request_long h k = rw (← at_end, lt-ltb e (length input) h, lt-leb e 50 k) (too_long (same (take 10 input) request))
 
-  pub request_told : (r : Bool) → e < length input → e - length word ≤ name_size → r ≡ same (take (length word - 0) (drop 0 input)) word
-      → r ≡ has_request word input
+  pub request_told : (r : Bool) → e < length input → e ≤ 50 → r ≡ same (take 10 input) request → r ≡ has_request input
   unfolding has_request pick
-  request_told r h k s =
-      let size : length word - 0 ≡ length word = omega arith in
-      rw (← at_end, lt-ltb e (length input) h, le-leb e (length word + name_size) (omega (arith, k))) ((rw size at s) ∙ alone begins)
+  request_told r h k s = rw (← at_end, lt-ltb e (length input) h, le-leb e 50 k) (s ∙ alone (same (take 10 input) request))
 
 -- both tests of a first line that ends passed
 record Ends (x y : Bool) : Type 0 where
@@ -100,10 +94,10 @@ line_both s x y exact q = both s x y (go (s && x && y) q)
     go true e = refl
     go false e = absurd (false≢true e)
 
-module _ (word input : List ℕ) (e : ℕ) (at_end : e ≡ request_end word input) (r : Bool) (told : r ≡ has_request word input) (asked : r ≡ true) where
-  ends : Ends (ltb e (length input)) (leb e (length word + name_size))
+module _ (input : List ℕ) (e : ℕ) (at_end : e ≡ request_end input) (r : Bool) (told : r ≡ has_request input) (asked : r ≡ true) where
+  ends : Ends (ltb e (length input)) (leb e 50)
   unfolding has_request
-  ends = rw at_end (both (same (take (length word) input) word) _ _ (sym told ∙ asked))
+  ends = rw at_end (both (same (take 10 input) request) _ _ (sym told ∙ asked))
 
   pub request_ends : e < length input
   request_ends = ltb-true e (length input) ends.ended
@@ -111,11 +105,11 @@ module _ (word input : List ℕ) (e : ℕ) (at_end : e ≡ request_end word inpu
   pub request_ends_within : e ≤ length input
   request_ends_within = omega (arith, request_ends)
 
-  pub request_short : e ≤ length word + name_size
-  request_short = leb-true e (length word + name_size) ends.short
+  pub request_short : e ≤ 50
+  request_short = leb-true e 50 ends.short
 
-  pub request_fits : length word ≤ 10 → Fits w64 (e + 1)
-  request_fits h = omega (arith, h, request_short)
+  pub request_fits : Fits w64 (e + 1)
+  request_fits = omega (arith, request_short)
 
   pub behind_request : e + 1 ≤ length input
   behind_request = omega (arith, request_ends)
@@ -195,6 +189,12 @@ module _ (k n : ℕ) (page page' : List ℕ) (ten : length page ≡ 10) (e : pen
   decimal_told bs r h = rw ten_front at h
 
 module _ (rest : List ℕ) (e : ℕ) (at_end : e ≡ library_request_end rest) where
+  pub library_start : 8 ≤ e
+  library_start = run_from in_line rest 8 e at_end
+
+  pub library_room : e < length rest → 8 ≤ length rest
+  library_room h = omega (arith, library_start)
+
   pub library_digits : e ≤ 17 → length (take (e - 8) (drop 8 rest)) ≤ 9
   library_digits h = omega (arith, length-take (e - 8) (drop 8 rest))
 
@@ -263,4 +263,4 @@ module _ (rest : List ℕ) (e : ℕ) (at_end : e ≡ library_request_end rest) w
         }
 
 -- what the answers of this crate hand to `search`
-pub ruleset cases = (line_on, line_stop, line_out, line_start, line_room, request_unended, request_long, request_told, request_ends, request_ends_within, request_fits, behind_request, saying_none, saying_ten, saying_more, saying_again, saying_end, ten_within, decimal_told, library_digits, library_unended, library_long, library_other, library_told, framed_none, line_ends_within, line_reaches, line_short, line_fits, library_fits, framed_long, framed_both, framed_few, rules)
+pub ruleset cases = (line_on, line_stop, line_out, request_start, request_room, request_unended, request_long, request_told, request_ends, request_ends_within, request_fits, behind_request, saying_none, saying_ten, saying_more, saying_again, saying_end, ten_within, decimal_told, library_start, library_room, library_digits, library_unended, library_long, library_other, library_told, framed_none, line_ends_within, line_reaches, line_short, line_fits, library_fits, framed_long, framed_both, framed_few, rules)

@@ -1,5 +1,4 @@
-// How an input is framed: its first line, which says what is asked for and names the module, and the line behind it that may say how long the
-// library is.
+// How an input is framed: its first line, which names the asked module, and the line behind it that may say how long the library is.
 #![tactic(auto)]
 
 ghost use Rattle.std.specs.Prelude.{◌≡◌, ◌-◌, ◌≤◌, length};
@@ -25,19 +24,18 @@ pub fn line_end(input: &[u8], start: usize) -> usize
     i
 }
 
-// Does the input begin with a line that has this word, and behind it a name of at most 40 bytes? That line ends at e.
-pub fn has_request(input: &[u8], word: &[u8], e: usize) -> bool
-    requires { e ≡ request_end word.now input.now }
-    ensures { result ≡ has_request word.now input.now }
+// Does the input begin with a line `normalise=NAME`, whose NAME has at most 40 bytes? That line ends at e.
+pub fn has_request(input: &[u8], e: usize) -> bool
+    requires { e ≡ request_end input.now }
+    ensures { result ≡ has_request input.now }
 {
-    let size = word.len();
     if input.len() <= e {
         return false;
     }
-    if numbers::NAME_SIZE < e - size {
+    if 50 < e {
         return false;
     }
-    text_names::same_bytes(&input[0..size], word)
+    text_names::same_bytes(&input[0..10], b"normalise=")
 }
 
 // ---- the library's line

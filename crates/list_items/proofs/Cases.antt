@@ -16,7 +16,7 @@ use Rattle.form_sections.specs.declared.Section.{Section}
 use Rattle.form_sections.specs.declared.Section.TheVariants.{Export, Hidden, Parameter}
 use Rattle.form_rows.specs.Entries.{role_at, name_at, word_at, names_from, is_function_role, arity_at, sort_place, declared_at}
 use Rattle.form_rows.specs.Rows.{section_of}
-use Rattle.list_pen.specs.Pen.{Pen, pen, written, rows_text, rows_texts}
+use Rattle.list_pen.specs.Pen.{Pen, written, rows_text, rows_texts}
 use Rattle.list_pen.proofs.Laws.{then}
 use Rattle.list_pen.proofs.Rows.{rows_start, rows_again, rows_end, rows_between}
 use Rattle.list_items.specs.Parts.{marked_name, declared_function_text, variable_type_text, declared_variable_text, declared_sort_text}

@@ -177,7 +177,7 @@ module _ (text w : List ℕ) (d i n₀ : ℕ) (p₀ : List ℕ) (o₀ : Lent) (n
       }
 
 -- the output comes back as the reference that is handed back shows it, since both have one name
-pub came_back : (s : Spelt) (p : List ℕ) (o : Lent) (p' : List ℕ) (o' : Lent) (r : List ℕ) → (o.name ≡ o'.ghost_name → r ≡ o'.now) → Placed s p o p' o'
+pub came_back : (s : Spelt) (p : List ℕ) (o : Lent) (p' : List ℕ) (o' : Lent) (r : List ℕ) → (o.ghost_name ≡ o'.ghost_name → r ≡ o'.now) → Placed s p o p' o'
     → Shown (get_or p 2 0) (get_or p 0 0) s o.now (reached p') r
 came_back s p o p' o' r f h = rw (f (sym (ap (λ x. x.ghost_name) h.same))) h.shown
 

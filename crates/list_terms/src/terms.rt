@@ -153,7 +153,7 @@ fn put_heads(
 }
 
 // What follows an item's first argument: the others from the node on, `left` of them, each behind a comma, and the closing bracket.
-#[cycle(put_deep_put_more)]
+#[cycle(writing)]
 fn put_more(
     out: &mut &mut [u8],
     library: &&[u8],
@@ -176,7 +176,7 @@ fn put_more(
 
 // The term at the node, down to a depth. First arguments stand straight behind their items, so a loop goes down them and one goes back:
 // only the other arguments take a level.
-#[cycle(put_deep_put_more)]
+#[cycle(writing)]
 fn put_deep(
     out: &mut &mut [u8],
     library: &&[u8],

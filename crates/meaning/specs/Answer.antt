@@ -50,15 +50,11 @@ of_read asked (refused_in in_library number at) = unread in_library number at
 unfoldable pub within : ℕ → Name → Answer → Answer
 within output_lent asked r = pick (leb (length (listing r)) output_lent) r (refusal lent_short r.modules asked (lone []) 0)
 
--- before all else the working memory may be too short
-abbrev pub with_memory : ℕ → Name → Answer → Answer
-with_memory memory_lent asked r = pick (ltb memory_lent memory_size) (refusal lent_short 0 asked (lone []) 0) r
-
--- the answer of a call that lends so much working memory and output
+-- the answer of a call that lends so much working memory and output: before all else, the memory may be too short
 unfoldable pub answer : ℕ → ℕ → Name → Texts → Answer
 answer memory_lent output_lent asked t =
     let r = within output_lent asked (of_read asked (read_texts t)) in
-    with_memory memory_lent asked r
+    pick (ltb memory_lent memory_size) (refusal lent_short 0 asked (lone []) 0) r
 
 -- the lent output after the call: the listing, and the bytes after it unchanged
 unfoldable pub output_after : Answer → List ℕ → List ℕ
@@ -96,14 +92,17 @@ printed r = lines_text (printed_lines r)
 abbrev pub in_line : List ℕ → Bool
 in_line s = pick (eqb (get_or s 0 0) (byte "\n")) false true
 
--- the first line is a word that asks for something, and a NAME that is not too long, ended by LF: where the name ends
-abbrev pub request_end : List ℕ → List ℕ → ℕ
-request_end word input = run_end in_line input (length word)
+-- the first line is `normalise=NAME`, ended by LF, with a NAME that is not too long: where the name begins, and where it ends
+abbrev pub request : List ℕ
+request = bytes "normalise="
 
-unfoldable pub has_request : List ℕ → List ℕ → Bool
-has_request word input =
-    let e = request_end word input in
-    same (take (length word) input) word && ltb e (length input) && leb e (length word + name_size)
+abbrev pub request_end : List ℕ → ℕ
+request_end input = run_end in_line input (length request)
+
+unfoldable pub has_request : List ℕ → Bool
+has_request input =
+    let e = request_end input in
+    same (take (length request) input) request && ltb e (length input) && leb e (length request + name_size)
 
 -- the second line may be `library=N`, ended by LF, N decimal of at most nine digits without leading zeros
 abbrev pub library_request : List ℕ
@@ -146,39 +145,21 @@ texts_in rest =
     let enough = pick (has_library_line rest) (leb to (length rest)) false in
     pick enough both (two_texts [] rest)
 
--- what a first line asks for: the answer for a name and two texts, where so much working memory and output are lent
-abbrev pub Answering : Type 0
-Answering = ℕ → ℕ → Name → Texts → Answer
-
--- the answer for the asked module, where this is behind the first line
-unfoldable pub answer_behind : Answering → ℕ → ℕ → Name → List ℕ → Answer
-answer_behind answering memory_lent output_lent asked rest =
-    let told = answering memory_lent output_lent asked (texts_in rest) in
-    let r = pick (library_too_long rest) (unread true over_size text_size) told in
-    with_memory memory_lent asked r
-
--- the answer to an input whose first line has this word, and to any other input
-unfoldable pub asked_by : List ℕ → Answering → ℕ → ℕ → List ℕ → Answer → Answer
-asked_by word answering memory_lent output_lent input other =
-    let e = request_end word input in
-    let told = answer_behind answering memory_lent output_lent (slice input (length word) e) (drop (e + 1) input) in
-    pick (has_request word input) told other
-
--- without a first line 2, at 0
-unfoldable pub unasked : ℕ → Answer
-unasked memory_lent = with_memory memory_lent [] (unread false not_allowed 0)
-
--- a normal form is asked for by `normalise=NAME`
-abbrev pub request : List ℕ
-request = bytes "normalise="
-
+-- the answer to an input, where so much is lent: 19, or without the first line 2, at 0; the texts are what follows that line
 unfoldable pub answer_to : ℕ → ℕ → List ℕ → Answer
-answer_to memory_lent output_lent input = asked_by request answer memory_lent output_lent input (unasked memory_lent)
+answer_to memory_lent output_lent input =
+    let e = request_end input in
+    let asked = pick (has_request input) (slice input (length request) e) [] in
+    let rest = drop (e + 1) input in
+    let told = answer memory_lent output_lent asked (texts_in rest) in
+    let read = pick (library_too_long rest) (unread true over_size text_size) told in
+    let r = pick (has_request input) read (unread false not_allowed 0) in
+    pick (ltb memory_lent memory_size) (refusal lent_short 0 asked (lone []) 0) r
 
 unfoldable pub asfnorm : List ℕ → List ℕ
 asfnorm input = printed (answer_to memory_size program_output input)
 
 -- opens every definition of this file
 unfoldable pub answer_opened : Unit {0}
-unfolding refusal of_ended unread of_read within answer output_after memory_after place_text tells_actual names_told printed_lines printed has_request said_by has_library_line library_too_long texts_in answer_behind asked_by unasked answer_to asfnorm
+unfolding refusal of_ended unread of_read within answer output_after memory_after place_text tells_actual names_told printed_lines printed has_request said_by has_library_line library_too_long texts_in answer_to asfnorm
 answer_opened = tt

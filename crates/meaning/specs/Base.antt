@@ -13,7 +13,7 @@ use Rattle.meaning.specs.Checks.{lone}
 use Rattle.meaning.specs.Reached.{Ended, normalised, refused_at, normalise, module_names}
 use Rattle.meaning.specs.Texts.{two_texts, behind, read_behind, read_texts}
 use Rattle.meaning.specs.Listing.{line, lines_text}
-use Rattle.meaning.specs.Answer.{Answer, refusal, of_ended, unread, of_read, within, with_memory, answer, place_text, names_told, printed_lines, printed, request, request_end, has_request, has_library_line, library_too_long, texts_in, answer_behind, asked_by, unasked, answer_to, asfnorm}
+use Rattle.meaning.specs.Answer.{Answer, refusal, of_ended, unread, of_read, within, answer, place_text, names_told, printed_lines, printed, request, request_end, has_request, has_library_line, library_too_long, texts_in, answer_to, asfnorm}
 
 -- ---- document 01's words
 
@@ -24,7 +24,7 @@ of_one asked (refused number at) = refusal number 0 [] (lone []) at
 unfoldable pub answer_of_one : ℕ → ℕ → Name → List ℕ → Answer
 answer_of_one memory_lent output_lent asked text =
     let r = within output_lent asked (of_one asked (read text module_limit [])) in
-    with_memory memory_lent asked r
+    pick (ltb memory_lent memory_size) (refusal lent_short 0 asked (lone []) 0) r
 
 unfoldable pub plainly_printed : Answer → List ℕ
 plainly_printed r =
@@ -72,11 +72,11 @@ printed_base r e = rw e
 -- document 01's words on the program's input
 unfoldable pub answer_to_one : ℕ → ℕ → List ℕ → Answer
 answer_to_one memory output input =
-    let e = request_end request input in
-    let asked = slice input (length request) e in
-    let told = with_memory memory asked (answer_of_one memory output asked (drop (e + 1) input)) in
-    let none = with_memory memory [] (refusal not_allowed 0 [] (lone []) 0) in
-    pick (has_request request input) told none
+    let e = request_end input in
+    let asked = pick (has_request input) (slice input (length request) e) [] in
+    let told = answer_of_one memory output asked (drop (e + 1) input) in
+    let r = pick (has_request input) told (refusal not_allowed 0 [] (lone []) 0) in
+    pick (ltb memory memory_size) (refusal lent_short 0 asked (lone []) 0) r
 
 either_unmarked : (b : Bool) (x y : Answer) → Unmarked x → Unmarked y → Unmarked (pick b x y)
 unfolding pick
@@ -86,13 +86,12 @@ either_unmarked false x y h k = k
 one_to_unmarked : (memory output : ℕ) (input : List ℕ) → Unmarked (answer_to_one memory output input)
 unfolding answer_to_one refusal
 one_to_unmarked memory output input =
-    either_unmarked _ _ _ (either_unmarked _ _ _ refl (unmarked memory output _ (drop (request_end request input + 1) input)))
-    (either_unmarked _ _ _ refl refl)
+    either_unmarked _ _ _ refl (either_unmarked _ _ _ (unmarked memory output _ (drop (request_end input + 1) input)) refl)
 
 -- without a line for the library, what is printed is what document 01 prints
-module _ (input : List ℕ) (e : has_library_line (drop (request_end request input + 1) input) ≡ false) where
+module _ (input : List ℕ) (e : has_library_line (drop (request_end input + 1) input) ≡ false) where
   same_answer : answer_to memory_size program_output input ≡ answer_to_one memory_size program_output input
-  unfolding answer_to asked_by answer_behind unasked answer_to_one texts_in library_too_long pick refusal unread
+  unfolding answer_to answer_to_one texts_in library_too_long pick refusal unread
   same_answer = rw (e, answer_base)
 
   pub asfnorm_base : asfnorm input ≡ plainly_printed (answer_to_one memory_size program_output input)

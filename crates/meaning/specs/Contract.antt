@@ -5,26 +5,21 @@ use Rattle.meaning.specs.Laws.{by_cases}
 use Rattle.meaning.specs.Lists.{each}
 use Rattle.meaning.specs.Names.{Name}
 use Rattle.meaning.specs.Numbers.{accepted}
-use Rattle.meaning.specs.Checks.{fits}
 use Rattle.meaning.specs.Reached.{Ended, normalised, refused_at, normalise}
 use Rattle.meaning.specs.Texts.{Texts, Reading, all_read, refused_in, read_texts}
 use Rattle.meaning.specs.Listing.{lines_text}
-use Rattle.meaning.specs.Answer.{answer, Answer, Answering, listing, refusal, of_ended, unread, of_read, within, with_memory, output_after, memory_after}
+use Rattle.meaning.specs.Answer.{answer, Answer, listing, refusal, of_ended, unread, of_read, within, output_after, memory_after}
 
 pub record Call : Type 0 where
   pub answer : Answer
   pub output : List ℕ
   pub memory : List ℕ
 
--- the call that is lent this working memory and this output, whatever answers
-unfoldable pub call_by : Answering → (memory output : List ℕ) → Name → Texts → Call
-call_by answering memory output asked t =
-    let r = answering (length memory) (length output) asked t in
+-- the call that is lent this working memory and this output
+unfoldable pub call : (memory output : List ℕ) → Name → Texts → Call
+call memory output asked t =
+    let r = answer (length memory) (length output) asked t in
     record { answer = r; output = output_after r output; memory = memory_after memory }
-
--- the call for a normal form
-abbrev pub call : (memory output : List ℕ) → Name → Texts → Call
-call = call_by answer
 
 module _ (memory output : List ℕ) (asked : Name) (t : Texts) where
   -- two results that the contract allows coincide
@@ -50,37 +45,29 @@ unfolding answer within refusal
 answer_bare memory_lent output_lent asked t =
     by_cases Bare _ _ _ (λ e h. refl) (λ e. by_cases Bare _ _ _ (λ k. read_bare asked (read_texts t)) (λ k h. refl))
 
--- what is listed fits into what is lent
-abbrev pub Fitting : ℕ → Answer → Type 0
+-- a listing fits into what is lent
+abbrev Fitting : ℕ → Answer → Type 0
 Fitting lent r = length (listing r) ≤ lent
 
 passed : (b : Bool) → b ≡ true → T b
 passed true e = tt
 passed false e = let z : ◌≡◌ {A = ℕ} 0 1 = cc in absurd (omega arith)
 
--- so where it does not, 19 is told, before or after
-pub within_fits : (memory_lent output_lent : ℕ) (asked : Name) (r : Answer) → Fitting output_lent (with_memory memory_lent asked (within output_lent asked r))
-unfolding within refusal lines_text each
-within_fits memory_lent output_lent asked r =
+answer_fits : (memory_lent output_lent : ℕ) (asked : Name) (t : Texts) → Fitting output_lent (answer memory_lent output_lent asked t)
+unfolding answer within refusal lines_text each
+answer_fits memory_lent output_lent asked t =
     by_cases (Fitting output_lent) _ _ _ (λ e. omega arith)
     (λ e. by_cases (Fitting output_lent) _ _ _ (λ k. leb→le _ _ (passed _ k)) (λ k. omega arith))
-
-pub answer_fits : (memory_lent output_lent : ℕ) (asked : Name) (t : Texts) → Fitting output_lent (answer memory_lent output_lent asked t)
-unfolding answer
-answer_fits memory_lent output_lent asked t = within_fits memory_lent output_lent asked (of_read asked (read_texts t))
-
--- so the output is as long as it was
-pub output_kept : (r : Answer) (output : List ℕ) → Fitting (length output) r → length (output_after r output) ≡ length output
-unfolding output_after
-output_kept r output fits = rw (length-append, length-drop) (omega (arith, fits))
 
 module _ (memory output : List ℕ) (asked : Name) (t : Texts) where
   -- on any answer but 0 the output is unchanged
   pub refused_unchanged : ((call memory output asked t).answer.number ≡ accepted → ⊥) → (call memory output asked t).output ≡ output
-  unfolding call_by output_after lines_text each
+  unfolding call output_after lines_text each
   refused_unchanged h = rw (answer_bare (length memory) (length output) asked t h)
 
   -- the output's length is unchanged in any case
   pub same_length : length (call memory output asked t).output ≡ length output
-  unfolding call_by
-  same_length = output_kept (answer (length memory) (length output) asked t) output (answer_fits (length memory) (length output) asked t)
+  unfolding call output_after
+  same_length =
+      let fits = answer_fits (length memory) (length output) asked t in
+      rw (length-append, length-drop) (omega (arith, fits))

@@ -1,13 +1,13 @@
 -- The trials that document 01 marks proved: L and eleven of 004's appendix, each with all that the program prints, as one table under one
 -- theorem.
-use Rattle.std.specs.Prelude.{◌≡◌, refl}
+use Rattle.std.specs.Prelude.{◌≡◌, refl, ◌⊎◌}
 use Rattle.std.proofs.Common.{sym, subst, inl, inr}
 use Prim.Native.String.{String}
 use mathlib.Core.List.Memᴰ
 use mathlib.Core.List.{List, [], ◌∷◌, Memᴰ}
 use Rattle.meaning.specs.Names.{bytes}
-use Rattle.program_meaning.specs.Program.{asfnorm}
-use Rattle.program_meaning.specs.Opened.{all_opened}
+use Rattle.meaning.specs.Answer.{asfnorm}
+use Rattle.meaning.specs.Opened.{all_opened}
 
 -- what the program reads and what it prints
 pub record Trial : Type 0 where

@@ -22,7 +22,7 @@ use Rattle.meaning.specs.Clauses.{rename, sorts_right, kind_right, type_right, a
 use Rattle.meaning.specs.Evaluate.{Evaluated, named_by, names_right, declared_once, normal_of, clause, clauses, expressions, united, imported, joined_own, evaluate}
 use Rattle.meaning.specs.Reached.{Placed, reached, Ended, end_or, total_of, in_turn, module_names, normalise}
 use Rattle.meaning.specs.Texts.{Texts, Reading, all_read, refused_in, read_texts}
-use Rattle.meaning.specs.Answer.{Answer, refusal, of_ended, unread, of_read, within, answer, tells_actual, names_told, printed_lines, printed, answer_behind, asked_by, unasked, answer_to, asfnorm}
+use Rattle.meaning.specs.Answer.{Answer, refusal, of_ended, unread, of_read, within, answer, tells_actual, names_told, printed_lines, printed, answer_to, asfnorm}
 use Rattle.meaning.specs.OrderLaws.{Every, any_none}
 use Rattle.laws.specs.Decides.{both_true, shapes_decided}
 use Rattle.laws.specs.EveryLaws.{every_so, every_keep, any_found, any_passes, every_member}
@@ -301,12 +301,10 @@ module _ (memory_lent output_lent : ℕ) (asked : Name) (texts : Texts) where
 
 input_retold : (memory_lent output_lent : ℕ) (input : List ℕ)
     → RetoldAnswer (answer_to_by answer_before memory_lent output_lent input) (answer_to memory_lent output_lent input)
-unfolding answer_to_by answer_to asked_by answer_behind unasked unread refusal
+unfolding answer_to_by answer_to unread refusal
 input_retold memory_lent output_lent input =
-    pick_both RetoldAnswer _ _ _ _ _
-    (pick_both RetoldAnswer _ _ _ _ _ (inl (refl, lit≤ tt))
-    (pick_both RetoldAnswer _ _ _ _ _ (inl (refl, lit≤ tt)) (retold memory_lent output_lent _ _)))
-    (pick_both RetoldAnswer _ _ _ _ _ (inl (refl, lit≤ tt)) (inl (refl, lit≤ tt)))
+    pick_both RetoldAnswer _ _ _ _ _ (inl (refl, lit≤ tt))
+    (pick_both RetoldAnswer _ _ _ _ _ (pick_both RetoldAnswer _ _ _ _ _ (inl (refl, lit≤ tt)) (retold memory_lent output_lent _ _)) (inl (refl, lit≤ tt)))
 
 -- ---- which numbers
 

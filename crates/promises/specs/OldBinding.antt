@@ -1,11 +1,11 @@
 -- Binding as it was before its mistakes were told apart (document 02, Five): 16 for each, with the formal's name alone. It stands here, with a
 -- call by that rule, for the statements of Mistakes.antt.
-use Rattle.std.specs.Prelude.{◌≡◌, refl, ℕ, ◌+◌, Bool, true, not, ◌&&◌, List, [], ◌∷◌, ◌++◌, eqb, length}
+use Rattle.std.specs.Prelude.{◌≡◌, refl, ℕ, ◌+◌, Bool, true, false, not, ◌&&◌, List, [], ◌∷◌, ◌++◌, eqb, ltb, length, drop}
 use Prim.Native.String.{String}
 use Rattle.std.proofs.Math.Option.{Option, none, some}
 use Rattle.meaning.specs.Lists.{pick, any}
-use Rattle.meaning.specs.Names.{bytes, Name, member}
-use Rattle.meaning.specs.Numbers.{memory_size, program_output, accepted, asked_absent, bad_parameter}
+use Rattle.meaning.specs.Names.{bytes, Name, slice, member}
+use Rattle.meaning.specs.Numbers.{text_size, memory_size, program_output, accepted, not_allowed, over_size, asked_absent, bad_parameter, lent_short}
 use Rattle.meaning.specs.Syntax.{Pair, Clause, renamed_by, bound_by, Import, Module}
 use Rattle.meaning.specs.Origins.{Shape, sort_shape, function_shape, variable_shape, same_shape, Item}
 use Rattle.meaning.specs.Written.{decimal}
@@ -15,7 +15,7 @@ use Rattle.meaning.specs.Clauses.{rename, new_sort, new_function, sorts_right, u
 use Rattle.meaning.specs.Evaluate.{Evaluated, named_by, names_right, declared_once, normal_of, united, joined_own}
 use Rattle.meaning.specs.Reached.{Placed, reached, Ended, normalised, refused_at, end_or, total_of, module_names, short_or_blank}
 use Rattle.meaning.specs.Texts.{Texts, two_texts, Reading, all_read, refused_in, read_texts}
-use Rattle.meaning.specs.Answer.{Answer, refusal, of_ended, unread, within, with_memory, place_text, Answering, asked_by, unasked, request}
+use Rattle.meaning.specs.Answer.{Answer, refusal, of_ended, unread, within, place_text, request, request_end, has_request, library_too_long, texts_in}
 use Rattle.meaning.specs.Listing.{line, lines_text}
 use Rattle.meaning.specs.Opened.{all_opened}
 use Rattle.promises.specs.Given.{bad_binding}
@@ -100,18 +100,25 @@ of_read_by turns asked (refused_in in_library number at) = unread in_library num
 unfoldable pub answer_by : (List Name → List Placed → Ended) → ℕ → ℕ → Name → Texts → Answer
 answer_by turns memory_lent output_lent asked t =
     let r = within output_lent asked (of_read_by turns asked (read_texts t)) in
-    with_memory memory_lent asked r
+    pick (ltb memory_lent memory_size) (refusal lent_short 0 asked (lone []) 0) r
 
 abbrev pub turns_before : List Name → List Placed → Ended
 turns_before declared xs = in_turn_before declared [] empty xs
 
 -- the answer by the rule as it was
-abbrev pub answer_before : Answering
+abbrev pub answer_before : ℕ → ℕ → Name → Texts → Answer
 answer_before = answer_by turns_before
 
 -- and to an input, whatever answers
-unfoldable pub answer_to_by : Answering → ℕ → ℕ → List ℕ → Answer
-answer_to_by answering memory_lent output_lent input = asked_by request answering memory_lent output_lent input (unasked memory_lent)
+unfoldable pub answer_to_by : (ℕ → ℕ → Name → Texts → Answer) → ℕ → ℕ → List ℕ → Answer
+answer_to_by answering memory_lent output_lent input =
+    let e = request_end input in
+    let asked = pick (has_request input) (slice input (length request) e) [] in
+    let rest = drop (e + 1) input in
+    let told = answering memory_lent output_lent asked (texts_in rest) in
+    let read = pick (library_too_long rest) (unread true over_size text_size) told in
+    let r = pick (has_request input) read (unread false not_allowed 0) in
+    pick (ltb memory_lent memory_size) (refusal lent_short 0 asked (lone []) 0) r
 
 -- a refusal was printed with one name
 unfoldable pub printed_before : Answer → List ℕ

@@ -11,7 +11,7 @@ use Rattle.meaning.specs.Texts.{Texts}
 use Rattle.meaning.specs.Reached.{Ended, normalised, refused_at, normalise}
 use Rattle.meaning.specs.Listing.{lines_text}
 use Rattle.meaning.specs.Answer.{Answer, listing, refusal, of_ended, of_read, within, answer, output_after}
-use Rattle.meaning.specs.Contract.{Call, call, call_by}
+use Rattle.meaning.specs.Contract.{Call, call}
 use Rattle.promises.specs.Demand.{ReadAs, InTurn}
 use Rattle.promises.specs.TwoCalls.{pick_both}
 use Rattle.promises.specs.PlainText.{read_plain}
@@ -129,7 +129,7 @@ pub record SameCall (c c' : Call) : Type 0 where
 
 pub import_order_call : (texts texts' : Texts) (ms ms' : List Module) → Reordered texts texts' ms ms' → (asked : Name) (memory output : List ℕ)
     → SameCall (call memory output asked texts) (call memory output asked texts')
-unfolding call_by output_after
+unfolding call output_after
 import_order_call texts texts' ms ms' r asked memory output =
     let s = import_order texts texts' ms ms' r asked (length memory) (length output) in
     record { outcome = s; output = rw s.listings; memory = refl }

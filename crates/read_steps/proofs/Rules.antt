@@ -16,4 +16,4 @@ unfolding onward next_in with_word
 remembers (Refused k p) t o w f e h = h
 remembers (Done p) t o w f e h = rw e at h
 
-pub ruleset rules = (remembers, this_quiet, laws, rules)
+pub ruleset grammar = (remembers, this_quiet, laws, rules)

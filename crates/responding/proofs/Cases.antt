@@ -15,13 +15,12 @@ use Rattle.meaning.specs.Names.{bytes, slice}
 use Rattle.meaning.specs.Numbers.{text_size, memory_size, lent_short}
 use Rattle.meaning.specs.Written.{decimal}
 use Rattle.meaning.specs.Checks.{lone}
+use Rattle.meaning.specs.Reached.{short_or_blank}
 use Rattle.meaning.specs.Texts.{Texts, two_texts}
-use Rattle.meaning.specs.Answer.{Answering, request, request_end, has_request, library_too_long, texts_in, answer, answer_behind, asked_by, unasked, with_memory, output_after, memory_after, refusal, unread}
+use Rattle.meaning.specs.Answer.{request_end, has_request, library_too_long, texts_in, answer, answer_to, output_after, memory_after, refusal, unread}
 use Rattle.meaning.specs.Answer as Meaning
 use Rattle.meaning.specs.Listing.{lines_text}
-use Rattle.meaning.specs.Contract.{call, call_by, Fitting, output_kept}
-use Rattle.diagram_meaning.specs.Answer.{diagram_answer, diagram_call, diagram_request}
-use Rattle.program_meaning.specs.Program.{diagram_to, answer_to, asfnorm_with}
+use Rattle.meaning.specs.Contract.{call, same_length}
 use Rattle.list_pen.specs.Pen.{pen, written}
 use Rattle.list_pen.proofs.Laws.{reached}
 use Rattle.answer.specs.declared.Name.{Name}
@@ -31,12 +30,10 @@ use Rattle.answer.specs.Answers.{told_size, returned, told_call}
 use Rattle.input_lines.specs.declared.Framing.{Framing}
 use Rattle.input_lines.specs.declared.Framing.TheVariants.{Alone, TooLong, Both}
 use Rattle.input_lines.specs.Framed.{Framed, AloneFramed, BothFramed}
-use Rattle.input_lines.proofs.Cases.{line_start, request_ends, request_ends_within, request_short, request_fits, behind_request, digits_size}
+use Rattle.input_lines.proofs.Cases.{request_start, request_ends, request_ends_within, request_short, request_fits, behind_request, digits_size}
 use Rattle.answer_lines.specs.Lines.{line_of, spelled, actual_text, marked_place, refusal_text, answer_text}
-use Rattle.responding.specs.declared.Request.{Request}
-use Rattle.responding.specs.declared.Request.TheVariants.{NormalForm, Diagram}
-use Rattle.responding.specs.Requests.{answering, Short, plain, behind_short, behind_fits}
-use Rattle.responding.specs.Program.{page_room, Gives, Refused, Responded}
+use Rattle.responding.specs.Program.{asfnorm_with, page_room, with_memory, answer_behind, Behind, Refused, Responded}
+use Rattle.responding.specs.Short.{with_short, behind_short}
 use Rattle.responding.specs.Printed.{answer_told}
 
 -- ---- how long what is printed is
@@ -114,6 +111,15 @@ page_holds size bs out page page' few e room =
 
 -- ---- the answer
 
+-- 19 is told once
+with_answer : (memory output : ℕ) (asked : List ℕ) (x : Texts) → with_memory memory asked (answer memory output asked x) ≡ answer memory output asked x
+unfolding with_memory answer pick
+with_answer memory output asked x = twice (ltb memory memory_size) _ _
+  where
+    twice : (b : Bool) (x y : Meaning.Answer) → pick b x (pick b x y) ≡ pick b x y
+    twice true x y = refl
+    twice false x y = refl
+
 told_either : (b : Bool) (x y : Meaning.Answer) → pick b (Answers.told x) (Answers.told y) ≡ Answers.told (pick b x y)
 unfolding pick
 told_either true x y = refl
@@ -134,10 +140,11 @@ module _ (asked : List ℕ) (r : Answer) (work work' : List ℕ) (z : work' ≡ 
 -- an answer that is refused in any case, and leaves the output
 module _ (asked work out : List ℕ) (a : Meaning.Answer) (bare : a.lines ≡ []) where
   pub bare_output : output_after (with_memory (length work) asked a) out ≡ out
-  unfolding output_after refusal lines_text each
+  unfolding with_memory output_after refusal lines_text each
   bare_output = by_cases (λ (x : Meaning.Answer). output_after x out ≡ out) _ _ _ (λ e. refl) (λ e. rw bare refl)
 
   pub bare_told : (n r : Answer) (work' : List ℕ) → n ≡ Answers.told a → Refused asked n work r work' → r ≡ Answers.told (with_memory (length work) asked a)
+  unfolding with_memory
   bare_told n r work' e q =
       q.answer ∙ ap (pick (ltb (length work) memory_size) _) e ∙ told_either (ltb (length work) memory_size) (refusal lent_short 0 asked (lone []) 0) a
 
@@ -151,53 +158,39 @@ module _ (rest : List ℕ) (g : Framing) (h : Framed rest g) (from to : ℕ) (e 
   pub both_within : to ≤ length rest
   both_within = both_framed.within
 
--- what the request says is asked
-module _ (memory output : List ℕ) (asked : List ℕ) (t : Texts) (r : Answer) (out' work' : List ℕ) (q : Request) where
-  pub for_normal_form : q ≡ NormalForm → returned r out' work' ≡ told_call (call memory output asked t)
-      → returned r out' work' ≡ told_call (call_by (answering q) memory output asked t)
-  for_normal_form e c = rw e c
-
-  pub for_diagram : q ≡ Diagram → returned r out' work' ≡ told_call (diagram_call memory output asked t)
-      → returned r out' work' ≡ told_call (call_by (answering q) memory output asked t)
-  for_diagram e c = rw e c
-
-module _ (q : Request) (asked rest work out : List ℕ) (r : Answer) (work' out' : List ℕ) where
-  abbrev by_it : Answering
-  by_it = answering q
-
+module _ (asked rest work out : List ℕ) (r : Answer) (work' out' : List ℕ) where
   abbrev behind_it : Meaning.Answer
-  behind_it = answer_behind by_it (length work) (length out) asked rest
+  behind_it = with_memory (length work) asked (answer_behind (length work) (length out) asked rest)
 
   module _ (x : Texts) (s : library_too_long rest ≡ false) (f : texts_in rest ≡ x) where
-    is_answer : answer_behind by_it (length work) (length out) asked rest ≡ by_it (length work) (length out) asked x
+    is_answer : behind_it ≡ answer (length work) (length out) asked x
     unfolding answer_behind pick
-    is_answer = rw (s, f) ((plain q).once (length work) (length out) asked x)
+    is_answer = rw (s, f) (with_answer (length work) (length out) asked x)
 
-    by_texts : returned r out' work' ≡ told_call (call_by by_it work out asked x) → Gives behind_it work out r work' out'
-    unfolding returned told_call call_by
+    by_texts : returned r out' work' ≡ told_call (call work out asked x) → Behind asked rest work out r work' out'
+    unfolding returned told_call call
     by_texts c = record {
       answer = ap (λ (x : Answers.Returned). x.answer) c ∙ ap Answers.told (sym is_answer);
       output = ap (λ (x : Answers.Returned). x.output) c ∙ ap (λ (a : Meaning.Answer). output_after a out) (sym is_answer);
       memory = ap (λ (x : Answers.Returned). x.memory) c;
     }
 
-  pub behind_alone : (g : Framing) → Framed rest g → g ≡ Alone
-      → returned r out' work' ≡ told_call (call_by by_it work out asked (two_texts (take (0 - 0) (drop 0 rest)) rest))
-      → Gives behind_it work out r work' out'
+  pub behind_alone : (g : Framing) → Framed rest g → g ≡ Alone → returned r out' work' ≡ told_call (call work out asked (two_texts (take (0 - 0) (drop 0 rest)) rest))
+      → Behind asked rest work out r work' out'
   behind_alone g h e c =
       let f : AloneFramed rest = subst (Framed rest) e h in
       by_texts (two_texts [] rest) f.short f.texts c
 
   pub behind_both : (g : Framing) (from to : ℕ) → Framed rest g → g ≡ Both from to
-      → returned r out' work' ≡ told_call (call_by by_it work out asked (two_texts (take (to - from) (drop from rest)) (take (length rest - to) (drop to rest))))
-      → Gives behind_it work out r work' out'
+      → returned r out' work' ≡ told_call (call work out asked (two_texts (take (to - from) (drop from rest)) (take (length rest - to) (drop to rest))))
+      → Behind asked rest work out r work' out'
   behind_both g from to h e c =
       let f = both_framed rest g h from to e in
       by_texts (two_texts (slice rest from to) (drop to rest)) f.short f.texts
-      (c ∙ ap (λ (s : List ℕ). told_call (call_by by_it work out asked (two_texts (slice rest from to) s))) (all_behind rest to))
+      (c ∙ ap (λ (s : List ℕ). told_call (call work out asked (two_texts (slice rest from to) s))) (all_behind rest to))
 
   pub behind_long : (g : Framing) (n : Answer) → Framed rest g → g ≡ TooLong → n ≡ Answers.told (unread true 4 32768) → Refused asked n work r work' → out' ≡ out
-      → Gives behind_it work out r work' out'
+      → Behind asked rest work out r work' out'
   unfolding answer_behind unread pick text_size
   behind_long g n h e f q o = record {
     answer = rw too_long (bare_told asked work out (unread true 4 32768) refl n r work' f q);
@@ -208,124 +201,97 @@ module _ (q : Request) (asked rest work out : List ℕ) (r : Answer) (work' out'
       too_long : library_too_long rest ≡ true
       too_long = subst (Framed rest) e h
 
--- ---- the answer to the whole input, by the word of its first line
+  -- the output is as long as it was
+  behind_kept : length (output_after behind_it out) ≡ length out
+  unfolding with_memory answer_behind refusal unread output_after lines_text each call
+  behind_kept =
+      by_cases (λ (a : Meaning.Answer). length (output_after a out) ≡ length out) _ _ _ (λ e. refl)
+      (λ e. by_cases (λ (a : Meaning.Answer). length (output_after a out) ≡ length out) _ _ _ (λ k. refl) (λ k. same_length work out asked (texts_in rest)))
 
-gives_same : (a b : Meaning.Answer) (work out : List ℕ) (r : Answer) (work' out' : List ℕ) → a ≡ b → Gives b work out r work' out' → Gives a work out r work' out'
-gives_same a b work out r work' out' e g = subst (λ (x : Meaning.Answer). Gives x work out r work' out') (sym e) g
+-- without a first line all names are blank
+blank_size : length (Answers.held (short_or_blank [])).bytes ≡ told_size
+unfolding Answers.held short_or_blank pick
+blank_size = refl
 
--- what is asked by a word is what stands behind it
-module _ (word input : List ℕ) (e : ℕ) (at_end : e ≡ request_end word input) (b : Bool) (told : b ≡ has_request word input)
-    (f : Answering) (memory output : ℕ) (other : Meaning.Answer) where
-  asked_so : b ≡ true
-      → asked_by word f memory output input other
-      ≡ answer_behind f memory output (take (e - length word) (drop (length word) input)) (take (length input - (e + 1)) (drop (e + 1) input))
-  unfolding asked_by pick
-  asked_so y = rw (← told, y, ← at_end, all_behind input (e + 1))
+bare_sized : (memory : ℕ) → Sized (Answers.told (with_memory memory [] (unread false 2 0)))
+unfolding with_memory Answers.told Answers.held refusal unread
+bare_sized memory =
+    by_cases (λ (a : Meaning.Answer). Sized (Answers.told a)) (ltb memory memory_size) (refusal lent_short 0 [] (lone []) 0) (unread false 2 0)
+    (λ e. record { module_bytes = blank_size; culprit_bytes = refl; actual_bytes = refl })
+    (λ e. record { module_bytes = blank_size; culprit_bytes = refl; actual_bytes = refl })
 
-  asked_otherwise : b ≡ false → asked_by word f memory output input other ≡ other
-  unfolding asked_by pick
-  asked_otherwise n = rw (← told, n)
+-- ---- the two ways of a response
 
-module _ (input work out : List ℕ) (e : ℕ) (b : Bool) (r : Answer) (work' out' : List ℕ) where
-  abbrev rest : List ℕ
-  rest = take (length input - (e + 1)) (drop (e + 1) input)
+module _ (input work out page : List ℕ) (e : ℕ) (at_end : e ≡ request_end input) (b : Bool) (told : b ≡ has_request input)
+    (r : Answer) (size : ℕ) (work' out' page' : List ℕ) where
+  module _ (passed : b ≡ true) (m : length r.evaluating.bytes ≡ told_size) (w : length r.culprit.bytes ≡ told_size)
+      (v : length r.actual.bytes ≡ told_size) where
+    abbrev asked : List ℕ
+    asked = take (e - 10) (drop 10 input)
 
-  module _ (at_end : e ≡ request_end request input) (told : b ≡ has_request request input) where
-    pub normal_form_asked : b ≡ true → Gives (answer_behind answer (length work) (length out) (take (e - 10) (drop 10 input)) rest) work out r work' out'
-        → Gives (answer_to (length work) (length out) input) work out r work' out'
-    unfolding answer_to
-    normal_form_asked y g = gives_same _ _ work out r work' out' (asked_so request input e at_end b told answer (length work) (length out) _ y) g
+    abbrev rest : List ℕ
+    rest = take (length input - (e + 1)) (drop (e + 1) input)
 
-    pub other_asked : b ≡ false → Gives (diagram_to (length work) (length out) input) work out r work' out'
-        → Gives (answer_to (length work) (length out) input) work out r work' out'
-    unfolding answer_to
-    other_asked n g = gives_same _ _ work out r work' out' (asked_otherwise request input e at_end b told answer (length work) (length out) _ n) g
+    abbrev given : Meaning.Answer
+    given = with_memory (length work) asked (answer_behind (length work) (length out) asked rest)
 
-  module _ (at_end : e ≡ request_end diagram_request input) (told : b ≡ has_request diagram_request input) where
-    pub diagram_asked : b ≡ true → Gives (answer_behind diagram_answer (length work) (length out) (take (e - 8) (drop 8 input)) rest) work out r work' out'
-        → Gives (diagram_to (length work) (length out) input) work out r work' out'
-    unfolding diagram_to
-    diagram_asked y g =
-        gives_same _ _ work out r work' out' (asked_so diagram_request input e at_end b told diagram_answer (length work) (length out) _ y) g
+    is_answered : answer_to (length work) (length out) input ≡ given
+    unfolding answer_to with_memory answer_behind pick
+    is_answered = rw (sym told ∙ passed, ← at_end, all_behind input (e + 1))
 
-    pub none_asked : b ≡ false → Gives (unasked (length work)) work out r work' out' → Gives (diagram_to (length work) (length out) input) work out r work' out'
-    unfolding diagram_to
-    none_asked n g =
-        gives_same _ _ work out r work' out' (asked_otherwise diagram_request input e at_end b told diagram_answer (length work) (length out) _ n) g
+    is_short : length asked ≤ 40
+    is_short = omega (arith, length-take (e - 10) (drop 10 input), request_short input e at_end b told passed)
 
-pub none_told : (work out : List ℕ) (n r : Answer) (work' : List ℕ) → n ≡ Answers.told (unread false 2 0) → Refused [] n work r work'
-    → Gives (unasked (length work)) work out r work' out
-unfolding unasked unread
-none_told work out n r work' e q = record {
-  answer = bare_told [] work out (unread false 2 0) refl n r work' e q;
-  output = sym (bare_output [] work out (unread false 2 0) refl);
-  memory = q.memory;
-}
+    pub respond_asked : Behind asked rest work out r work' out' → pen size page' ≡ written (length page + 1) (answer_text r out') (pen 0 page)
+        → Responded input work out page size work' out' page'
+    unfolding asfnorm_with
+    respond_asked c p = record {
+      printed = p ∙ ap (λ (bs : List ℕ). written (length page + 1) bs (pen 0 page)) text_is;
+      fits = page_holds size (answer_text r out') out page page' few p;
+      memory = c.memory;
+      output = rw is_answered c.output;
+    }
+      where
+        text_is : answer_text r out' ≡ Meaning.printed (answer_to (length work) (length out) input)
+        text_is =
+            rw (is_answered, c.answer, c.output) (answer_told given (behind_short asked is_short (length work) (length out) rest) out)
 
--- ---- what every answer to an input has: a short module's name, and lines that fit
+        few : length (answer_text r out') ≤ length out + page_room
+        few =
+            omega (
+              arith,
+              answer_size r out' (record { module_bytes = m; culprit_bytes = w; actual_bytes = v }),
+              ap (λ (x : List ℕ). length x) c.output,
+              behind_kept asked rest work out r work' out',
+            )
 
-module _ (P : Meaning.Answer → Type 0) (memory output : ℕ) (input : List ℕ) where
-  asked_has : (word : List ℕ) (f : Answering) (other : Meaning.Answer)
-      → (has_request word input ≡ true → P (answer_behind f memory output (slice input (length word) (request_end word input)) (drop (request_end word input + 1) input)))
-      → P other → P (asked_by word f memory output input other)
-  unfolding asked_by
-  asked_has word f other h k = by_cases P _ _ _ h (λ e. k)
+  module _ (failed : b ≡ false) where
+    abbrev none : Meaning.Answer
+    none = unread false 2 0
 
-  answered_has : ((q : Request) (word : List ℕ) → has_request word input ≡ true
-      → P (answer_behind (answering q) memory output (slice input (length word) (request_end word input)) (drop (request_end word input + 1) input)))
-      → P (unasked memory) → P (answer_to memory output input)
-  unfolding answer_to diagram_to
-  answered_has h none =
-      asked_has request answer _ (h NormalForm request) (asked_has diagram_request diagram_answer _ (h Diagram diagram_request) none)
+    not_answered : answer_to (length work) (length out) input ≡ with_memory (length work) [] none
+    unfolding answer_to with_memory pick
+    not_answered = rw (sym told ∙ failed)
 
-called_short : (word input : List ℕ) → has_request word input ≡ true → Short (slice input (length word) (request_end word input))
-called_short word input h =
-    omega (
-      arith,
-      length-take (request_end word input - length word) (drop (length word) input),
-      request_short word input (request_end word input) refl true (sym h) refl,
-    )
+    pub respond_unasked : (n : Answer) → n ≡ Answers.told none → Refused [] n work r work' → out' ≡ out
+        → pen size page' ≡ written (length page + 1) (answer_text r []) (pen 0 page)
+        → Responded input work out page size work' out' page'
+    unfolding asfnorm_with unread
+    respond_unasked n f q o p = record {
+      printed = p ∙ ap (λ (bs : List ℕ). written (length page + 1) bs (pen 0 page)) text_is;
+      fits = page_holds size (answer_text r []) out page page' (omega (arith, answer_size r [] sized)) p;
+      memory = q.memory;
+      output = rw not_answered (o ∙ sym (bare_output [] work out none refl));
+    }
+      where
+        sized : Sized r
+        sized = subst Sized (sym (bare_told [] work out none refl n r work' f q)) (bare_sized (length work))
 
-to_short : (memory output : ℕ) (input : List ℕ) → Short (answer_to memory output input).evaluating
-unfolding unasked refusal unread
-to_short memory output input =
-    answered_has (λ (a : Meaning.Answer). Short a.evaluating) memory output input
-    (λ q word h. behind_short (answering q) (plain q) memory output _ _ (called_short word input h))
-    (by_cases (λ (a : Meaning.Answer). Short a.evaluating) _ _ _ (λ e. omega arith) (λ e. omega arith))
-
-to_fits : (memory output : ℕ) (input : List ℕ) → Fitting output (answer_to memory output input)
-unfolding unasked refusal unread lines_text each
-to_fits memory output input =
-    answered_has (Fitting output) memory output input (λ q word h. behind_fits (answering q) (plain q) memory output _ _)
-    (by_cases (Fitting output) _ _ _ (λ e. omega arith) (λ e. omega arith))
-
--- ---- the response
-
-pub responded : (input work out page : List ℕ) (r : Answer) (work' out' : List ℕ) (size : ℕ) (page' : List ℕ) → length r.evaluating.bytes ≡ told_size
-    → length r.culprit.bytes ≡ told_size → length r.actual.bytes ≡ told_size → Gives (answer_to (length work) (length out) input) work out r work' out'
-    → pen size page' ≡ written (length page + 1) (answer_text r out') (pen 0 page) → Responded input work out page size work' out' page'
-unfolding asfnorm_with
-responded input work out page r work' out' size page' m w v c p = record {
-  printed = p ∙ ap (λ (bs : List ℕ). written (length page + 1) bs (pen 0 page)) text_is;
-  fits = page_holds size (answer_text r out') out page page' few p;
-  memory = c.memory;
-  output = c.output;
-}
-  where
-    given : Meaning.Answer
-    given = answer_to (length work) (length out) input
-
-    text_is : answer_text r out' ≡ Meaning.printed given
-    text_is = rw (c.answer, c.output) (answer_told given (to_short (length work) (length out) input) out)
-
-    few : length (answer_text r out') ≤ length out + page_room
-    few =
-        omega (
-          arith,
-          answer_size r out' (record { module_bytes = m; culprit_bytes = w; actual_bytes = v }),
-          ap (λ (x : List ℕ). length x) c.output,
-          output_kept given out (to_fits (length work) (length out) input),
-        )
+        text_is : answer_text r [] ≡ Meaning.printed (answer_to (length work) (length out) input)
+        text_is =
+            rw (not_answered, bare_told [] work out none refl n r work' f q)
+            (ap (answer_text (Answers.told (with_memory (length work) [] none))) (sym (bare_output [] work [] none refl))
+            ∙ answer_told (with_memory (length work) [] none) (with_short [] (omega arith) (length work) none (omega arith)) [])
 
 -- what the answers of this crate hand to `search`
-pub ruleset cases = (line_start, request_ends, request_ends_within, request_fits, behind_request, refused_short, refused_kept, both_forward, both_within, for_normal_form, for_diagram, behind_alone, behind_both, behind_long, normal_form_asked, other_asked, diagram_asked, none_asked, none_told, rules)
+pub ruleset cases = (request_start, request_ends, request_ends_within, request_fits, behind_request, refused_short, refused_kept, both_forward, both_within, behind_alone, behind_both, behind_long, rules)

@@ -6,8 +6,7 @@ use mathlib.Core.List.{List}
 use lib.ListN.{length, take, drop}
 use lib.Seq.{take_at}
 use Rattle.list_pen.proofs.Laws.{count_fits, laid}
-use Rattle.program_meaning.specs.Program.{asfnorm_with}
-use Rattle.responding.specs.Program.{page_room, Responded}
+use Rattle.responding.specs.Program.{asfnorm_with, page_room, Responded}
 
 module _ (input work out page : List ℕ) (size : ℕ) (work' out' page' : List ℕ) (r : Responded input work out page size work' out' page')
     (room : length out + page_room ≤ length page) where

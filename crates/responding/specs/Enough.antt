@@ -16,11 +16,8 @@ use Rattle.meaning.specs.Tokens.{run, run_end}
 use Rattle.meaning.specs.Syntax.{Module}
 use Rattle.meaning.specs.Grammar.{Result, done, refused, read}
 use Rattle.meaning.specs.Texts.{two_texts, behind, read_behind, library_first, read_texts}
-use Rattle.meaning.specs.Answer.{Answer, Answering, answer, in_line, request, request_end, has_request, library_request, library_request_end, library_digits, library_written, library_length, has_library_line, library_too_long, texts_in, with_memory, answer_behind, asked_by, unasked, printed}
-use Rattle.diagram_meaning.specs.Answer.{diagram_request, diagram_answer}
-use Rattle.program_meaning.specs.Program.{diagram_to, answer_to, asfnorm_with, asfnorm}
-use Rattle.responding.specs.declared.Request.TheVariants.{NormalForm, Diagram}
-use Rattle.responding.specs.Requests.{Plain, plain}
+use Rattle.meaning.specs.Answer.{answer, in_line, request, request_end, has_request, library_request, library_request_end, library_digits, library_written, library_length, has_library_line, library_too_long, texts_in, answer_to, printed, asfnorm}
+use Rattle.responding.specs.Program.{answer_behind, asfnorm_with, as_lent}
 
 -- where the longest first line ends, and the longest line of a library
 abbrev request_most : ℕ
@@ -79,9 +76,10 @@ module _ (c c' : List ℕ) (h : text_size < length c) (h' : text_size < length c
   unfolding read_texts two_texts
   read_same l = λ i. pick (eqb (length l) 0) (behind_same [] i) (first_same (read l module_limit []) i)
 
-  long_same : (f : Answering) (p : Plain f) (memory_lent output_lent : ℕ) (asked : Name) (l : List ℕ)
-      → f memory_lent output_lent asked (two_texts l c) ≡ f memory_lent output_lent asked (two_texts l c')
-  long_same f p memory_lent output_lent asked l = p.by_reading memory_lent output_lent asked _ _ (read_same l)
+  long_same : (memory_lent output_lent : ℕ) (asked : Name) (l : List ℕ)
+      → answer memory_lent output_lent asked (two_texts l c) ≡ answer memory_lent output_lent asked (two_texts l c')
+  unfolding answer
+  long_same memory_lent output_lent asked l = rw (read_same l)
 
 -- ---- what follows the first line
 
@@ -90,7 +88,7 @@ neither true true = refl
 neither true false = refl
 neither false b = refl
 
-module _ (f : Answering) (p : Plain f) (rest : List ℕ) (k : ℕ) (many : library_most + 1 + text_size + text_size + 1 ≤ k) (more : k < length rest) where
+module _ (rest : List ℕ) (k : ℕ) (many : library_most + 1 + text_size + text_size + 1 ≤ k) (more : k < length rest) where
   abbrev cut : List ℕ
   cut = take k rest
 
@@ -101,8 +99,8 @@ module _ (f : Answering) (p : Plain f) (rest : List ℕ) (k : ℕ) (many : libra
   line_ends = line_taken rest k (length library_request) (omega (arith, many))
 
   module _ (memory_lent output_lent : ℕ) (asked : Name) where
-    alone_same : f memory_lent output_lent asked (two_texts [] cut) ≡ f memory_lent output_lent asked (two_texts [] rest)
-    alone_same = long_same cut rest (omega (arith, cut_size, many)) (omega (arith, more, many)) f p memory_lent output_lent asked []
+    alone_same : answer memory_lent output_lent asked (two_texts [] cut) ≡ answer memory_lent output_lent asked (two_texts [] rest)
+    alone_same = long_same cut rest (omega (arith, cut_size, many)) (omega (arith, more, many)) memory_lent output_lent asked []
 
     -- a line that is too long is none
     module _ (long : library_most < library_request_end rest) where
@@ -112,9 +110,9 @@ module _ (f : Answering) (p : Plain f) (rest : List ℕ) (k : ℕ) (many : libra
           let e = library_request_end s in
           rw (lt-leb e library_most l, neither (same (take (length library_request) s) library_request) (ltb e (length s)))
 
-      unlined_same : answer_behind f memory_lent output_lent asked cut ≡ answer_behind f memory_lent output_lent asked rest
+      unlined_same : answer_behind memory_lent output_lent asked cut ≡ answer_behind memory_lent output_lent asked rest
       unfolding answer_behind library_too_long texts_in pick
-      unlined_same = rw (no_line cut (omega (arith, line_ends, long, many)), no_line rest long) (ap (with_memory memory_lent asked) alone_same)
+      unlined_same = rw (no_line cut (omega (arith, line_ends, long, many)), no_line rest long) alone_same
 
     module _ (short : library_request_end rest ≤ library_most) where
       same_line_end : library_request_end cut ≡ library_request_end rest
@@ -145,22 +143,22 @@ module _ (f : Answering) (p : Plain f) (rest : List ℕ) (k : ℕ) (many : libra
         abbrev to : ℕ
         to = from + library_length rest
 
-        both_same : f memory_lent output_lent asked (two_texts (slice cut from to) (drop to cut))
-            ≡ f memory_lent output_lent asked (two_texts (slice rest from to) (drop to rest))
+        both_same : answer memory_lent output_lent asked (two_texts (slice cut from to) (drop to cut))
+            ≡ answer memory_lent output_lent asked (two_texts (slice rest from to) (drop to rest))
         both_same =
-            ap (λ (l : List ℕ). f memory_lent output_lent asked (two_texts l (drop to cut)))
+            ap (λ (l : List ℕ). answer memory_lent output_lent asked (two_texts l (drop to cut)))
             (slice_taken rest k from to (omega (arith, short, fits, many)))
             ∙ long_same (drop to cut) (drop to rest) (omega (arith, short, fits, many, cut_size, length-drop to cut))
-            (omega (arith, short, fits, many, more, length-drop to rest)) f p memory_lent output_lent asked (slice rest from to)
+            (omega (arith, short, fits, many, more, length-drop to rest)) memory_lent output_lent asked (slice rest from to)
 
         framed_same : (b : Bool)
-            → f memory_lent output_lent asked (pick (pick b true false) (two_texts (slice cut from to) (drop to cut)) (two_texts [] cut))
-            ≡ f memory_lent output_lent asked (pick (pick b true false) (two_texts (slice rest from to) (drop to rest)) (two_texts [] rest))
+            → answer memory_lent output_lent asked (pick (pick b true false) (two_texts (slice cut from to) (drop to cut)) (two_texts [] cut))
+            ≡ answer memory_lent output_lent asked (pick (pick b true false) (two_texts (slice rest from to) (drop to rest)) (two_texts [] rest))
         unfolding pick
         framed_same true = both_same
         framed_same false = alone_same
 
-        texts_same : f memory_lent output_lent asked (texts_in cut) ≡ f memory_lent output_lent asked (texts_in rest)
+        texts_same : answer memory_lent output_lent asked (texts_in cut) ≡ answer memory_lent output_lent asked (texts_in rest)
         unfolding texts_in
         texts_same =
             rw (
@@ -172,37 +170,36 @@ module _ (f : Answering) (p : Plain f) (rest : List ℕ) (k : ℕ) (many : libra
             )
             (framed_same (has_library_line rest))
 
-        fitting_same : answer_behind f memory_lent output_lent asked cut ≡ answer_behind f memory_lent output_lent asked rest
+        fitting_same : answer_behind memory_lent output_lent asked cut ≡ answer_behind memory_lent output_lent asked rest
         unfolding answer_behind library_too_long
         fitting_same = rw (same_line, same_written, texts_same)
 
       -- it is too long, if it is told
       module _ (over : text_size < library_length rest) where
-        over_same : (b : Bool) → has_library_line rest ≡ b → answer_behind f memory_lent output_lent asked cut ≡ answer_behind f memory_lent output_lent asked rest
+        over_same : (b : Bool) → has_library_line rest ≡ b → answer_behind memory_lent output_lent asked cut ≡ answer_behind memory_lent output_lent asked rest
         unfolding answer_behind library_too_long texts_in pick
         over_same true e = rw (same_line, same_written, e, lt-ltb text_size (library_length rest) over)
-        over_same false e = rw (same_line, e) (ap (with_memory memory_lent asked) alone_same)
+        over_same false e = rw (same_line, e) alone_same
 
-      by_length : (b : Bool) → leb (library_length rest) text_size ≡ b → answer_behind f memory_lent output_lent asked cut ≡ answer_behind f memory_lent output_lent asked rest
+      by_length : (b : Bool) → leb (library_length rest) text_size ≡ b → answer_behind memory_lent output_lent asked cut ≡ answer_behind memory_lent output_lent asked rest
       by_length true e = fitting_same (leb-true (library_length rest) text_size e)
       by_length false e = over_same (leb-false (library_length rest) text_size e) (has_library_line rest) refl
 
     by_line : (b : Bool) → leb (library_request_end rest) library_most ≡ b
-        → answer_behind f memory_lent output_lent asked cut ≡ answer_behind f memory_lent output_lent asked rest
+        → answer_behind memory_lent output_lent asked cut ≡ answer_behind memory_lent output_lent asked rest
     by_line true e = by_length (leb-true (library_request_end rest) library_most e) (leb (library_length rest) text_size) refl
     by_line false e = unlined_same (leb-false (library_request_end rest) library_most e)
 
-    rest_same : answer_behind f memory_lent output_lent asked cut ≡ answer_behind f memory_lent output_lent asked rest
+    rest_same : answer_behind memory_lent output_lent asked cut ≡ answer_behind memory_lent output_lent asked rest
     rest_same = by_line (leb (library_request_end rest) library_most) refl
 
--- ---- the whole input: its first line by a word of at most ten bytes
+-- ---- the whole input
 
 -- a first line that is too long is none
-not_asked : (word input : List ℕ) → length word + name_size < request_end word input → has_request word input ≡ false
+not_asked : (input : List ℕ) → request_most < request_end input → has_request input ≡ false
 unfolding has_request
-not_asked word input long =
-    rw (lt-leb (request_end word input) (length word + name_size) long)
-    (neither (same (take (length word) input) word) (ltb (request_end word input) (length input)))
+not_asked input long =
+    rw (lt-leb (request_end input) request_most long) (neither (same (take (length request) input) request) (ltb (request_end input) (length input)))
 
 module _ (input : List ℕ) (n : ℕ) (most : input_size ≤ n) (more : n < length input) where
   abbrev front : List ℕ
@@ -211,63 +208,50 @@ module _ (input : List ℕ) (n : ℕ) (most : input_size ≤ n) (more : n < leng
   front_size : length front ≡ n
   front_size = omega (arith, more, length-take n input)
 
-  module _ (word : List ℕ) (few : length word ≤ length request) (f : Answering) (p : Plain f) (memory_lent output_lent : ℕ) (other : Answer) where
-    ends : request_end word front ≡ min n (request_end word input)
-    ends = line_taken input n (length word) (omega (arith, few, most))
+  ends : request_end front ≡ min n (request_end input)
+  ends = line_taken input n (length request) (omega (arith, most))
 
-    module _ (short : request_end word input ≤ length word + name_size) where
-      same_end : request_end word front ≡ request_end word input
-      same_end = omega (arith, ends, short, few, most)
+  module _ (memory_lent output_lent : ℕ) where
+    module _ (short : request_end input ≤ request_most) where
+      same_end : request_end front ≡ request_end input
+      same_end = omega (arith, ends, short, most)
 
-      still_asked : has_request word front ≡ has_request word input
+      still_asked : has_request front ≡ has_request input
       unfolding has_request
       still_asked =
-          let here : request_end word input < n = omega (arith, short, few, most) in
-          let there : request_end word input < length input = omega (arith, short, few, most, more) in
+          let here : request_end input < n = omega (arith, short, most) in
+          let there : request_end input < length input = omega (arith, short, most, more) in
           rw (
-            take-take (length word) n input (omega (arith, few, most)),
+            take-take (length request) n input (omega (arith, most)),
             same_end,
             front_size,
-            lt-ltb (request_end word input) n here,
-            lt-ltb (request_end word input) (length input) there,
+            lt-ltb (request_end input) n here,
+            lt-ltb (request_end input) (length input) there,
           )
 
-      still_called : slice front (length word) (request_end word front) ≡ slice input (length word) (request_end word input)
-      still_called = rw same_end (slice_taken input n (length word) (request_end word input) (omega (arith, short, few, most)))
+      still_called : slice front (length request) (request_end front) ≡ slice input (length request) (request_end input)
+      still_called = rw same_end (slice_taken input n (length request) (request_end input) (omega (arith, short, most)))
 
       abbrev behind_it : List ℕ
-      behind_it = drop (request_end word input + 1) input
+      behind_it = drop (request_end input + 1) input
 
-      still_answered : (asked : Name)
-          → answer_behind f memory_lent output_lent asked (drop (request_end word front + 1) front) ≡ answer_behind f memory_lent output_lent asked behind_it
+      still_answered : (asked : Name) → answer_behind memory_lent output_lent asked (drop (request_end front + 1) front) ≡ answer_behind memory_lent output_lent asked behind_it
       still_answered asked =
-          rw (same_end, drop_take (request_end word input + 1) n input)
-          (rest_same f p behind_it (n - (request_end word input + 1)) (omega (arith, short, few, most))
-          (omega (arith, short, few, most, more, length-drop (request_end word input + 1) input)) memory_lent output_lent asked)
+          rw (same_end, drop_take (request_end input + 1) n input)
+          (rest_same behind_it (n - (request_end input + 1)) (omega (arith, short, most))
+          (omega (arith, short, most, more, length-drop (request_end input + 1) input)) memory_lent output_lent asked)
 
-      short_same : asked_by word f memory_lent output_lent front other ≡ asked_by word f memory_lent output_lent input other
-      unfolding asked_by
+      short_same : answer_to memory_lent output_lent front ≡ answer_to memory_lent output_lent input
+      unfolding answer_to answer_behind
       short_same = rw (still_asked, still_called, still_answered)
 
-    long_line_same : length word + name_size < request_end word input
-        → asked_by word f memory_lent output_lent front other ≡ asked_by word f memory_lent output_lent input other
-    unfolding asked_by pick
-    long_line_same long = rw (not_asked word front (omega (arith, ends, long, few, most)), not_asked word input long)
+    long_line_same : request_most < request_end input → answer_to memory_lent output_lent front ≡ answer_to memory_lent output_lent input
+    unfolding answer_to pick
+    long_line_same long = rw (not_asked front (omega (arith, ends, long, most)), not_asked input long)
 
-    asked_same : (b : Bool) → leb (request_end word input) (length word + name_size) ≡ b
-        → asked_by word f memory_lent output_lent front other ≡ asked_by word f memory_lent output_lent input other
-    asked_same true e = short_same (leb-true (request_end word input) (length word + name_size) e)
-    asked_same false e = long_line_same (leb-false (request_end word input) (length word + name_size) e)
-
-    word_same : asked_by word f memory_lent output_lent front other ≡ asked_by word f memory_lent output_lent input other
-    word_same = asked_same (leb (request_end word input) (length word + name_size)) refl
-
-  front_same : (memory_lent output_lent : ℕ) → answer_to memory_lent output_lent front ≡ answer_to memory_lent output_lent input
-  unfolding answer_to diagram_to
-  front_same memory_lent output_lent =
-      word_same request (omega arith) answer (plain NormalForm) memory_lent output_lent _
-      ∙ ap (asked_by request answer memory_lent output_lent input)
-      (word_same diagram_request (omega arith) diagram_answer (plain Diagram) memory_lent output_lent (unasked memory_lent))
+    front_same : (b : Bool) → leb (request_end input) request_most ≡ b → answer_to memory_lent output_lent front ≡ answer_to memory_lent output_lent input
+    front_same true e = short_same (leb-true (request_end input) request_most e)
+    front_same false e = long_line_same (leb-false (request_end input) request_most e)
 
 pub front_enough : (memory_lent output_lent : ℕ) (input : List ℕ) (n : ℕ) → input_size ≤ n
     → asfnorm_with memory_lent output_lent (take n input) ≡ asfnorm_with memory_lent output_lent input
@@ -276,9 +260,9 @@ front_enough memory_lent output_lent input n most = go (leb (length input) n) re
   where
     go : (b : Bool) → leb (length input) n ≡ b → asfnorm_with memory_lent output_lent (take n input) ≡ asfnorm_with memory_lent output_lent input
     go true e = rw (take_all n input (leb-true (length input) n e))
-    go false e = ap printed (front_same input n most (leb-false (length input) n e) memory_lent output_lent)
+    go false e = ap printed (front_same input n most (leb-false (length input) n e) memory_lent output_lent (leb (request_end input) request_most) refl)
 
--- so the program prints what documents 01 and 02 say of its whole input, though it reads no more
+-- so the program prints what document 02 says of its whole input, though it reads no more
 pub read_enough : (input : List ℕ) → asfnorm (take input_size input) ≡ asfnorm input
-unfolding asfnorm
-read_enough input = front_enough memory_size program_output input input_size (omega arith)
+read_enough input =
+    as_lent (take input_size input) ∙ front_enough memory_size program_output input input_size (omega arith) ∙ sym (as_lent input)

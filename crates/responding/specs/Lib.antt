@@ -1,4 +1,4 @@
-pub mod Requests
 pub mod Program
+pub mod Short
 pub mod Printed
 pub mod Enough

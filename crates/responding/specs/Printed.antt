@@ -14,7 +14,7 @@ use Rattle.meaning.specs.Reached.{short_or_blank}
 use Rattle.meaning.specs.Answer as Meaning
 use Rattle.answer.specs.Answers.{held, told}
 use Rattle.answer_lines.specs.Lines.{line_of, spelled, actual_text, marked_place, refusal_text, answer_text}
-use Rattle.responding.specs.Requests.{Short}
+use Rattle.responding.specs.Short.{Short}
 
 -- a name that is held is spelled as it was
 spelled_held : (n : Names.Name) → spelled (held n) ≡ n

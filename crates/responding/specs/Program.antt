@@ -1,14 +1,24 @@
--- What a response owes: what the program prints (program_meaning/specs/Program.antt), whatever working memory and output are lent.
-use Rattle.std.specs.Prelude.{◌≡◌, ℕ, ◌+◌, ◌≤◌, List, [], ltb, length}
+-- What the program prints (meaning/specs/Answer.antt), whatever working memory and output are lent; and the same of an answer as the code has it.
+use Rattle.std.specs.Prelude.{◌≡◌, refl, ℕ, ◌+◌, ◌≤◌, true, List, [], ltb, length}
 use Rattle.std.proofs.Common.{sym, ◌∙◌}
 use Rattle.meaning.specs.Lists.{pick}
-use Rattle.meaning.specs.Numbers.{memory_size, lent_short}
+use Rattle.meaning.specs.Names as Names
+use Rattle.meaning.specs.Names.{bytes}
+use Rattle.meaning.specs.Numbers.{text_size, memory_size, program_output, over_size, lent_short}
 use Rattle.meaning.specs.Checks.{lone}
 use Rattle.meaning.specs.Answer as Meaning
-use Rattle.program_meaning.specs.Program.{answer_to, asfnorm_with}
 use Rattle.list_pen.specs.Pen.{pen, written}
+use Rattle.answer.specs.declared.Name.{Name}
 use Rattle.answer.specs.declared.Answer.{Answer}
 use Rattle.answer.specs.Answers.{told}
+
+unfoldable pub asfnorm_with : (memory_lent output_lent : ℕ) → List ℕ → List ℕ
+asfnorm_with memory_lent output_lent input = Meaning.printed (Meaning.answer_to memory_lent output_lent input)
+
+-- `asfnorm` lends the one size of working memory, and 65,536 bytes of output
+pub as_lent : (input : List ℕ) → Meaning.asfnorm input ≡ asfnorm_with memory_size program_output input
+unfolding Meaning.asfnorm asfnorm_with
+as_lent input = refl
 
 -- how many bytes more than the output a page must have to hold whatever is printed: the longest refusal, which is longer than the two lines
 -- before a listing
@@ -21,7 +31,7 @@ pub record Responded (input work out page : List ℕ) (size : ℕ) (work' out' p
   pub printed : pen size page' ≡ written (length page + 1) (asfnorm_with (length work) (length out) input) (pen 0 page)
   pub fits : length out + page_room ≤ length page → size ≤ length page
   pub memory : work' ≡ Meaning.memory_after work
-  pub output : out' ≡ Meaning.output_after (answer_to (length work) (length out) input) out
+  pub output : out' ≡ Meaning.output_after (Meaning.answer_to (length work) (length out) input) out
 
 -- two responses that this allows coincide
 pub respond_coincide : (input work out page : List ℕ) (m n : ℕ) (w o p w' o' p' : List ℕ) → Responded input work out page m w o p
@@ -29,10 +39,21 @@ pub respond_coincide : (input work out page : List ℕ) (m n : ℕ) (w o p w' o'
 respond_coincide input work out page m n w o p w' o' p' h g =
     (h.printed ∙ sym g.printed, (h.memory ∙ sym g.memory, h.output ∙ sym g.output))
 
--- a call gives this answer
-pub record Gives (a : Meaning.Answer) (work out : List ℕ) (r : Answer) (work' out' : List ℕ) : Type 0 where
-  pub answer : r ≡ told a
-  pub output : out' ≡ Meaning.output_after a out
+-- ---- what follows the first line
+
+-- before all else the working memory may be too short
+unfoldable pub with_memory : ℕ → Names.Name → Meaning.Answer → Meaning.Answer
+with_memory memory_lent asked r = pick (ltb memory_lent memory_size) (Meaning.refusal lent_short 0 asked (lone []) 0) r
+
+-- the answer for the asked module, where this is behind the first line
+unfoldable pub answer_behind : (memory_lent output_lent : ℕ) → Names.Name → List ℕ → Meaning.Answer
+answer_behind memory_lent output_lent asked rest =
+    let r = Meaning.answer memory_lent output_lent asked (Meaning.texts_in rest) in
+    pick (Meaning.library_too_long rest) (Meaning.unread true over_size text_size) r
+
+pub record Behind (asked rest work out : List ℕ) (r : Answer) (work' out' : List ℕ) : Type 0 where
+  pub answer : r ≡ told (with_memory (length work) asked (answer_behind (length work) (length out) asked rest))
+  pub output : out' ≡ Meaning.output_after (with_memory (length work) asked (answer_behind (length work) (length out) asked rest)) out
   pub memory : work' ≡ Meaning.memory_after work
 
 -- an answer that is refused in any case

@@ -10,12 +10,6 @@ pub struct Arguments {
     pub old_library: Option<OsString>,
     pub json: bool,
     pub quiet: bool,
-    pub ascii: bool,
-    pub svg: bool,
-    pub dot: bool,
-    pub lines: bool,
-    pub once: bool,
-    pub width: Option<usize>,
     pub help: bool,
     pub when: When,
 }
@@ -31,12 +25,6 @@ pub fn parsed(given: Vec<OsString>, allowed: Allowed) -> Result<Arguments, Strin
         old_library: None,
         json: false,
         quiet: false,
-        ascii: false,
-        svg: false,
-        dot: false,
-        lines: false,
-        once: false,
-        width: None,
         help: false,
         when: When::Auto,
     };
@@ -81,15 +69,9 @@ impl Arguments {
             "--library" => self.library = Some(value_of(option, value, given)?),
             "--old-library" => self.old_library = Some(value_of(option, value, given)?),
             "--color" => self.when = when(&value_of(option, value, given)?)?,
-            "--width" => self.width = Some(width(&value_of(option, value, given)?)?),
             _ if value.is_some() => return Err(format!("{} has no value", option)),
             "--json" => self.json = true,
             "--quiet" => self.quiet = true,
-            "--ascii" => self.ascii = true,
-            "--svg" => self.svg = true,
-            "--dot" => self.dot = true,
-            "--lines" => self.lines = true,
-            "--once" => self.once = true,
             _ => self.help = true,
         }
         Ok(())
@@ -116,14 +98,4 @@ fn when(word: &OsStr) -> Result<When, String> {
             word.to_string_lossy()
         )),
     }
-}
-
-fn width(word: &OsStr) -> Result<usize, String> {
-    let number = word.to_str().and_then(|word| word.parse().ok());
-    number.ok_or_else(|| {
-        format!(
-            "--width is a number of columns, not {}",
-            word.to_string_lossy()
-        )
-    })
 }

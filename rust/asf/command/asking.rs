@@ -1,4 +1,4 @@
-//! The commands that ask the library for normal forms: `check`, `list` and `visible`; and what others ask a module by.
+//! The commands that ask the library: `check`, `list` and `visible`.
 
 use crate::arguments::Arguments;
 use crate::json::{text, Value};
@@ -8,7 +8,7 @@ use crate::scan::headings;
 use crate::source::{framed, readable, File, Question, Text};
 use crate::terminal::{is_terminal, Paint};
 use crate::{once, Ended, Wrong, ACCEPTED, REFUSED};
-use asf::{Memory, Refusal, Specification};
+use asf::{Memory, Refusal};
 use std::ffi::OsStr;
 use std::os::unix::ffi::OsStrExt;
 
@@ -234,18 +234,17 @@ fn same_mistake(one: &Refusal, other: &Refusal) -> bool {
         && one.actual() == other.actual()
 }
 
-/// Asks for the module that a command names: prints what is made of the answer, or tells the refusal.
-pub fn answered(
-    arguments: &Arguments,
-    ask: impl FnOnce(&[u8], Specification<'_>) -> Result<Vec<u8>, Refusal>,
-) -> Result<Ended, Wrong> {
+/// `asf list`, and `asf visible` where the whole is not asked for.
+pub fn list(arguments: &Arguments, whole: bool) -> Result<Ended, Wrong> {
     let (file, module) = named(arguments)?;
     let (file, library) = read(file, arguments)?;
     let (asked, question) = question(&file, library.as_ref())?;
     let none = || Wrong::Use("no module is named".to_string());
     let asked = module.or(asked).ok_or_else(none)?;
-    let (out, error, status) = match ask(&asked, question.specification()) {
-        Ok(out) => (out, Vec::new(), ACCEPTED),
+    let (out, error, status) = match asf::normalise(&asked, question.specification()) {
+        Ok(listing) if arguments.json => (line(accepted(&listing, whole)), Vec::new(), ACCEPTED),
+        Ok(listing) if whole => (listing.bytes().to_vec(), Vec::new(), ACCEPTED),
+        Ok(listing) => (listing.visible().to_vec(), Vec::new(), ACCEPTED),
         Err(refusal) => {
             let report = Report {
                 asked: &asked,
@@ -265,19 +264,7 @@ pub fn answered(
     Ok(Ended { out, error, status })
 }
 
-/// `asf list`, and `asf visible` where the whole is not asked for.
-pub fn list(arguments: &Arguments, whole: bool) -> Result<Ended, Wrong> {
-    answered(arguments, |asked, specification| {
-        let listing = asf::normalise(asked, specification)?;
-        Ok(match whole {
-            _ if arguments.json => line(accepted(&listing, whole)),
-            true => listing.bytes().to_vec(),
-            false => listing.visible().to_vec(),
-        })
-    })
-}
-
-pub fn line(value: Value) -> Vec<u8> {
+fn line(value: Value) -> Vec<u8> {
     format!("{}\n", value.written()).into_bytes()
 }
 

@@ -8,7 +8,6 @@ usage: asf COMMAND ...
   asf check FILE [MODULE]    is a module accepted, or every module of the file?
   asf list FILE MODULE       the normal form of a module, as a listing
   asf visible FILE MODULE    the part of it that other modules can see
-  asf diagram FILE MODULE    what it imports, as boxes within boxes
   asf diff OLD NEW           two stored listings compared
   asf keep OLD NEW MODULE    may a stored visible part be kept for a new text?
   asf explain [NUMBER]       what a number means, and what to do about it
@@ -74,38 +73,6 @@ output. MODULE may be left out where the first line of FILE is normalise=NAME.
   -h, --help       this text
 
 Exit status: 0 accepted, 1 refused, 2 wrong use or a file that cannot be read.
-";
-
-pub const DIAGRAM: &str = "\
-asf diagram: what a module imports, as boxes within boxes
-
-usage: asf diagram [options] FILE MODULE
-
-Draws the structure diagram of MODULE. A module is a box with its name below,
-and the modules that it imports stand in the box. A parameter that it declares
-is ( Name ); where the import binds it, a line leads out of the box to the
-module that it is bound to. < Name > is bound there, but declared further in
-or nowhere. A module that is missing, or stands too late, is (absent). Nothing
-is evaluated: a text that is read has a diagram, accepted or not. A refusal
-goes to standard error, or with --json to standard output. MODULE may be left
-out where the first line of FILE is normalise=NAME or diagram=NAME.
-
-  --library FILE   a file whose modules count as standing before those of FILE
-  --once           open each module once; a closed one is (again)
-  --ascii          draw lines with - | + (so too where the locale has no UTF-8)
-  --width N        the columns there are: the terminal's, or else 80; boxes that
-                   need more are drawn as an outline
-  --svg            a picture, for a browser or a printer
-  --dot            a graph, for graphviz; with --once a node for each module
-  --lines          the lines that pictures are made of, as asfnorm prints them
-  --json           one object, for programs
-  --color WHEN     auto (on a terminal, and not with NO_COLOR), always, never
-  -h, --help       this text
-
-A picture: asf diagram --svg FILE MODULE > module.svg
-A graph:   asf diagram --dot --once FILE MODULE | dot -Tsvg > graph.svg
-
-Exit status: 0 drawn, 1 refused, 2 wrong use or a file that cannot be read.
 ";
 
 pub const DIFF: &str = "\

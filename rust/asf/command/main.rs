@@ -3,29 +3,21 @@
 
 mod arguments;
 mod asking;
-mod boxes;
-mod cells;
 mod difference;
-mod dot;
-mod drawing;
 mod help;
 mod json;
 mod keeping;
 mod listing;
-mod placing;
 mod report;
 mod scan;
 mod sheet;
 mod source;
-mod svg;
 mod terminal;
 
 use crate::arguments::{parsed, Allowed, Arguments};
 use crate::report::Spot;
-use crate::sheet::Section;
 use crate::source::{File, Text};
 use crate::terminal::{wrapped, Paint};
-use asf::Call;
 use std::ffi::{OsStr, OsString};
 use std::io::{self, Write};
 use std::process::ExitCode;
@@ -36,14 +28,14 @@ const REFUSED: u8 = 1;
 const WRONG: u8 = 2;
 
 /// What a command prints, and how it ends.
-pub struct Ended {
+struct Ended {
     out: Vec<u8>,
     error: Vec<u8>,
     status: u8,
 }
 
 /// Why a command does not run: its words are not right, or a file.
-pub enum Wrong {
+enum Wrong {
     Use(String),
     File(String),
 }
@@ -55,7 +47,7 @@ struct Command {
     run: fn(&Arguments) -> Result<Ended, Wrong>,
 }
 
-const COMMANDS: [Command; 7] = [
+const COMMANDS: [Command; 6] = [
     Command {
         name: "check",
         help: help::CHECK,
@@ -73,22 +65,6 @@ const COMMANDS: [Command; 7] = [
         help: help::VISIBLE,
         allowed: &["--library", "--json", "--color"],
         run: |arguments| asking::list(arguments, false),
-    },
-    Command {
-        name: "diagram",
-        help: help::DIAGRAM,
-        allowed: &[
-            "--library",
-            "--once",
-            "--ascii",
-            "--width",
-            "--svg",
-            "--dot",
-            "--lines",
-            "--json",
-            "--color",
-        ],
-        run: drawing::diagram,
     },
     Command {
         name: "diff",
@@ -241,17 +217,12 @@ fn diff(arguments: &Arguments) -> Result<Ended, Wrong> {
 fn bad_line(file: &File, bad: asf::BadLine, arguments: &Arguments) -> Ended {
     const NUMBER: u32 = 21;
     let text = Text::whole(file);
-    let message = format!("{}: {}", NUMBER, sheet::title(Call::Normalise, NUMBER));
+    let message = format!("{}: {}", NUMBER, sheet::title(NUMBER));
     let shown =
         Spot::of(&text, bad.at..bad.at).shown(&message, Paint::new(arguments.when, 2), Paint::bad);
     Ended {
         out: Vec::new(),
-        error: format!(
-            "{}{}",
-            shown,
-            wrapped("help: ", &sheet::advice(Call::Normalise, NUMBER))
-        )
-        .into(),
+        error: format!("{}{}", shown, wrapped("help: ", &sheet::advice(NUMBER))).into(),
         status: WRONG,
     }
 }
@@ -262,11 +233,10 @@ fn explain(arguments: &Arguments) -> Result<Ended, Wrong> {
         [] => Ok(said(&sheet::overview())),
         [word] => {
             let told = word.to_string_lossy();
-            let sections = told.parse().map_or(Vec::new(), sheet::sections_of);
-            let printed: Vec<String> = sections.iter().map(Section::printed).collect();
-            match printed.is_empty() {
-                false => Ok(said(&printed.join("\n"))),
-                true => Err(Wrong::Use(format!(
+            let section = told.parse().ok().and_then(sheet::section);
+            match section {
+                Some(section) => Ok(said(&section.printed())),
+                None => Err(Wrong::Use(format!(
                     "no number {}: there are {}",
                     told,
                     sheet::numbers()

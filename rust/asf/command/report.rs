@@ -106,8 +106,7 @@ impl<'q> Report<'q> {
     pub fn printed(&self, paint: Paint) -> String {
         let number = self.refusal.number();
         let spots = self.spots();
-        let title = sheet::title(self.refusal.call(), number);
-        let message = format!("{}: {}{}", number, title, self.names());
+        let message = format!("{}: {}{}", number, sheet::title(number), self.names());
         let mut out = match spots.first() {
             Some(spot) => spot.shown(&message, paint, Paint::bad),
             None => format!(
@@ -122,10 +121,7 @@ impl<'q> Report<'q> {
         for note in self.notes(&spots) {
             out.push_str(&wrapped("note: ", &note));
         }
-        out.push_str(&wrapped(
-            "help: ",
-            &sheet::advice(self.refusal.call(), number),
-        ));
+        out.push_str(&wrapped("help: ", &sheet::advice(number)));
         out
     }
 
@@ -205,11 +201,11 @@ impl<'q> Report<'q> {
     /// The refusal as an object.
     pub fn value(&self) -> Value {
         let refusal = self.refusal;
-        let (call, number) = (refusal.call(), refusal.number());
+        let number = refusal.number();
         let places = self.spots().iter().map(Spot::value).collect();
         Value::Object(vec![
             ("answer", Value::Number(number as usize)),
-            ("title", Value::Text(sheet::title(call, number).to_string())),
+            ("title", Value::Text(sheet::title(number).to_string())),
             ("asked", text(self.asked)),
             ("modules", Value::Number(refusal.modules() as usize)),
             ("module", text(refusal.module())),
@@ -218,7 +214,7 @@ impl<'q> Report<'q> {
             ("at", Value::Number(refusal.at())),
             ("in_library", Value::Truth(refusal.in_library())),
             ("places", Value::List(places)),
-            ("advice", Value::Text(sheet::advice(call, number))),
+            ("advice", Value::Text(sheet::advice(number))),
         ])
     }
 }

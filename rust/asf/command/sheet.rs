@@ -1,17 +1,12 @@
 //! The help sheet, docs/ANSWERS.md: what each number means, and what to do about it. It is the one source of these words.
 
 use crate::terminal::wrapped;
-use asf::Call;
 
 const SHEET: &str = include_str!("../../../docs/ANSWERS.md");
-/// What stands behind the number of a section that is about diagrams alone.
-const OF_A_DIAGRAM: &str = " of a diagram";
 
-/// A section of a number.
+/// The section of a number.
 pub struct Section {
     pub number: u32,
-    /// Whose number it is: some have a section of their own for diagrams.
-    call: Call,
     pub title: &'static str,
     body: &'static str,
 }
@@ -23,15 +18,10 @@ pub fn sections() -> Vec<Section> {
         let (heading, body) = part.split_once('\n').unwrap_or((part, ""));
         let numbered = heading.trim_start_matches('#').trim().split_once(": ");
         if let Some((number, title)) = numbered {
-            let (call, number) = match number.strip_suffix(OF_A_DIAGRAM) {
-                Some(number) => (Call::Diagram, number),
-                None => (Call::Normalise, number),
-            };
             if let Ok(number) = number.parse() {
                 let body = body.trim();
                 found.push(Section {
                     number,
-                    call,
                     title,
                     body,
                 });
@@ -41,28 +31,20 @@ pub fn sections() -> Vec<Section> {
     found
 }
 
-/// The section of a number that a call answered: that of diagrams where there is one, or else the number's.
-fn section(call: Call, number: u32) -> Option<Section> {
-    let mut all: Vec<Section> = sections_of(number);
-    let own = all.iter().position(|section| section.call == call);
-    (!all.is_empty()).then(|| all.swap_remove(own.unwrap_or(0)))
-}
-
-/// The sections of a number.
-pub fn sections_of(number: u32) -> Vec<Section> {
-    let mut all = sections();
-    all.retain(|section| section.number == number);
-    all
+pub fn section(number: u32) -> Option<Section> {
+    sections()
+        .into_iter()
+        .find(|section| section.number == number)
 }
 
 /// What a number says: its section's title.
-pub fn title(call: Call, number: u32) -> &'static str {
-    section(call, number).map_or("no such number", |section| section.title)
+pub fn title(number: u32) -> &'static str {
+    section(number).map_or("no such number", |section| section.title)
 }
 
 /// What to do about a number: what stands first in bold in its section, as a sentence.
-pub fn advice(call: Call, number: u32) -> String {
-    let section = section(call, number);
+pub fn advice(number: u32) -> String {
+    let section = section(number);
     let words = section.and_then(|section| section.body.split("**").nth(1));
     let words = words.unwrap_or("");
     let open = !words.is_empty() && !words.ends_with('.');
@@ -73,7 +55,6 @@ pub fn advice(call: Call, number: u32) -> String {
 pub fn numbers() -> String {
     let mut all: Vec<u32> = sections().iter().map(|section| section.number).collect();
     all.sort_unstable();
-    all.dedup();
     let mut ranges: Vec<(u32, u32)> = Vec::new();
     for number in all {
         match ranges.last_mut() {
@@ -94,11 +75,7 @@ pub fn numbers() -> String {
 impl Section {
     /// The whole section for a terminal: examples indented, all else in lines of 80 columns.
     pub fn printed(&self) -> String {
-        let of = match self.call {
-            Call::Normalise => "",
-            Call::Diagram => OF_A_DIAGRAM,
-        };
-        let mut out = format!("{}{}: {}\n", self.number, of, self.title);
+        let mut out = format!("{}: {}\n", self.number, self.title);
         for (k, part) in self.body.split("```").enumerate() {
             if k % 2 == 1 {
                 out.push('\n');

@@ -251,11 +251,10 @@ pub struct Input<'f> {
     pub text: Text<'f>,
 }
 
-/// Looks for the lines `normalise=NAME`, or `diagram=NAME`, and `library=N` in front. A CR before their LF is none of theirs.
+/// Looks for the lines `normalise=NAME` and `library=N` in front. A CR before their LF is none of theirs.
 pub fn framed(file: &File) -> Input<'_> {
     let length = file.bytes.len();
-    let first = line_behind(file, 0, b"normalise=").or_else(|| line_behind(file, 0, b"diagram="));
-    let (asked, start) = match first {
+    let (asked, start) = match line_behind(file, 0, b"normalise=") {
         Some((name, next)) if name.len() <= TOKEN_BYTES => (file.bytes[name].to_vec(), next),
         _ => {
             return Input {

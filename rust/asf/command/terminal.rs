@@ -1,34 +1,15 @@
-//! What is printed where: colour only on a terminal, progress too; how wide a terminal is, and what characters it has.
+//! What is printed where: colour only on a terminal, progress too.
 
 use std::env;
 
 extern "C" {
     fn isatty(descriptor: i32) -> i32;
-    fn ioctl(descriptor: i32, request: u64, ...) -> i32;
 }
 
 /// Whether a person looks at what is printed there: 1 is standard output, 2 standard error.
 pub fn is_terminal(descriptor: i32) -> bool {
     // SAFETY: any number may be asked.
     unsafe { isatty(descriptor) == 1 }
-}
-
-/// The columns of the terminal there, where it is one and tells.
-pub fn columns(descriptor: i32) -> Option<usize> {
-    const WINDOW_SIZE: u64 = 0x5413;
-    // rows, columns, and both in pixels
-    let mut size = [0u16; 4];
-    // SAFETY: any descriptor may be asked, and four numbers are what this request writes.
-    let told = unsafe { ioctl(descriptor, WINDOW_SIZE, size.as_mut_ptr()) } == 0;
-    (told && size[1] > 0).then(|| usize::from(size[1]))
-}
-
-/// Whether the locale has the characters that lines are drawn with: the first of three variables that is not empty decides.
-pub fn writes_utf8() -> bool {
-    let set = |name| env::var(name).ok().filter(|value| !value.is_empty());
-    let locale = ["LC_ALL", "LC_CTYPE", "LANG"].into_iter().find_map(set);
-    let locale = locale.unwrap_or_default().to_lowercase();
-    locale.contains("utf-8") || locale.contains("utf8")
 }
 
 /// When there is colour.

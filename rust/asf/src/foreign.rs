@@ -1,30 +1,14 @@
 //! The calls of C, and what they are lent.
 
 use crate::decision::{Decision, Unread, Why};
-use crate::refusal::{Call, Refusal};
-use crate::{Diagram, Listing, Specification, MODULES, NAME_BYTES, OUTPUT_BYTES};
+use crate::refusal::Refusal;
+use crate::{Listing, Specification, MODULES, NAME_BYTES, OUTPUT_BYTES};
 use std::ops::Range;
 
 // As in `c/asf.h`: a pointer is followed by the number of elements behind it.
 extern "C" {
     fn asf_memory_words() -> usize;
     fn asf_normalise(
-        asked: *const u8,
-        asked_length: usize,
-        library: *const u8,
-        library_length: usize,
-        text: *const u8,
-        text_length: usize,
-        work: *mut u32,
-        work_length: usize,
-        out: *mut u8,
-        out_length: usize,
-        values: *mut usize,
-        values_length: usize,
-        names: *mut u8,
-        names_length: usize,
-    ) -> u32;
-    fn asf_diagram(
         asked: *const u8,
         asked_length: usize,
         library: *const u8,
@@ -102,12 +86,12 @@ impl Default for Memory {
 }
 
 impl Memory {
-    /// The working memory that a call needs, and room for a listing, or a diagram's lines, of [`OUTPUT_BYTES`].
+    /// The working memory that a call needs, and room for a listing of [`OUTPUT_BYTES`].
     pub fn new() -> Memory {
         Memory::with_output(OUTPUT_BYTES)
     }
 
-    /// The same with room for so many bytes; what is longer is refused by 19.
+    /// The same with room for a listing of so many bytes; a longer one is refused by 19.
     pub fn with_output(bytes: usize) -> Memory {
         // SAFETY: the function takes nothing.
         let words = unsafe { asf_memory_words() };
@@ -123,27 +107,28 @@ impl Memory {
         asked: &[u8],
         specification: impl Into<Specification<'t>>,
     ) -> Result<Listing, Refusal> {
-        let call = Call::Normalise;
-        let values = self.call(call, asked, specification.into())?;
-        Ok(Listing {
-            bytes: self.out[..values[5]].to_vec(),
-            modules: values[1] as u32,
-        })
-    }
-
-    /// The structure diagram of the asked module of a specification, accepted or not. One of more than [`DIAGRAM_LINES`] lines is refused by 18,
-    /// and one that is longer than the output by 19; [`DIAGRAM_BYTES`] are enough for all.
-    ///
-    /// [`DIAGRAM_LINES`]: crate::DIAGRAM_LINES
-    /// [`DIAGRAM_BYTES`]: crate::DIAGRAM_BYTES
-    pub fn diagram<'t>(
-        &mut self,
-        asked: &[u8],
-        specification: impl Into<Specification<'t>>,
-    ) -> Result<Diagram, Refusal> {
-        let values = self.call(Call::Diagram, asked, specification.into())?;
-        Ok(Diagram {
-            bytes: self.out[..values[5]].to_vec(),
+        let mut values = [0; 8];
+        let mut names = [0; 3 * NAME_BYTES];
+        let number = self.call(asked, specification.into(), &mut values, &mut names);
+        let [_, modules, at, module, name, listing, in_library, actual] = values;
+        if number == 0 {
+            return Ok(Listing {
+                bytes: self.out[..listing].to_vec(),
+                modules: modules as u32,
+            });
+        }
+        Err(Refusal {
+            number,
+            modules: modules as u32,
+            module: match number {
+                // the asked name is told only where it has at most 40 bytes
+                6 | 19 => asked.to_vec(),
+                _ => names[..module].to_vec(),
+            },
+            name: names[NAME_BYTES..][..name].to_vec(),
+            actual: names[2 * NAME_BYTES..][..actual].to_vec(),
+            at,
+            in_library: in_library != 0,
         })
     }
 
@@ -240,24 +225,18 @@ impl Memory {
         }
     }
 
-    /// Makes one of the two calls that write to the output; gives its values, or the refusal that they tell.
     fn call(
         &mut self,
-        call: Call,
         asked: &[u8],
         specification: Specification<'_>,
-    ) -> Result<[usize; 8], Refusal> {
+        values: &mut [usize],
+        names: &mut [u8],
+    ) -> u32 {
         let (library, text) = (specification.library(), specification.text());
-        let mut values = [0; 8];
-        let mut names = [0; 3 * NAME_BYTES];
-        let function = match call {
-            Call::Normalise => asf_normalise,
-            Call::Diagram => asf_diagram,
-        };
         // SAFETY: each pointer comes from a slice and is followed by its length; what is lent for writing is borrowed as such, so that
         // nothing overlaps it. Nothing else is asked of callers.
-        let number = unsafe {
-            function(
+        unsafe {
+            asf_normalise(
                 asked.as_ptr(),
                 asked.len(),
                 library.as_ptr(),
@@ -273,29 +252,7 @@ impl Memory {
                 names.as_mut_ptr(),
                 names.len(),
             )
-        };
-        match number {
-            0 => Ok(values),
-            _ => Err(refusal(call, asked, values, &names)),
         }
-    }
-}
-
-fn refusal(call: Call, asked: &[u8], values: [usize; 8], names: &[u8]) -> Refusal {
-    let [number, modules, at, module, name, _, in_library, actual] = values;
-    Refusal {
-        call,
-        number: number as u32,
-        modules: modules as u32,
-        module: match (call, number) {
-            // the asked name is told only where it has at most 40 bytes
-            (_, 6 | 19) | (Call::Diagram, 18) => asked.to_vec(),
-            _ => names[..module].to_vec(),
-        },
-        name: names[NAME_BYTES..][..name].to_vec(),
-        actual: names[2 * NAME_BYTES..][..actual].to_vec(),
-        at,
-        in_library: in_library != 0,
     }
 }
 

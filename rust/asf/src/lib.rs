@@ -1,10 +1,8 @@
 //! Normalising ASF specifications by the proved library: [`normalise`] gives a module's normal form as a [`Listing`], or a [`Refusal`].
-//! [`diagram`] gives the structure of a specification under a module, as boxes: a [`Diagram`].
 //! A visible part that was stored may be shown for a changed specification as [`decide`] says; [`Store`] does what it says.
 //! All that is unsafe here are the calls of C, in `foreign`.
 
 mod decision;
-mod diagram;
 mod foreign;
 mod lines;
 mod refusal;
@@ -12,10 +10,9 @@ mod specification;
 mod store;
 
 pub use decision::{Decision, Unread, Why};
-pub use diagram::{Diagram, DiagramLine, DiagramLines};
 pub use foreign::Memory;
 pub use lines::{lines, visible, BadLine, Line, Lines};
-pub use refusal::{Call, Refusal};
+pub use refusal::Refusal;
 pub use specification::{fetch, Part, Specification};
 pub use store::{Because, Done, Store};
 
@@ -27,11 +24,7 @@ pub const TOKEN_BYTES: usize = 40;
 pub const NAME_BYTES: usize = TOKEN_BYTES + 2;
 /// The most modules of a specification.
 pub const MODULES: usize = 64;
-/// The most lines of a diagram.
-pub const DIAGRAM_LINES: usize = 1_024;
-/// More bytes than a diagram has: a line has a key, a depth below 64, and two names at the most.
-pub const DIAGRAM_BYTES: usize = DIAGRAM_LINES * (2 * TOKEN_BYTES + 12);
-/// The bytes that are lent for a listing, or for a diagram's lines, unless [`Memory::with_output`] says otherwise.
+/// The bytes that are lent for a listing, unless [`Memory::with_output`] says otherwise.
 pub const OUTPUT_BYTES: usize = 65_536;
 
 /// The normal form of a module, as lines `key=value`.
@@ -70,16 +63,6 @@ pub fn normalise<'t>(
     specification: impl Into<Specification<'t>>,
 ) -> Result<Listing, Refusal> {
     Memory::new().normalise(asked, specification)
-}
-
-/// The structure diagram of the asked module of a specification: a text, or a [`Specification`] that has a library too. Nothing is evaluated, so
-/// that every specification that is read has one, accepted or not. It lends room for every diagram that may be given, and working memory, for
-/// this one call; [`Memory::diagram`] keeps them for more.
-pub fn diagram<'t>(
-    asked: &[u8],
-    specification: impl Into<Specification<'t>>,
-) -> Result<Diagram, Refusal> {
-    Memory::with_output(DIAGRAM_BYTES).diagram(asked, specification)
 }
 
 /// Decides what to do before a stored visible part of the asked module, which is that of the old specification, is shown for the new one. It

@@ -1,22 +1,12 @@
-//! Why a module has no listing, or no diagram, with a text for each number.
+//! Why a module has no listing, with a text for each number.
 
 use std::error::Error;
 use std::fmt;
-
-/// What was asked for.
-#[derive(Clone, Copy, Debug, PartialEq, Eq)]
-pub enum Call {
-    /// A normal form: [`normalise`](crate::normalise).
-    Normalise,
-    /// A structure diagram: [`diagram`](crate::diagram).
-    Diagram,
-}
 
 /// The number, how many modules were evaluated (the refused one included), the module evaluated when refused, the culprit's name, for 22 to 26
 /// the actual name that it is paired with, and for 1 to 5 its place in the text or in the library. What a number does not tell is blank or 0.
 #[derive(Clone, Debug, PartialEq, Eq)]
 pub struct Refusal {
-    pub(crate) call: Call,
     pub(crate) number: u32,
     pub(crate) modules: u32,
     pub(crate) module: Vec<u8>,
@@ -27,22 +17,17 @@ pub struct Refusal {
 }
 
 impl Refusal {
-    /// What was asked for.
-    pub fn call(&self) -> Call {
-        self.call
-    }
-
-    /// 1 to 15, 17 to 19, or 22 to 27; of a diagram 1 to 6, 18 or 19.
+    /// 1 to 15, 17 to 19, or 22 to 27.
     pub fn number(&self) -> u32 {
         self.number
     }
 
-    /// How many modules were evaluated, the refused one included; 0 for 1 to 6, and for a diagram.
+    /// How many modules were evaluated, the refused one included; 0 for 1 to 6.
     pub fn modules(&self) -> u32 {
         self.modules
     }
 
-    /// The module evaluated when refused; the asked one for 6 and 19, and for 18 of a diagram; blank for 1 to 5.
+    /// The module evaluated when refused; the asked one for 6 and 19, blank for 1 to 5.
     pub fn module(&self) -> &[u8] {
         &self.module
     }
@@ -65,14 +50,6 @@ impl Refusal {
     /// Whether that place is one of the library.
     pub fn in_library(&self) -> bool {
         self.in_library
-    }
-
-    fn text(&self) -> &'static str {
-        match (self.call, self.number) {
-            (Call::Diagram, 18) => "the diagram has more than 1,024 lines",
-            (Call::Diagram, 19) => "the diagram does not fit",
-            (_, number) => text(number),
-        }
     }
 }
 
@@ -109,7 +86,7 @@ pub(crate) fn text(number: u32) -> &'static str {
 
 impl fmt::Display for Refusal {
     fn fmt(&self, f: &mut fmt::Formatter<'_>) -> fmt::Result {
-        write!(f, "{}: {}", self.number, self.text())?;
+        write!(f, "{}: {}", self.number, text(self.number))?;
         if self.number <= 5 {
             let of = if self.in_library {
                 " of the library"

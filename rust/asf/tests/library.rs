@@ -1,9 +1,8 @@
-//! The safe functions over the proved library: a listing and its lines, a diagram and its lines, refusals and their texts, two texts, what is lent,
-//! and the test vectors.
+//! The safe functions over the proved library: a listing and its lines, refusals and their texts, two texts, what is lent, and the test vectors.
 
-use asf::{diagram, fetch, lines, normalise, visible};
-use asf::{BadLine, Call, DiagramLine, Line, Memory, Part, Refusal, Specification};
-use asf::{DIAGRAM_BYTES, DIAGRAM_LINES, NAME_BYTES, TEXT_BYTES, TOKEN_BYTES};
+use asf::{fetch, lines, normalise, visible};
+use asf::{BadLine, Line, Memory, Part, Refusal, Specification};
+use asf::{NAME_BYTES, TEXT_BYTES, TOKEN_BYTES};
 use std::fs;
 use std::path::{Path, PathBuf};
 
@@ -68,137 +67,6 @@ fn its_visible_part() {
     let listing = normalise(b"M2", L).expect("a listing");
     let hidden = LISTING.find("hidden-function").expect("a hidden function");
     assert_eq!(listing.visible(), LISTING[..hidden].as_bytes());
-}
-
-/// Refused by 8 where it is normalised: B stands behind M.
-const LATE: &[u8] = b"module L begin parameters P begin end P imports B end L
-module M begin parameters Q begin end Q imports L { P bound by [ S -> T ] to B }, B end M
-module B begin end B
-";
-
-#[test]
-fn a_diagram() {
-    assert_eq!(refused(b"M", LATE).number(), 8);
-    let drawn = diagram(b"M", LATE).expect("a diagram");
-    let expected = "box=0,M
-parameter=0,Q
-box=1,L
-parameter=1,P
-bind=1,P,B
-absent=2,B
-absent=1,B
-";
-    assert_eq!(drawn.bytes(), expected.as_bytes());
-    let found: Vec<DiagramLine> = drawn.lines().collect();
-    let expected = [
-        DiagramLine::Box {
-            depth: 0,
-            module: b"M",
-        },
-        DiagramLine::Parameter {
-            depth: 0,
-            name: b"Q",
-        },
-        DiagramLine::Box {
-            depth: 1,
-            module: b"L",
-        },
-        DiagramLine::Parameter {
-            depth: 1,
-            name: b"P",
-        },
-        DiagramLine::Bind {
-            depth: 1,
-            parameter: b"P",
-            module: b"B",
-        },
-        DiagramLine::Absent {
-            depth: 2,
-            name: b"B",
-        },
-        DiagramLine::Absent {
-            depth: 1,
-            name: b"B",
-        },
-    ];
-    assert_eq!(found, expected);
-    let library = Specification::with_library(b"module B begin end B", &LATE[..146]);
-    let drawn = diagram(b"M", library).expect("a diagram");
-    assert!(drawn.bytes().ends_with(b"box=2,B\nbox=1,B\n"));
-}
-
-/// Modules that import each other so often, and three that are not there: a diagram of M3 with 1,021 lines and one for each of these.
-fn many_boxes(absent: usize) -> String {
-    let times = |module: &str, count: usize| vec![module; count].join(", ");
-    format!(
-        "module M0 begin parameters P begin end P end M0
-module M1 begin imports {} end M1
-module M2 begin imports {} end M2
-module M3 begin imports {}, {} end M3\n",
-        times("M0", 14),
-        times("M1", 7),
-        times("M2", 5),
-        times("Z", absent)
-    )
-}
-
-/// 1,024 lines are given and 1,025 are not.
-#[test]
-fn a_diagram_that_is_too_large() {
-    let drawn = diagram(b"M3", &many_boxes(3)).expect("a diagram");
-    assert_eq!(drawn.lines().count(), DIAGRAM_LINES);
-    let refusal = diagram(b"M3", &many_boxes(4)).expect_err("a refusal");
-    assert_eq!((refusal.number(), refusal.call()), (18, Call::Diagram));
-    assert_eq!((refusal.module(), refusal.modules()), (&b"M3"[..], 0));
-    let sentence = "18: the diagram has more than 1,024 lines, module M3";
-    assert_eq!(refusal.to_string(), sentence);
-}
-
-/// The output that is lent may be too short; the memory serves other calls as before.
-#[test]
-fn a_diagram_that_does_not_fit() {
-    let drawn = diagram(b"M3", &many_boxes(3)).expect("a diagram");
-    let mut memory = Memory::with_output(drawn.bytes().len() - 1);
-    let refusal = memory
-        .diagram(b"M3", &many_boxes(3))
-        .expect_err("a refusal");
-    assert_eq!(
-        refusal.to_string(),
-        "19: the diagram does not fit, module M3"
-    );
-    let listing = memory.normalise(b"M2", L).expect("a listing");
-    assert_eq!(listing.bytes(), LISTING.as_bytes());
-    let mut memory = Memory::with_output(drawn.bytes().len());
-    assert_eq!(memory.diagram(b"M3", &many_boxes(3)), Ok(drawn));
-}
-
-/// Sixteen imports in each of four modules, with four bindings each, and names of 40 bytes: lines as long as there are.
-#[test]
-fn room_for_every_diagram() {
-    let [module, parameter, actual] = [b'm', b'p', b'a']
-        .map(|byte| String::from_utf8(vec![byte; TOKEN_BYTES]).expect("it is ASCII"));
-    let bound = format!(" {parameter} bound by [ S -> T ] to {actual}").repeat(4);
-    let import = |name: &str| format!("{name} {{{bound} }}");
-    let each = |name: &str, count: usize| vec![import(name); count].join(", ");
-    let text = format!(
-        "module {module} begin end {module}\nmodule B begin imports {} end B\nmodule C begin imports {} end C\n",
-        each(&module, 16),
-        each("B", 12)
-    );
-    let drawn = diagram(b"C", &text).expect("a diagram");
-    assert!(drawn.bytes().len() > asf::OUTPUT_BYTES && drawn.bytes().len() < DIAGRAM_BYTES);
-    let refusal = Memory::new().diagram(b"C", &text).expect_err("a refusal");
-    assert_eq!(refusal.number(), 19);
-}
-
-#[test]
-fn diagrams_of_what_is_not_there() {
-    let refusal = diagram(b"M9", L).expect_err("a refusal");
-    let sentence = "6: the asked module is not in the text, module M9, name M9";
-    assert_eq!(refusal.to_string(), sentence);
-    let refusal = diagram(b"M", "module M").expect_err("a refusal");
-    let sentence = "2: this may not stand here, at byte 8";
-    assert_eq!(refusal.to_string(), sentence);
 }
 
 #[test]
@@ -397,11 +265,8 @@ fn memory_is_kept_between_calls() {
 
 /// The asked name and the specification of an input of `asfnorm`; none where it has no proper first line, or where the library's length is
 /// beyond what it may be, whatever stands behind.
-fn question(input: &[u8]) -> Option<(Call, &[u8], Specification<'_>)> {
-    let (call, rest) = match input.strip_prefix(b"normalise=") {
-        Some(rest) => (Call::Normalise, rest),
-        None => (Call::Diagram, input.strip_prefix(b"diagram=")?),
-    };
+fn question(input: &[u8]) -> Option<(&[u8], Specification<'_>)> {
+    let rest = input.strip_prefix(b"normalise=")?;
     let length = rest.iter().position(|&byte| byte == b'\n')?;
     let (asked, text) = (&rest[..length], &rest[length + 1..]);
     if length > TOKEN_BYTES {
@@ -411,9 +276,9 @@ fn question(input: &[u8]) -> Option<(Call, &[u8], Specification<'_>)> {
         Some((length, _)) if length > TEXT_BYTES => None,
         Some((length, behind)) if length <= behind.len() => {
             let (library, text) = behind.split_at(length);
-            Some((call, asked, Specification::with_library(library, text)))
+            Some((asked, Specification::with_library(library, text)))
         }
-        _ => Some((call, asked, Specification::new(text))),
+        _ => Some((asked, Specification::new(text))),
     }
 }
 
@@ -429,19 +294,12 @@ fn library_line(text: &[u8]) -> Option<(usize, &[u8])> {
 
 /// What `asfnorm` prints for an input that asks something of the library.
 fn printed(memory: &mut Memory, input: &[u8]) -> Option<Vec<u8>> {
-    let (call, asked, specification) = question(input)?;
-    let answered = match call {
-        Call::Normalise => memory
-            .normalise(asked, specification)
-            .map(|listing| (listing.modules(), listing.bytes().to_vec())),
-        Call::Diagram => memory
-            .diagram(asked, specification)
-            .map(|drawn| (0, drawn.bytes().to_vec())),
-    };
-    Some(match answered {
-        Ok((modules, bytes)) => {
-            let front = format!("answer=0\nmodules={}\n", modules);
-            [front.as_bytes(), &bytes].concat()
+    let (asked, specification) = question(input)?;
+    Some(match memory.normalise(asked, specification) {
+        Ok(listing) => {
+            let mut out = format!("answer=0\nmodules={}\n", listing.modules()).into_bytes();
+            out.extend_from_slice(listing.bytes());
+            out
         }
         Err(refusal) => format!(
             "answer={}\nmodules={}\nmodule={}\nname={}\n{}at={}{}\n",
@@ -475,7 +333,6 @@ fn the_vectors() {
     let mut count = 0;
     for folder in [
         "appendix", "readings", "one", "nine", "twelve", "two", "seven", "eleven", "five",
-        "thirteen",
     ] {
         for input in inputs(&vectors.join(folder)) {
             let expected = fs::read(input.with_extension("out")).expect("an output");
@@ -513,7 +370,7 @@ fn the_help_sheet() {
         // a library that is told to be too long is the program's to refuse
         let asked = question(input.as_bytes());
         if let Some(Err(refusal)) =
-            asked.map(|(_, asked, specification)| normalise(asked, specification))
+            asked.map(|(asked, specification)| normalise(asked, specification))
         {
             let heading = heading(refusal.number());
             assert!(refusal.to_string().starts_with(&heading), "{}", refusal);
@@ -521,17 +378,4 @@ fn the_help_sheet() {
         }
     }
     assert!(told > 30, "{} examples are refused", told);
-}
-
-/// What is told of diagrams stands in the words of the help sheet too.
-#[test]
-fn the_help_sheet_of_diagrams() {
-    let sheet = include_str!("../../../docs/ANSWERS.md");
-    let refusal = diagram(b"M3", &many_boxes(4)).expect_err("a refusal");
-    let mut memory = Memory::with_output(0);
-    for refusal in [refusal, memory.diagram(b"M2", L).expect_err("a refusal")] {
-        let told = refusal.to_string().replacen(':', " of a diagram:", 1);
-        let heading = told.split(", module").next().expect("words");
-        assert!(sheet.contains(&format!("### {}\n", heading)), "{}", told);
-    }
 }

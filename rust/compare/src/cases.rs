@@ -6,30 +6,15 @@ use crate::damage;
 use crate::diamonds;
 use crate::division;
 use crate::draft::{self, Plan};
-use crate::engines::first_line;
 use crate::names;
 use crate::numbering;
 use crate::operators;
 use crate::parameterised;
-use crate::paths;
-use crate::random::{one, Random};
+use crate::random::Random;
 use crate::sizes;
 use crate::spelling::{self, Tokens};
 use reference::syntax::Specification;
 use reference::{normalise, Lent, Name, Texts, OUTPUT_BYTES};
-
-/// Words of first lines: those of requests, and others.
-const WORDS: [&str; 6] = [
-    "normalise",
-    "diagram",
-    "diagrams",
-    "removed",
-    "text",
-    "mend",
-];
-
-/// The bytes of a text that may be laid out anyhow and given other names.
-const SHORT: usize = 4_000;
 
 /// One question to an implementation, and the kind of text it came from.
 #[derive(Clone, Debug, Default)]
@@ -84,8 +69,7 @@ fn of_one_text(random: &mut Random) -> Case {
         11..=18 => diamonds(random),
         19..=26 => parameterised(random),
         27..=33 => loose(random),
-        34..=59 => aimed(random),
-        60..=66 => paths(random),
+        34..=66 => aimed(random),
         67..=72 => damaged_tokens("names moved", damage::identifiers, random),
         73..=77 => damaged_tokens("tokens damaged", damage::tokens, random),
         78..=81 => damaged_tokens("no token", damage::lexical, random),
@@ -183,22 +167,6 @@ fn aimed(random: &mut Random) -> Case {
     from_tokens("aimed", asked, tokens, random)
 }
 
-/// A long text is written plainly, so that it is not too long.
-fn paths(random: &mut Random) -> Case {
-    let specification = paths::specification(random);
-    let text = spelling::plain(&specification);
-    if text.len() < SHORT && random.chance(50) {
-        return from_draft("paths", specification, random);
-    }
-    Case {
-        kind: "paths",
-        asked: asked(&specification, random),
-        text,
-        output: OUTPUT_BYTES,
-        ..Case::default()
-    }
-}
-
 fn damaged_tokens(
     kind: &'static str,
     damage: fn(&mut Tokens, &mut Random),
@@ -270,14 +238,12 @@ fn short_output(case: &mut Case, random: &mut Random) {
     };
 }
 
-/// Now and then the program's first line is none, or the other request's: the proved library does not see it.
+/// Now and then the program's first line is none: the proved library does not see it.
 fn bad_first_line(case: &mut Case, random: &mut Random) {
     if random.chance(98) {
         return;
     }
-    let mut line = first_line(one(&WORDS, random), &case.asked);
-    if random.chance(70) {
-        damage::bytes(&mut line, random);
-    }
+    let mut line = [b"normalise=", &case.asked[..], b"\n"].concat();
+    damage::bytes(&mut line, random);
     case.first_line = Some(line);
 }

@@ -1,21 +1,17 @@
 //! A property of the proved library: how the modules of a specification are divided between the two texts, their order
-//! kept, changes no answer from 6 up, no listing and no diagram.
+//! kept, changes no answer from 6 up and no listing.
 
 use crate::cases::Case;
 use crate::division::divisions;
-use crate::engines::{self, Difference};
+use crate::engines::Difference;
 use crate::proved::{differ, told, Proved};
-use reference::{Texts, REQUESTS};
+use reference::Texts;
 use std::io;
 
 /// Each way to divide the case's text against all of it as the customer's. Refusals by reading tell places, which are
 /// others in other texts.
 pub fn compare(proved: &Proved, case: &Case) -> Option<Difference> {
-    (0..REQUESTS.len()).find_map(|request| compare_request(request, proved, case))
-}
-
-fn compare_request(request: usize, proved: &Proved, case: &Case) -> Option<Difference> {
-    let ask = |texts: Texts| proved.reply(request, &case.asked, texts, case.output);
+    let ask = |texts: Texts| proved.reply(&case.asked, texts, case.output);
     let undivided = match ask(Texts::alone(&case.text)) {
         Ok(reply) if (1..=5).contains(&reply.number) => return None,
         Ok(reply) => reply,
@@ -23,8 +19,7 @@ fn compare_request(request: usize, proved: &Proved, case: &Case) -> Option<Diffe
     };
     divisions(&case.text).into_iter().find_map(|texts| {
         differ(&undivided, ask(texts), |reply| {
-            let divided = format!("divided at {}: {}", texts.library.len(), told(reply));
-            engines::told(request, &divided)
+            format!("divided at {}: {}", texts.library.len(), told(reply))
         })
     })
 }

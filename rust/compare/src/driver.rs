@@ -32,7 +32,7 @@ pub struct Room {
     pub listing: usize,
 }
 
-/// What a call has left; names and listing are those of an answer about a module, a part of a text has none.
+/// What a call has left; names and listing are those of a normal form, a part of a text has none.
 #[derive(Debug, Default, PartialEq, Eq)]
 pub struct Reply {
     pub number: u32,
@@ -79,17 +79,9 @@ impl Driver {
         })
     }
 
-    /// A request by its place among the reference's, which is its function's number here.
-    pub fn answer(
-        &mut self,
-        request: usize,
-        asked: &[u8],
-        texts: Texts,
-        room: Room,
-    ) -> io::Result<Reply> {
+    pub fn normalise(&mut self, asked: &[u8], texts: Texts, room: Room) -> io::Result<Reply> {
         let rooms = [room.memory, room.output, room.values, room.names];
-        let more = [&rooms[..], &[room.listing, request]].concat();
-        self.ask(0, asked, texts, &more)?;
+        self.ask(0, asked, texts, &[&rooms[..], &[room.listing]].concat())?;
         Ok(Reply {
             number: self.word()?,
             broken: self.word()?,
@@ -187,13 +179,12 @@ impl Driver {
 
     pub fn time(
         &mut self,
-        request: usize,
         asked: &[u8],
         texts: Texts,
         output: usize,
         times: usize,
     ) -> io::Result<Times> {
-        self.ask(2, asked, texts, &[output, times, request])?;
+        self.ask(2, asked, texts, &[output, times])?;
         Ok(Times {
             number: self.word()?,
             least: self.long()?,

@@ -1,21 +1,12 @@
 //! The two sides of a comparison, and where they differ.
 
 use crate::cases::Case;
-use reference::{asfnorm, Answer, Lent, REQUESTS};
+use reference::{asfnorm, normalise, Answer, Lent};
 use std::io::{self, Write};
 use std::process::{Command, Stdio};
 
-/// The requests by their places among the reference's.
-pub const NORMALISE: usize = 0;
-pub const DIAGRAM: usize = 1;
-
 pub fn reference(case: &Case) -> Answer {
-    answer(NORMALISE, case, Lent::output(case.output))
-}
-
-/// What the reference says of a case, of whatever is lent.
-pub fn answer(request: usize, case: &Case, lent: Lent) -> Answer {
-    (REQUESTS[request].answer)(&case.asked, case.texts(), lent)
+    normalise(&case.asked, case.texts(), Lent::output(case.output))
 }
 
 /// What should be said of a case and what is, where the two differ.
@@ -24,11 +15,21 @@ pub struct Difference {
     pub found: String,
 }
 
-/// The standard input of `asfnorm` for a case and a request.
-pub fn input(request: usize, case: &Case) -> Vec<u8> {
+/// The reference with one word of working memory too few.
+pub fn reference_with_short_memory(case: &Case) -> Answer {
+    let lent = Lent {
+        work: 0,
+        work_needed: 1,
+        output: case.output,
+    };
+    normalise(&case.asked, case.texts(), lent)
+}
+
+/// The standard input of `asfnorm` for a case.
+pub fn input(case: &Case) -> Vec<u8> {
     let first_line = match &case.first_line {
         Some(line) => line.clone(),
-        None => first_line(REQUESTS[request].word, &case.asked),
+        None => [b"normalise=", &case.asked[..], b"\n"].concat(),
     };
     let library_line = match &case.library_line {
         Some(line) => line.clone(),
@@ -40,31 +41,15 @@ pub fn input(request: usize, case: &Case) -> Vec<u8> {
         .concat()
 }
 
-pub fn first_line(word: &str, asked: &[u8]) -> Vec<u8> {
-    [word.as_bytes(), b"=", asked, b"\n"].concat()
-}
-
-/// Runs a program on a case as `asfnorm` is run, once for each request, and compares what it prints with what the
-/// reference prints.
+/// Runs a program on a case as `asfnorm` is run, and compares what it prints with what the reference prints.
 pub fn compare_program(case: &Case, program: &str) -> io::Result<Option<Difference>> {
-    for request in 0..REQUESTS.len() {
-        let input = input(request, case);
-        let expected = asfnorm(&input);
-        let found = run(program, input)?;
-        if expected != found {
-            let tell = |printed: &[u8]| told(request, &String::from_utf8_lossy(printed));
-            return Ok(Some(Difference {
-                expected: tell(&expected),
-                found: tell(&found),
-            }));
-        }
-    }
-    Ok(None)
-}
-
-/// What is told of a request, behind its word.
-pub fn told(request: usize, what: &str) -> String {
-    format!("{}: {what}", REQUESTS[request].word)
+    let input = input(case);
+    let expected = asfnorm(&input);
+    let found = run(program, input)?;
+    Ok((expected != found).then(|| Difference {
+        expected: String::from_utf8_lossy(&expected).into_owned(),
+        found: String::from_utf8_lossy(&found).into_owned(),
+    }))
 }
 
 /// A program that stops reading early is not an error here: its output tells.

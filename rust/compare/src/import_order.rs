@@ -4,7 +4,7 @@
 
 use crate::cases::Case;
 use crate::driver::Reply;
-use crate::engines::{input, Difference, NORMALISE};
+use crate::engines::{input, Difference};
 use crate::proved::Proved;
 use crate::random::Random;
 use crate::rearranging::{rearranged, Rearranged};
@@ -110,7 +110,7 @@ fn difference(asked: &Name, other: &Case, told: &[io::Result<Told>; 2]) -> Diffe
         Ok(told) => format!("{asked} asked: {}", sentence(told)),
         Err(error) => format!("{asked} asked: the driver ended: {error}"),
     };
-    let text = input(NORMALISE, other);
+    let text = input(other);
     Difference {
         expected: tell(&told[0]),
         found: format!(
@@ -152,7 +152,7 @@ pub fn ask_reference(case: &Case, asked: &Name) -> io::Result<Told> {
 }
 
 pub fn ask_proved(proved: &Proved, case: &Case, asked: &Name) -> io::Result<Told> {
-    let reply = proved.reply(NORMALISE, asked, case.texts(), case.output)?;
+    let reply = proved.reply(asked, case.texts(), case.output)?;
     Ok(of_reply(&reply))
 }
 

@@ -22,7 +22,6 @@ pub mod names;
 pub mod numbering;
 pub mod operators;
 pub mod parameterised;
-pub mod paths;
 pub mod proved;
 pub mod random;
 pub mod rearranging;

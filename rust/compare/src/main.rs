@@ -5,14 +5,14 @@ use compare::decided::{self, Tally};
 use compare::deep::deep_loads;
 use compare::divided;
 use compare::editions::{chain, write_word};
-use compare::engines::{self, Difference, DIAGRAM, NORMALISE};
+use compare::engines::{self, Difference};
 use compare::import_order::{self, Agreed, Told};
 use compare::loads::loads;
 use compare::meetings::meetings;
 use compare::proved::Proved;
 use compare::shrink::shrink;
 use compare::timing;
-use reference::{Answer, Lent, Name, OUTPUT_BYTES};
+use reference::{Answer, Name};
 use std::collections::BTreeMap;
 use std::env;
 use std::error::Error;
@@ -113,7 +113,7 @@ fn chains(count: u64, first: u64) -> Result<ExitCode, Box<dyn Error>> {
 }
 
 fn input(seed: u64) -> Result<ExitCode, Box<dyn Error>> {
-    io::stdout().write_all(&engines::input(NORMALISE, &case(seed)))?;
+    io::stdout().write_all(&engines::input(&case(seed)))?;
     Ok(ExitCode::SUCCESS)
 }
 
@@ -123,15 +123,12 @@ fn texts(folder: &Path) -> Result<ExitCode, Box<dyn Error>> {
     fs::create_dir_all(&apart)?;
     for load in loads().iter().chain(&deep_loads()) {
         let place = if load.long { &apart } else { folder };
-        fs::write(
-            place.join(load.file_name()),
-            engines::input(NORMALISE, &load.case()),
-        )?;
+        fs::write(place.join(load.file_name()), engines::input(&load.case()))?;
     }
     Ok(ExitCode::SUCCESS)
 }
 
-/// How often each number came, for all texts and for each kind; and how often for their diagrams.
+/// How often each number came, for all texts and for each kind.
 fn tally(count: u64, first: u64) -> Result<ExitCode, Box<dyn Error>> {
     let mut counts: BTreeMap<&str, [u64; 28]> = BTreeMap::new();
     for seed in first..first + count {
@@ -144,8 +141,6 @@ fn tally(count: u64, first: u64) -> Result<ExitCode, Box<dyn Error>> {
         for kind in kinds {
             counts.entry(kind).or_default()[answer.number as usize] += 1;
         }
-        let drawn = engines::answer(DIAGRAM, &case, Lent::output(OUTPUT_BYTES));
-        counts.entry("diagrams").or_default()[drawn.number as usize] += 1;
     }
     for (kind, numbers) in counts {
         print!("{kind:>15}:");
@@ -226,7 +221,7 @@ fn rearranged(
 fn report(seed: u64, case: &Case, difference: Option<Difference>) -> io::Result<()> {
     println!("seed {seed} ({}), output {}", case.kind, case.output);
     println!("--- input, made smaller");
-    io::stdout().write_all(&engines::input(NORMALISE, case))?;
+    io::stdout().write_all(&engines::input(case))?;
     if let Some(difference) = difference {
         println!("\n--- expected\n{}", difference.expected);
         println!("--- found\n{}", difference.found);

@@ -1,10 +1,10 @@
-//! The proved library held to the reference: the answer to each request, every byte that is lent, the listing read back, and modules fetched. A
-//! driver that crashes differs.
+//! The proved library held to the reference: the answer, every byte that is lent, the listing read back, and modules fetched. A driver that
+//! crashes differs.
 
 use crate::cases::Case;
 use crate::driver::{Driver, Places, ReadBack, Reply, Room, FILL, MEMORY_WORDS, NAMES, VALUES};
-use crate::engines::{self, answer, Difference, DIAGRAM, NORMALISE};
-use reference::{fetch, next_line, parts, Answer, Lent, Name, Step, Texts, NAME_BYTES};
+use crate::engines::{reference, reference_with_short_memory, Difference};
+use reference::{fetch, next_line, parts, Answer, Name, Step, Texts, NAME_BYTES};
 use std::cell::RefCell;
 use std::io;
 
@@ -15,9 +15,6 @@ const BROKEN: [&str; 4] = [
     "bytes around what was lent are changed",
     "the name or a text is changed",
 ];
-
-/// More than the longest diagram has: 1,024 lines with two names of 40 bytes.
-const DIAGRAM_BYTES: usize = 100_000;
 
 /// Keeps a driver, and starts another where one has crashed.
 pub struct Proved {
@@ -46,13 +43,7 @@ impl Proved {
     }
 
     /// All that a call leaves with enough memory and so much output, which is handed over whole, whatever the listing's length.
-    pub fn reply(
-        &self,
-        request: usize,
-        asked: &[u8],
-        texts: Texts,
-        output: usize,
-    ) -> io::Result<Reply> {
+    pub fn reply(&self, asked: &[u8], texts: Texts, output: usize) -> io::Result<Reply> {
         let room = Room {
             memory: MEMORY_WORDS,
             output,
@@ -60,67 +51,34 @@ impl Proved {
             names: NAMES,
             listing: output,
         };
-        self.call(|driver| driver.answer(request, asked, texts, room))
+        self.call(|driver| driver.normalise(asked, texts, room))
     }
 
-    /// With the working memory whole, and with too little; then the listing, whole and damaged; then the diagram; then some modules' texts.
+    /// With the working memory whole, and with too little; then the listing, whole and damaged; then some modules' texts.
     pub fn compare(&self, case: &Case) -> Option<Difference> {
-        let whole = lent(MEMORY_WORDS, case.output);
-        let expected = answer(NORMALISE, case, whole);
-        self.compare_answer(NORMALISE, case, &expected, whole)
-            .or_else(|| self.compare_with_short_memory(NORMALISE, case))
+        let expected = reference(case);
+        let short = reference_with_short_memory(case);
+        self.compare_answer(case, &expected, MEMORY_WORDS)
+            .or_else(|| self.compare_answer(case, &short, short_memory(case)))
             .or_else(|| self.compare_reading(&expected.listing, 0))
             .or_else(|| self.compare_damaged(&expected.listing, case.text.len()))
-            .or_else(|| self.compare_diagram(case))
             .or_else(|| {
                 let mut names = some_names(case).into_iter();
                 names.find_map(|name| self.compare_fetching(case, &name))
             })
     }
 
-    /// With more output than there may be lines for, and with too little memory; then, where there are lines, with output exactly long enough,
-    /// and one byte short.
-    fn compare_diagram(&self, case: &Case) -> Option<Difference> {
-        let whole = lent(MEMORY_WORDS, DIAGRAM_BYTES);
-        let expected = answer(DIAGRAM, case, whole);
-        let length = expected.listing.len();
-        let near = length.saturating_sub(1)..=length;
-        self.compare_answer(DIAGRAM, case, &expected, whole)
-            .or_else(|| self.compare_with_short_memory(DIAGRAM, case))
-            .or_else(|| {
-                let mut outputs = near.filter(|_| length > 0);
-                outputs
-                    .find_map(|output| self.compare_lent(DIAGRAM, case, lent(MEMORY_WORDS, output)))
-            })
-    }
-
-    fn compare_with_short_memory(&self, request: usize, case: &Case) -> Option<Difference> {
-        self.compare_lent(request, case, lent(short_memory(case), case.output))
-    }
-
-    fn compare_lent(&self, request: usize, case: &Case, lent: Lent) -> Option<Difference> {
-        self.compare_answer(request, case, &answer(request, case, lent), lent)
-    }
-
-    fn compare_answer(
-        &self,
-        request: usize,
-        case: &Case,
-        answer: &Answer,
-        lent: Lent,
-    ) -> Option<Difference> {
+    fn compare_answer(&self, case: &Case, answer: &Answer, memory: usize) -> Option<Difference> {
         let (values, names) = rooms(case);
         let room = Room {
-            memory: lent.work,
-            output: lent.output,
+            memory,
+            output: case.output,
             values,
             names,
             listing: answer.listing.len(),
         };
-        let found = self.call(|driver| driver.answer(request, &case.asked, case.texts(), room));
-        differ(&expected_reply(answer, room), found, |reply| {
-            engines::told(request, &told(reply))
-        })
+        let found = self.call(|driver| driver.normalise(&case.asked, case.texts(), room));
+        differ(&expected_reply(answer, room), found, told)
     }
 
     fn compare_reading(&self, listing: &[u8], place: usize) -> Option<Difference> {
@@ -149,15 +107,6 @@ impl Proved {
         differ(&expected_part(case, name, room), found, |reply| {
             format!("{} fetched: {}", String::from_utf8_lossy(name), told(reply))
         })
-    }
-}
-
-/// What is lent, to a library that needs so much memory.
-fn lent(memory: usize, output: usize) -> Lent {
-    Lent {
-        work: memory,
-        work_needed: MEMORY_WORDS,
-        output,
     }
 }
 

@@ -2,7 +2,6 @@
 //! those of a call. Nothing is held to a time.
 
 use crate::driver::Driver;
-use crate::engines::NORMALISE;
 use crate::loads::{loads, Load};
 use reference::{normalise, Answer, Lent, Texts, OUTPUT_BYTES};
 use std::io;
@@ -26,14 +25,10 @@ pub fn decisions(times: usize, command: &[String]) -> io::Result<()> {
     for load in loads() {
         let (asked, texts) = (load.asked.as_bytes(), load.texts());
         let mut driver = Driver::start(command)?;
-        if driver
-            .time(NORMALISE, asked, texts, OUTPUT_BYTES, 1)?
-            .number
-            != 0
-        {
+        if driver.time(asked, texts, OUTPUT_BYTES, 1)?.number != 0 {
             continue;
         }
-        let call = driver.time(NORMALISE, asked, texts, OUTPUT_BYTES, times)?;
+        let call = driver.time(asked, texts, OUTPUT_BYTES, times)?;
         let edited = [texts.customer, b"\n"].concat();
         let now = Texts {
             customer: &edited,
@@ -53,7 +48,7 @@ pub fn decisions(times: usize, command: &[String]) -> io::Result<()> {
 
 fn row(load: &Load, times: usize, driver: &mut Driver) -> io::Result<String> {
     let (asked, texts) = (load.asked.as_bytes(), load.texts());
-    let proved = driver.time(NORMALISE, asked, texts, OUTPUT_BYTES, times)?;
+    let proved = driver.time(asked, texts, OUTPUT_BYTES, times)?;
     let (answer, reference) = least_time(asked, texts, times);
     if proved.number != answer.number {
         let message = format!("{}: {} and {}", load.title, proved.number, answer.number);

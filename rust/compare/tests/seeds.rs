@@ -1,19 +1,18 @@
-//! The seeds reach every number that a specification can be answered with, what only two texts can have, what operators bring and what diagrams
-//! show, every listing is read back to its end, and the order of imports is of no account.
+//! The seeds reach every number that a specification can be answered with, what only two texts can have and what operators bring, every
+//! listing is read back to its end, and the order of imports is of no account.
 
 use compare::cases::{case, undivided, Case};
 use compare::decided::{questions, Tally};
 use compare::division::divisions;
 use compare::editions::chain;
-use compare::engines::{self, input, reference, DIAGRAM, NORMALISE};
+use compare::engines::{input, reference};
 use compare::import_order::{self, Agreed};
 use compare::operators::{declared, replace};
-use compare::paths::{self, LINES};
 use compare::spelling::plain;
-use reference::syntax::{operands, Specification};
+use reference::syntax::operands;
 use reference::{
     asfnorm, next_line, normalise, parts, read, Answer, Lent, Name, Step, Texts, NAME_BYTES,
-    OUTPUT_BYTES, REQUESTS, TEXT_BYTES,
+    TEXT_BYTES,
 };
 
 /// Every number that a call can give; 16 and 20 are given no more, and 21 is the listing reader's.
@@ -370,163 +369,6 @@ fn within_name(line: &[u8], place: usize, length: usize) -> bool {
     !(before && behind)
 }
 
-/// A text that is read, with its library, and the diagram of the asked module: how many lines it has is counted without drawing it.
-struct Drawn {
-    case: Case,
-    specification: Specification,
-    lines: u64,
-    answer: Answer,
-}
-
-/// None where the texts are not read, or the module is not there.
-fn drawn(seed: u64) -> Option<Drawn> {
-    let case = case(seed);
-    let answer = engines::answer(DIAGRAM, &case, Lent::output(usize::MAX));
-    if (1..=6).contains(&answer.number) {
-        return None;
-    }
-    let mut specification = Specification::default();
-    for text in [&case.library, &case.text] {
-        let modules = read(text).map_or(Vec::new(), |read| read.modules);
-        specification.modules.extend(modules);
-    }
-    let lines = paths::lines(&specification, specification.index(&case.asked)?);
-    Some(Drawn {
-        case,
-        specification,
-        lines,
-        answer,
-    })
-}
-
-impl Drawn {
-    /// The depths and the values of the lines with a key, a value's names each by itself.
-    fn shown(&self, wanted: &str) -> Vec<(usize, Vec<String>)> {
-        let text = String::from_utf8_lossy(&self.answer.listing);
-        let of_key = text.lines().filter_map(|line| line.split_once('='));
-        let values = of_key.filter(|(key, _)| *key == wanted);
-        let taken_apart = values.map(|(_, value)| {
-            let mut parts = value.split(',').map(String::from);
-            let depth = parts.next().expect("a depth stands first");
-            (depth.parse().expect("a number"), parts.collect())
-        });
-        taken_apart.collect()
-    }
-
-    fn declares(&self, name: &str) -> bool {
-        self.specification.index(name.as_bytes()).is_some()
-    }
-}
-
-/// What diagrams show, and what is only counted.
-const SHOWN: [(&str, fn(&Drawn) -> bool); 17] = [
-    ("one line fewer than there may be", |drawn| {
-        drawn.lines == LINES - 1
-    }),
-    ("as many lines as there may be", |drawn| {
-        drawn.lines == LINES
-    }),
-    ("one line more", |drawn| drawn.lines == LINES + 1),
-    ("more lines than could be drawn", |drawn| {
-        drawn.lines > 1 << 40
-    }),
-    ("longer than what the program lends", |drawn| {
-        drawn.answer.listing.len() > OUTPUT_BYTES
-    }),
-    ("64 modules, one in another", |drawn| {
-        drawn.shown("box").iter().any(|(depth, _)| *depth == 63)
-    }),
-    ("a module twice", |drawn| {
-        let boxes = drawn.shown("box");
-        boxes.windows(2).any(|two| two[0] == two[1])
-    }),
-    ("a module at two depths", |drawn| {
-        let boxes = drawn.shown("box");
-        let deeper = |(depth, name): &(usize, Vec<String>)| {
-            boxes
-                .iter()
-                .any(|(other, also)| other > depth && also == name)
-        };
-        boxes.iter().any(deeper)
-    }),
-    ("a missing module", |drawn| {
-        drawn
-            .shown("absent")
-            .iter()
-            .any(|(_, names)| !drawn.declares(&names[0]))
-    }),
-    ("a late module", |drawn| {
-        drawn
-            .shown("absent")
-            .iter()
-            .any(|(_, names)| drawn.declares(&names[0]))
-    }),
-    ("a module that imports itself", |drawn| {
-        let top = String::from_utf8_lossy(&drawn.case.asked).into_owned();
-        drawn.shown("absent").contains(&(1, vec![top]))
-    }),
-    ("a customer's module that the library names", |drawn| {
-        let customers = |name: &str| declares(&drawn.case.text, name.as_bytes());
-        let of_library = declares(&drawn.case.library, &drawn.case.asked);
-        of_library
-            && drawn
-                .shown("absent")
-                .iter()
-                .any(|(_, names)| customers(&names[0]))
-    }),
-    ("modules of both texts", |drawn| {
-        let boxes = drawn.shown("box");
-        let of = |text: &[u8]| {
-            boxes
-                .iter()
-                .any(|(_, names)| declares(text, names[0].as_bytes()))
-        };
-        of(&drawn.case.library) && of(&drawn.case.text)
-    }),
-    ("a binding to a missing module", |drawn| {
-        drawn
-            .shown("bind")
-            .iter()
-            .any(|(_, names)| !drawn.declares(&names[1]))
-    }),
-    ("four bindings", |drawn| {
-        let text = String::from_utf8_lossy(&drawn.answer.listing);
-        let lines: Vec<&str> = text.lines().collect();
-        lines
-            .windows(4)
-            .any(|four| four.iter().all(|line| line.starts_with("bind=")))
-    }),
-    ("a parameter declared twice", |drawn| {
-        let parameters = drawn.shown("parameter");
-        parameters.windows(2).any(|two| two[0] == two[1])
-    }),
-    ("of a text that is refused", |drawn| {
-        let listed = reference(&drawn.case).number;
-        drawn.answer.number == 0 && ![0, 18, 19].contains(&listed)
-    }),
-];
-
-/// Each of these is seen; and a diagram has as many lines as are counted, or is refused for their number.
-#[test]
-fn what_diagrams_show() {
-    let all: Vec<Drawn> = (0..2_000).filter_map(drawn).collect();
-    for drawn in &all {
-        let lines = drawn.answer.listing.split(|&byte| byte == b'\n').count() - 1;
-        let expected = match drawn.lines {
-            0..=LINES => (0, drawn.lines, Name::new()),
-            _ => (18, 0, drawn.case.asked.clone()),
-        };
-        let answer = &drawn.answer;
-        let told = (answer.number, lines as u64, answer.module.clone());
-        assert_eq!(told, expected);
-    }
-    for (what, shows) in SHOWN {
-        let count = all.iter().filter(|drawn| shows(drawn)).count();
-        println!("{what}: {count}");
-        assert!(count > 0, "{what}");
-    }
-}
-
 /// Lines `library=N` that are none, and such that tell another length, are among the inputs.
 #[test]
 fn odd_library_lines() {
@@ -538,31 +380,28 @@ fn odd_library_lines() {
             library_line: None,
             ..case.clone()
         };
-        asfnorm(&input(NORMALISE, case)) != asfnorm(&input(NORMALISE, &proper))
+        asfnorm(&input(case)) != asfnorm(&input(&proper))
     });
     assert!(differ.count() > 20);
 }
 
-/// How the modules are divided changes no answer from 6 up, no listing and no diagram.
+/// How the modules are divided changes no answer from 6 up and no listing.
 #[test]
 fn divided_as_undivided() {
     let mut divided = 0;
     for seed in 0..400 {
         let case = undivided(seed);
-        let lent = Lent::output(case.output);
-        for request in &REQUESTS {
-            let whole = (request.answer)(&case.asked, case.texts(), lent);
-            if (1..=5).contains(&whole.number) {
-                continue;
-            }
-            for texts in divisions(&case.text) {
-                let answer = (request.answer)(&case.asked, texts, lent);
-                assert_eq!(answer, whole, "{seed}, {}", request.word);
-                divided += 1;
-            }
+        let whole = reference(&case);
+        if (1..=5).contains(&whole.number) {
+            continue;
+        }
+        for texts in divisions(&case.text) {
+            let answer = normalise(&case.asked, texts, Lent::output(case.output));
+            assert_eq!(answer, whole, "{seed}");
+            divided += 1;
         }
     }
-    assert!(divided > 1_000, "{divided}");
+    assert!(divided > 500, "{divided}");
 }
 
 /// In which order imports stand and how often one is written changes neither what is accepted nor a listing; some refusals are told otherwise.

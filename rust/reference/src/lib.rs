@@ -4,7 +4,6 @@
 mod asking;
 mod checks;
 mod clauses;
-mod diagram;
 mod evaluate;
 mod form;
 mod grammar;
@@ -22,7 +21,7 @@ pub use asking::{decide, module_name, Decision};
 pub use grammar::read;
 pub use lexis::Offence;
 pub use parts::{fetch, parts, Fetched, Part};
-pub use program::{asfnorm, Request, REQUESTS};
+pub use program::asfnorm;
 pub use reader::{next_line, Step};
 pub use syntax::Name;
 
@@ -75,9 +74,9 @@ impl Lent {
     }
 }
 
-/// What comes back ("The numbers that come back"); the listing, or what else is asked for, is empty unless the number is
-/// 0. A place is one of the customer's text, or of the library where the answer says so. The actual name is told of a
-/// binding's pair alone (document 02, Five).
+/// What comes back ("The numbers that come back"); the listing is empty unless the number is 0. A place is one of the
+/// customer's text, or of the library where the answer says so. The actual name is told of a binding's pair alone
+/// (document 02, Five).
 #[derive(Clone, Debug, Default, PartialEq, Eq)]
 pub struct Answer {
     pub number: u32,
@@ -90,59 +89,28 @@ pub struct Answer {
     pub listing: Vec<u8>,
 }
 
-/// Normalises the asked module of a specification. Behind the questions that every call has come the modules, then the
-/// room for the listing.
+/// Normalises the asked module of a specification. The order of the questions: working memory, length of the library,
+/// the library itself, length of the customer's text, that text itself, the asked name, the modules, the room for the
+/// listing.
 pub fn normalise(asked: &[u8], texts: Texts, lent: Lent) -> Answer {
-    let (specification, index) = match sought(asked, texts, lent) {
-        Ok(found) => found,
-        Err(refused) => return refused,
-    };
-    let evaluated = evaluate::evaluate(&specification, index);
-    let mut answer = match evaluated.outcome {
-        Ok(form) => shown(listing::write(&form, &specification), asked, lent),
-        Err(refusal) => Answer {
-            number: refusal.number,
-            module: evaluated.last,
-            name: refusal.name,
-            actual: refusal.actual,
-            ..Answer::default()
-        },
-    };
-    answer.modules = evaluated.modules;
-    answer
-}
-
-/// The structure diagram of the asked module (document 02, Thirteen). Behind the questions that every call has come the
-/// number of its lines, then the room for them.
-pub fn diagram(asked: &[u8], texts: Texts, lent: Lent) -> Answer {
-    let (specification, index) = match sought(asked, texts, lent) {
-        Ok(found) => found,
-        Err(refused) => return refused,
-    };
-    match diagram::draw(&specification, index) {
-        Some(lines) => shown(lines, asked, lent),
-        None => about_asked(18, asked),
-    }
-}
-
-/// A specification and the place of the asked module in it. The order of the questions that every call has: working
-/// memory, length of the library, the library itself, length of the customer's text, that text itself, the asked name.
-fn sought(
-    asked: &[u8],
-    texts: Texts,
-    lent: Lent,
-) -> Result<(syntax::Specification, usize), Answer> {
     if lent.work < lent.work_needed {
-        return Err(about_asked(19, asked));
+        return about_asked(19, asked);
     }
-    let specification = read_both(texts)?;
-    match specification.index(asked) {
-        Some(index) => Ok((specification, index)),
-        None => Err(Answer {
-            name: short_or_blank(asked),
-            ..about_asked(6, asked)
-        }),
-    }
+    let specification = match read_both(texts) {
+        Ok(specification) => specification,
+        Err(refused) => return refused,
+    };
+    let Some(index) = specification.index(asked) else {
+        let mut answer = about_asked(6, asked);
+        answer.name = answer.module.clone();
+        return answer;
+    };
+    finish(
+        evaluate::evaluate(&specification, index),
+        &specification,
+        asked,
+        lent.output,
+    )
 }
 
 /// Reads the library, if there is one, wholly before anything is asked of the customer's text.
@@ -157,15 +125,34 @@ fn read_both(texts: Texts) -> Result<syntax::Specification, Answer> {
     Ok(specification)
 }
 
-/// What is shown, if there is room for it.
-fn shown(listing: Vec<u8>, asked: &[u8], lent: Lent) -> Answer {
-    if listing.len() > lent.output {
-        return about_asked(19, asked);
-    }
-    Answer {
-        listing,
-        ..Answer::default()
-    }
+fn finish(
+    evaluated: evaluate::Evaluated,
+    specification: &syntax::Specification,
+    asked: &[u8],
+    room: usize,
+) -> Answer {
+    let mut answer = match evaluated.outcome {
+        Ok(form) => {
+            let listing = listing::write(&form, specification);
+            if listing.len() > room {
+                about_asked(19, asked)
+            } else {
+                Answer {
+                    listing,
+                    ..Answer::default()
+                }
+            }
+        }
+        Err(refusal) => Answer {
+            number: refusal.number,
+            module: evaluated.last,
+            name: refusal.name,
+            actual: refusal.actual,
+            ..Answer::default()
+        },
+    };
+    answer.modules = evaluated.modules;
+    answer
 }
 
 /// An answer that names the asked module.

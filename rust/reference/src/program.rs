@@ -1,28 +1,10 @@
-//! The program `asfnorm` as a function from its standard input to its output ("The listing"; document 02, One, Five and
-//! Thirteen).
+//! The program `asfnorm` as a function from its standard input to its output ("The listing"; document 02, One and Five).
 
-use crate::{at_place, diagram, normalise, Answer, Lent, Offence, Texts};
+use crate::{at_place, normalise, Answer, Lent, Offence, Texts};
 use crate::{OUTPUT_BYTES, TEXT_BYTES, TOKEN_BYTES};
 use std::ops::RangeInclusive;
 
-/// What can be asked of a module: the word before its name on the first line, and what answers it.
-pub struct Request {
-    pub word: &'static str,
-    pub answer: fn(&[u8], Texts, Lent) -> Answer,
-}
-
-/// In the order in which they landed.
-pub static REQUESTS: [Request; 2] = [
-    Request {
-        word: "normalise",
-        answer: normalise,
-    },
-    Request {
-        word: "diagram",
-        answer: diagram,
-    },
-];
-
+const FIRST: &[u8] = b"normalise=";
 const SECOND: &[u8] = b"library=";
 /// The most digits of the library's length.
 const DIGITS: usize = 9;
@@ -35,7 +17,7 @@ pub fn asfnorm(input: &[u8]) -> Vec<u8> {
 }
 
 fn answered(input: &[u8]) -> Answer {
-    let Some((request, asked, rest)) = split(input) else {
+    let Some((asked, rest)) = split(input) else {
         return at_place(Offence { number: 2, at: 0 }, false);
     };
     let texts = match library_line(rest) {
@@ -52,17 +34,14 @@ fn answered(input: &[u8]) -> Answer {
         },
         _ => Texts::alone(rest),
     };
-    (request.answer)(asked, texts, Lent::output(OUTPUT_BYTES))
+    normalise(asked, texts, Lent::output(OUTPUT_BYTES))
 }
 
-/// The request, the asked name and what is behind their line; none without a proper first line.
-fn split(input: &[u8]) -> Option<(&'static Request, &[u8], &[u8])> {
-    let (request, rest) = REQUESTS.iter().find_map(|request| {
-        let behind = input.strip_prefix(request.word.as_bytes())?;
-        Some((request, behind.strip_prefix(b"=")?))
-    })?;
+/// The asked name and what is behind its line; none without a proper first line.
+fn split(input: &[u8]) -> Option<(&[u8], &[u8])> {
+    let rest = input.strip_prefix(FIRST)?;
     let length = rest.iter().position(|&byte| byte == b'\n')?;
-    (length <= TOKEN_BYTES).then(|| (request, &rest[..length], &rest[length + 1..]))
+    (length <= TOKEN_BYTES).then(|| (&rest[..length], &rest[length + 1..]))
 }
 
 /// The length that a library's line tells, and what is behind that line; none where it is no such line.

@@ -5,8 +5,8 @@ use std::env;
 use std::fs;
 use std::path::{Path, PathBuf};
 
-/// The folder with `appendix/`, `readings/`, `one/`, `nine/`, `twelve/`, `two/`, `seven/`, `eleven/`, `five/` and `thirteen/`:
-/// from the environment, or beside this crate.
+/// The folder with `appendix/`, `readings/`, `one/`, `nine/`, `twelve/`, `two/`, `seven/`, `eleven/` and `five/`: from the
+/// environment, or beside this crate.
 fn folder() -> PathBuf {
     match env::var_os("ASF_VECTORS") {
         Some(path) => PathBuf::from(path),
@@ -87,9 +87,4 @@ fn eleven() {
 #[test]
 fn five() {
     run("five", 52);
-}
-
-#[test]
-fn thirteen() {
-    run("thirteen", 39);
 }

@@ -10,11 +10,11 @@ has-request-spec =
     tie.close
     (tie.spec
     (λ c. search cases)  -- returns
-    (λ c. search cases)  -- sub-if2
     (λ c. search cases)  -- returns-2
     (λ c. search rules)  -- sub-same-bytes
     (λ c. search rules)  -- part-same-bytes-start
     (λ c. search cases)  -- part-same-bytes-end
+    (λ c. search rules)  -- slice-aggregate-same-bytes
     (λ c κs. search rules)  -- same-bytes-requires
     (λ c. search cases)  -- returns-3
     )

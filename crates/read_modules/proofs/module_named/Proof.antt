@@ -2,7 +2,7 @@
 -- Assumes nothing.
 use Rattle.read_steps.specs.Model.{module_named}
 use borrow.Author.Rules.{rules}
-use Rattle.read_steps.proofs.Rules.{rules}
+use Rattle.read_steps.proofs.Rules.{grammar}
 use Rattle.read_modules.proofs.module_named.Statement.{statement}
 use Rattle.read_modules.proofs.module_named.Tie as tie
 
@@ -18,5 +18,5 @@ module-named-spec =
     (λ c κs. search rules)  -- expect-requires-2
     (λ c κs. search rules)  -- this-name-requires
     (λ c. search rules)  -- same-length
-    (λ c. search rules depth 8)  -- returns
+    (λ c. search grammar depth 8)  -- returns
     )

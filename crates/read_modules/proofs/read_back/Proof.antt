@@ -2,7 +2,7 @@
 -- Assumes nothing.
 use Rattle.read_steps.specs.Model.{back}
 use borrow.Author.Rules.{rules}
-use Rattle.read_steps.proofs.Rules.{rules}
+use Rattle.read_steps.proofs.Rules.{grammar}
 use Rattle.read_modules.proofs.read_back.Statement.{statement}
 use Rattle.read_modules.proofs.read_back.Tie as tie
 
@@ -15,5 +15,5 @@ read-back-spec =
     (λ c κs. search rules)  -- section-variables-requires
     (λ c κs. search rules)  -- section-equations-requires
     (λ c. search rules)  -- same-length
-    (λ c. search rules)  -- returns
+    (λ c. search grammar)  -- returns
     )

@@ -2,7 +2,7 @@
 -- Assumes nothing.
 use Rattle.read_steps.specs.Model.{front}
 use borrow.Author.Rules.{rules}
-use Rattle.read_steps.proofs.Rules.{rules}
+use Rattle.read_steps.proofs.Rules.{grammar}
 use Rattle.read_modules.proofs.read_front.Statement.{statement}
 use Rattle.read_modules.proofs.read_front.Tie as tie
 
@@ -15,5 +15,5 @@ read-front-spec =
     (λ c κs. search rules)  -- section-exports-requires
     (λ c κs. search rules)  -- section-imports-requires
     (λ c. search rules)  -- same-length
-    (λ c. search rules)  -- returns
+    (λ c. search grammar)  -- returns
     )

@@ -2,7 +2,7 @@
 -- Assumes nothing.
 use Rattle.read_steps.specs.Model.{a_module}
 use borrow.Author.Rules.{rules}
-use Rattle.read_steps.proofs.Rules.{rules}
+use Rattle.read_steps.proofs.Rules.{grammar}
 use Rattle.read_modules.proofs.read_module.Statement.{statement}
 use Rattle.read_modules.proofs.read_module.Tie as tie
 
@@ -15,5 +15,5 @@ read-module-spec =
     (λ c κs. search rules)  -- next-word-requires
     (λ c κs. search rules)  -- module-named-requires
     (λ c. search rules)  -- same-length
-    (λ c. search rules)  -- returns
+    (λ c. search grammar)  -- returns
     )

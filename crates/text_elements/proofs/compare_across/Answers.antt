@@ -1,11 +1,5 @@
 -- `text_elements::compare_across` meets its contract.
 -- Assumes nothing.
-use Prim.Native.Nat.{◌-◌}
-use mathlib.Core.Path.{◌≡◌}
-use lib.ListN.{drop}
-use Rattle.text_spelling.specs.Word.{name_of}
-use Rattle.text_runs.specs.Orders.{compared}
-use Rattle.text_spelling.specs.Joint.{joint}
 use Rattle.text_spelling.proofs.Auto.{on, done}
 use Rattle.text_elements.proofs.Elements.{cases, left_on}
 use Rattle.text_elements.proofs.compare_across.Goals as goal

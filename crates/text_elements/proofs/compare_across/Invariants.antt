@@ -6,8 +6,6 @@ use lib.ListN.{drop}
 use Rattle.text_spelling.specs.Word.{name_of}
 use Rattle.text_runs.specs.Orders.{compared}
 use Rattle.text_spelling.specs.Joint.{joint}
-use Rattle.text_spelling.proofs.Auto.{on, done}
-use Rattle.text_elements.proofs.Elements.{cases, left_on}
 use Rattle.text_elements.proofs.compare_across.Given as goal
 
 abbrev pub invariant-loop-i : goal.invariant-loop-i

@@ -6,8 +6,6 @@ use lib.ListN.{take, drop}
 use Rattle.text_spelling.specs.Word.{name_of}
 use Rattle.text_runs.specs.Orders.{bytes_compared}
 use Rattle.text_spelling.specs.Joint.{joint}
-use Rattle.text_spelling.proofs.Auto.{on, done}
-use Rattle.text_elements.proofs.Elements.{cases}
 use Rattle.text_elements.proofs.compare_digits.Given as goal
 
 abbrev pub invariant-loop-k : goal.invariant-loop-k

@@ -3,7 +3,6 @@
 use Rattle.text_elements.proofs.Elements.{cases, run_within, runs_by_digits, runs_by_zeros}
 use mathlib.Core.Path.{refl}
 use native.Mathlib.Omega.{arith}
-use borrow.Author.Rules.{rules}
 use Rattle.text_elements.proofs.compare_runs.Goals as goal
 
 pub overflow_sub-j : goal.overflow_sub-j
@@ -19,10 +18,10 @@ pub returns-then-k-j : goal.returns-then-k-j
 returns-then-k-j c = search cases
 
 pub compare_digits-c-requires : goal.compare_digits-c-requires
-compare_digits-c-requires c = (
-      run_within _ _ _ _ _ _ c.requires.0 c.requires.1.1.0 c.zeros_end-x.ensures c.digits_end.ensures (omega arith),
-      run_within _ _ _ _ _ _ c.requires.1.0 c.requires.1.1.1 c.zeros_end-y.ensures c.digits_end-2.ensures (omega (arith, c.if-k-j.false)),
-    )
+compare_digits-c-requires c = record {
+  left_in_bounds = run_within _ _ _ _ _ _ c.requires.n_value c.requires.i_le_n c.zeros_end-x.ensures c.digits_end.ensures (omega arith);
+  left_in_bounds_2 = run_within _ _ _ _ _ _ c.requires.m_value c.requires.i_le_m c.zeros_end-y.ensures c.digits_end-2.ensures (omega (arith, c.if-k-j.false));
+}
 
 pub returns-then-c-eq1 : goal.returns-then-c-eq1
 returns-then-c-eq1 c = runs_by_zeros _ _ _ _ _ _ _ c.zeros_end-x.ensures c.zeros_end-y.ensures c.digits_end.ensures

@@ -1,11 +1,5 @@
 -- `text_elements::digits_end` meets its contract.
 -- Assumes nothing.
-use Prim.Native.Nat.{◌+◌, ◌-◌}
-use mathlib.Core.Path.{◌≡◌}
-use lib.ListN.{drop}
-use Rattle.text_spelling.specs.Word.{name_of}
-use Rattle.text_spelling.specs.Joint.{joint}
-use Rattle.text_runs.specs.Runs.{digits_of}
 use Rattle.text_spelling.proofs.Auto.{on, done, told}
 use Rattle.text_elements.proofs.Elements.{cases}
 use Rattle.text_elements.proofs.digits_end.Goals as goal

@@ -6,8 +6,6 @@ use lib.ListN.{drop}
 use Rattle.text_spelling.specs.Word.{name_of}
 use Rattle.text_spelling.specs.Joint.{joint}
 use Rattle.text_runs.specs.Runs.{digits_of}
-use Rattle.text_spelling.proofs.Auto.{on, done, told}
-use Rattle.text_elements.proofs.Elements.{cases}
 use Rattle.text_elements.proofs.digits_end.Given as goal
 
 abbrev pub invariant-loop-e : goal.invariant-loop-e

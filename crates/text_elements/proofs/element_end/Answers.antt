@@ -1,7 +1,6 @@
 -- `text_elements::element_end` meets its contract.
 -- Assumes nothing.
 use Rattle.text_elements.proofs.Elements.{cases}
-use borrow.Author.Rules.{rules}
 use Rattle.text_elements.proofs.element_end.Goals as goal
 
 pub returns-then-e-i : goal.returns-then-e-i

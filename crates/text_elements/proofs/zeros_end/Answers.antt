@@ -1,12 +1,6 @@
 -- `text_elements::zeros_end` meets its contract.
 -- Assumes nothing.
-use Prim.Native.Nat.{◌+◌, ◌-◌}
 use borrow.Author.Tests.{eq-eqb, ne_eqb}
-use mathlib.Core.Path.{◌≡◌}
-use lib.ListN.{drop}
-use Rattle.text_spelling.specs.Word.{name_of}
-use Rattle.text_spelling.specs.Joint.{joint}
-use Rattle.text_runs.specs.Runs.{zeros_of}
 use Rattle.text_spelling.proofs.Auto.{on, done}
 use Rattle.text_elements.proofs.Elements.{cases}
 use Rattle.text_elements.proofs.zeros_end.Goals as goal

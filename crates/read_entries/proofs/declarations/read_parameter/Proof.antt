@@ -2,7 +2,7 @@
 -- Assumes nothing.
 use Rattle.read_steps.specs.Model.{parameter}
 use borrow.Author.Rules.{rules}
-use Rattle.read_steps.proofs.Rules.{rules}
+use Rattle.read_steps.proofs.Rules.{grammar}
 use Rattle.read_entries.proofs.declarations.read_parameter.Statement.{statement}
 use Rattle.read_entries.proofs.declarations.read_parameter.Tie as tie
 
@@ -16,5 +16,5 @@ read-parameter-spec =
     (λ c κs. search rules)  -- read-enclosed-requires
     (λ c κs. search rules)  -- this-name-requires
     (λ c. search rules)  -- same-length
-    (λ c. search rules)  -- returns
+    (λ c. search grammar)  -- returns
     )

@@ -2,7 +2,7 @@
 -- Assumes nothing.
 use Rattle.read_steps.specs.Model.{signature}
 use borrow.Author.Rules.{rules}
-use Rattle.read_steps.proofs.Rules.{rules}
+use Rattle.read_steps.proofs.Rules.{grammar}
 use Rattle.read_entries.proofs.declarations.read_signature.Statement.{statement}
 use Rattle.read_entries.proofs.declarations.read_signature.Tie as tie
 
@@ -14,5 +14,5 @@ read-signature-spec =
     (λ c κs. search rules)  -- section-sorts-requires
     (λ c κs. search rules)  -- section-functions-requires
     (λ c. search rules)  -- same-length
-    (λ c. search rules)  -- returns
+    (λ c. search grammar)  -- returns
     )

@@ -2,7 +2,7 @@
 -- Assumes nothing.
 use Rattle.read_steps.specs.Model.{optional, exports}
 use borrow.Author.Rules.{rules}
-use Rattle.read_steps.proofs.Rules.{rules}
+use Rattle.read_steps.proofs.Rules.{grammar}
 use Rattle.read_entries.proofs.declarations.section_exports.Statement.{statement}
 use Rattle.read_entries.proofs.declarations.section_exports.Tie as tie
 
@@ -15,6 +15,6 @@ section-exports-spec =
     (λ c κs. search rules)  -- step-requires
     (λ c κs. search rules)  -- read-enclosed-requires
     (λ c. search rules)  -- same-length
-    (λ c. search rules)  -- returns
-    (λ c. search rules)  -- returns-2
+    (λ c. search grammar)  -- returns
+    (λ c. search grammar)  -- returns-2
     )

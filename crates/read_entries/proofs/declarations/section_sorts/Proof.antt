@@ -3,7 +3,7 @@
 use Rattle.read_steps.specs.Model.{optional}
 use Rattle.meaning.specs.Numbers.{text_size}
 use borrow.Author.Rules.{rules}
-use Rattle.read_steps.proofs.Rules.{rules}
+use Rattle.read_steps.proofs.Rules.{grammar}
 use Rattle.read_entries.proofs.declarations.section_sorts.Statement.{statement}
 use Rattle.read_entries.proofs.declarations.section_sorts.Tie as tie
 
@@ -16,6 +16,6 @@ section-sorts-spec =
     (λ c κs. search rules)  -- step-requires
     (λ c κs. search rules)  -- read-names-requires
     (λ c. search rules)  -- same-length
-    (λ c. search rules)  -- returns
-    (λ c. search rules)  -- returns-2
+    (λ c. search grammar)  -- returns
+    (λ c. search grammar)  -- returns-2
     )

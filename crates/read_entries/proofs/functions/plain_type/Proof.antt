@@ -2,7 +2,7 @@
 -- Assumes nothing.
 use Rattle.read_steps.specs.Model.{function_by}
 use borrow.Author.Rules.{rules}
-use Rattle.read_steps.proofs.Rules.{rules}
+use Rattle.read_steps.proofs.Rules.{grammar}
 use Rattle.read_entries.proofs.functions.plain_type.Statement.{statement}
 use Rattle.read_entries.proofs.functions.plain_type.Tie as tie
 
@@ -16,5 +16,5 @@ plain-type-spec =
     (λ c κs. search rules)  -- expect-requires-2
     (λ c κs. search rules)  -- read-name-requires
     (λ c. search rules)  -- same-length
-    (λ c. search rules)  -- returns
+    (λ c. search grammar)  -- returns
     )

@@ -2,7 +2,7 @@
 -- Assumes nothing.
 use Rattle.read_steps.specs.Model.{prefix_operator}
 use borrow.Author.Rules.{rules}
-use Rattle.read_steps.proofs.Rules.{rules}
+use Rattle.read_steps.proofs.Rules.{grammar}
 use Rattle.read_entries.proofs.functions.prefix_operator.Statement.{statement}
 use Rattle.read_entries.proofs.functions.prefix_operator.Tie as tie
 
@@ -14,5 +14,5 @@ prefix-operator-spec =
     (λ c κs. search rules)  -- read-operator-requires
     (λ c κs. search rules)  -- expect-requires
     (λ c. search rules)  -- same-length
-    (λ c. search rules)  -- returns
+    (λ c. search grammar)  -- returns
     )

@@ -2,7 +2,7 @@
 -- Assumes nothing.
 use Rattle.read_steps.specs.Model.{input_type}
 use borrow.Author.Rules.{rules}
-use Rattle.read_steps.proofs.Rules.{rules}
+use Rattle.read_steps.proofs.Rules.{grammar}
 use Rattle.read_entries.proofs.functions.read_inputs.Statement.{statement}
 use Rattle.read_entries.proofs.functions.read_inputs.Tie as tie
 
@@ -12,8 +12,8 @@ read-inputs-spec =
     tie.close
     (tie.spec
     (λ c κs. search rules)  -- next-is-requires
-    (λ c. search rules)  -- returns
+    (λ c. search grammar)  -- returns
     (λ c κs. search rules)  -- read-names-requires
     (λ c. search rules)  -- same-length
-    (λ c. search rules)  -- returns-2
+    (λ c. search grammar)  -- returns-2
     )

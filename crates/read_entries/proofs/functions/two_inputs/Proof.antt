@@ -2,7 +2,7 @@
 -- Assumes nothing.
 use Rattle.read_steps.specs.Model.{two_inputs}
 use borrow.Author.Rules.{rules}
-use Rattle.read_steps.proofs.Rules.{rules}
+use Rattle.read_steps.proofs.Rules.{grammar}
 use Rattle.read_entries.proofs.functions.two_inputs.Statement.{statement}
 use Rattle.read_entries.proofs.functions.two_inputs.Tie as tie
 
@@ -15,5 +15,5 @@ two-inputs-spec =
     (λ c κs. search rules)  -- expect-requires
     (λ c κs. search rules)  -- read-name-requires-2
     (λ c. search rules)  -- same-length
-    (λ c. search rules)  -- returns
+    (λ c. search grammar)  -- returns
     )

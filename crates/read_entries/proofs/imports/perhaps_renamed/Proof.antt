@@ -2,7 +2,7 @@
 -- Assumes nothing.
 use Rattle.read_steps.specs.Model.{perhaps_renamed}
 use borrow.Author.Rules.{rules}
-use Rattle.read_steps.proofs.Rules.{rules}
+use Rattle.read_steps.proofs.Rules.{grammar}
 use Rattle.read_entries.proofs.imports.perhaps_renamed.Statement.{statement}
 use Rattle.read_entries.proofs.imports.perhaps_renamed.Tie as tie
 
@@ -14,6 +14,6 @@ perhaps-renamed-spec =
     (λ c κs. search rules)  -- next-is-requires
     (λ c κs. search rules)  -- read-renamed-requires
     (λ c. search rules)  -- same-length
-    (λ c. search rules)  -- returns
-    (λ c. search rules)  -- returns-2
+    (λ c. search grammar)  -- returns
+    (λ c. search grammar)  -- returns-2
     )

@@ -2,7 +2,7 @@
 -- Assumes nothing.
 use Rattle.read_steps.specs.Model.{bound}
 use borrow.Author.Rules.{rules}
-use Rattle.read_steps.proofs.Rules.{rules}
+use Rattle.read_steps.proofs.Rules.{grammar}
 use Rattle.read_entries.proofs.imports.read_bound.Statement.{statement}
 use Rattle.read_entries.proofs.imports.read_bound.Tie as tie
 
@@ -18,5 +18,5 @@ read-bound-spec =
     (λ c κs. search rules)  -- expect-requires-3
     (λ c κs. search rules)  -- read-name-requires-2
     (λ c. search rules)  -- same-length
-    (λ c. search rules depth 8)  -- returns
+    (λ c. search grammar depth 8)  -- returns
     )

@@ -2,7 +2,7 @@
 -- Assumes nothing.
 use Rattle.read_steps.specs.Model.{optional, modified}
 use borrow.Author.Rules.{rules}
-use Rattle.read_steps.proofs.Rules.{rules}
+use Rattle.read_steps.proofs.Rules.{grammar}
 use Rattle.read_entries.proofs.imports.read_clauses.Statement.{statement}
 use Rattle.read_entries.proofs.imports.read_clauses.Tie as tie
 
@@ -16,6 +16,6 @@ read-clauses-spec =
     (λ c κs. search rules)  -- read-modifier-requires
     (λ c κs. search rules)  -- expect-requires
     (λ c. search rules)  -- same-length
-    (λ c. search rules)  -- returns
-    (λ c. search rules)  -- returns-2
+    (λ c. search grammar)  -- returns
+    (λ c. search grammar)  -- returns-2
     )

@@ -2,7 +2,7 @@
 -- Assumes nothing.
 use Rattle.read_steps.specs.Model.{import_expression}
 use borrow.Author.Rules.{rules}
-use Rattle.read_steps.proofs.Rules.{rules}
+use Rattle.read_steps.proofs.Rules.{grammar}
 use Rattle.read_entries.proofs.imports.read_import.Statement.{statement}
 use Rattle.read_entries.proofs.imports.read_import.Tie as tie
 
@@ -14,5 +14,5 @@ read-import-spec =
     (λ c κs. search rules)  -- read-name-requires
     (λ c κs. search rules)  -- read-clauses-requires
     (λ c. search rules)  -- same-length
-    (λ c. search rules)  -- returns
+    (λ c. search grammar)  -- returns
     )

@@ -2,7 +2,7 @@
 -- Assumes nothing.
 use Rattle.read_steps.specs.Model.{modifier}
 use borrow.Author.Rules.{rules}
-use Rattle.read_steps.proofs.Rules.{rules}
+use Rattle.read_steps.proofs.Rules.{grammar}
 use Rattle.read_entries.proofs.imports.read_modifier.Statement.{statement}
 use Rattle.read_entries.proofs.imports.read_modifier.Tie as tie
 
@@ -15,9 +15,9 @@ read-modifier-spec =
     (λ c κs. search rules)  -- read-renamed-requires
     (λ c κs. search rules)  -- read-bindings-requires
     (λ c. search rules)  -- same-length
-    (λ c. search rules)  -- returns
+    (λ c. search grammar)  -- returns
     (λ c κs. search rules)  -- some-bindings-requires
     (λ c κs. search rules)  -- perhaps-renamed-requires
     (λ c. search rules)  -- same-length-2
-    (λ c. search rules)  -- returns-2
+    (λ c. search grammar)  -- returns-2
     )

@@ -2,7 +2,7 @@
 -- Assumes nothing.
 use Rattle.read_steps.specs.Model.{pair}
 use borrow.Author.Rules.{rules}
-use Rattle.read_steps.proofs.Rules.{rules}
+use Rattle.read_steps.proofs.Rules.{grammar}
 use Rattle.read_entries.proofs.imports.read_pair.Statement.{statement}
 use Rattle.read_entries.proofs.imports.read_pair.Tie as tie
 
@@ -15,5 +15,5 @@ read-pair-spec =
     (λ c κs. search rules)  -- expect-requires
     (λ c κs. search rules)  -- read-function-name-requires-2
     (λ c. search rules)  -- same-length
-    (λ c. search rules)  -- returns
+    (λ c. search grammar)  -- returns
     )

@@ -2,7 +2,7 @@
 -- Assumes nothing.
 use Rattle.read_steps.specs.Model.{renamed}
 use borrow.Author.Rules.{rules}
-use Rattle.read_steps.proofs.Rules.{rules}
+use Rattle.read_steps.proofs.Rules.{grammar}
 use Rattle.read_entries.proofs.imports.read_renamed.Statement.{statement}
 use Rattle.read_entries.proofs.imports.read_renamed.Tie as tie
 
@@ -16,5 +16,5 @@ read-renamed-spec =
     (λ c κs. search rules)  -- expect-requires-2
     (λ c κs. search rules)  -- read-pairs-requires
     (λ c. search rules)  -- same-length
-    (λ c. search rules)  -- returns
+    (λ c. search grammar)  -- returns
     )

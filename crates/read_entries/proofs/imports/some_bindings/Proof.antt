@@ -2,7 +2,7 @@
 -- Assumes nothing.
 use Rattle.read_steps.specs.Model.{some_of}
 use borrow.Author.Rules.{rules}
-use Rattle.read_steps.proofs.Rules.{rules}
+use Rattle.read_steps.proofs.Rules.{grammar}
 use Rattle.read_entries.proofs.imports.some_bindings.Statement.{statement}
 use Rattle.read_entries.proofs.imports.some_bindings.Tie as tie
 
@@ -14,7 +14,7 @@ some-bindings-spec =
     (λ c κs. search rules)  -- next-is-requires
     (λ c κs. search rules)  -- read-bindings-requires
     (λ c. search rules)  -- same-length
-    (λ c. search rules)  -- returns
+    (λ c. search grammar)  -- returns
     (λ c κs. search rules)  -- unexpected-requires
-    (λ c. search rules)  -- returns-2
+    (λ c. search grammar)  -- returns-2
     )

@@ -2,7 +2,7 @@
 -- Assumes nothing.
 use Rattle.read_steps.specs.Model.{by_next}
 use borrow.Author.Rules.{rules}
-use Rattle.read_steps.proofs.Rules.{rules}
+use Rattle.read_steps.proofs.Rules.{grammar}
 use Rattle.read_equations.proofs.equations.mark_by_next.Statement.{statement}
 use Rattle.read_equations.proofs.equations.mark_by_next.Tie as tie
 
@@ -14,12 +14,12 @@ mark-by-next-spec =
     (λ c κs. search rules)  -- next-is-requires
     (λ c κs. search rules)  -- mark-requires
     (λ c. search rules)  -- same-length
-    (λ c. search rules)  -- returns
+    (λ c. search grammar)  -- returns
     (λ c κs. search rules)  -- next-is-requires-2
     (λ c κs. search rules)  -- mark-requires-2
     (λ c. search rules)  -- same-length-2
-    (λ c. search rules)  -- returns-2
+    (λ c. search grammar)  -- returns-2
     (λ c κs. search rules)  -- mark-requires-3
     (λ c. search rules)  -- same-length-3
-    (λ c. search rules)  -- returns-3
+    (λ c. search grammar)  -- returns-3
     )

@@ -2,7 +2,7 @@
 -- Assumes nothing.
 use Rattle.read_steps.specs.Model.{conditional, optional}
 use borrow.Author.Rules.{rules}
-use Rattle.read_steps.proofs.Rules.{rules}
+use Rattle.read_steps.proofs.Rules.{grammar}
 use Rattle.read_equations.proofs.equations.read_conditional.Statement.{statement}
 use Rattle.read_equations.proofs.equations.read_conditional.Tie as tie
 
@@ -15,6 +15,6 @@ read-conditional-spec =
     (λ c κs. search rules)  -- step-requires
     (λ c κs. search rules)  -- read-conditions-requires
     (λ c. search rules)  -- same-length
-    (λ c. search rules)  -- returns
-    (λ c. search rules)  -- returns-2
+    (λ c. search grammar)  -- returns
+    (λ c. search grammar)  -- returns-2
     )

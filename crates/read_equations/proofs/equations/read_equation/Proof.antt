@@ -2,7 +2,7 @@
 -- Assumes nothing.
 use Rattle.read_steps.specs.Model.{equation}
 use borrow.Author.Rules.{rules}
-use Rattle.read_steps.proofs.Rules.{rules}
+use Rattle.read_steps.proofs.Rules.{grammar}
 use Rattle.read_equations.proofs.Cases.{nodes_quiet}
 use Rattle.read_equations.proofs.equations.read_equation.Statement.{statement}
 use Rattle.read_equations.proofs.equations.read_equation.Tie as tie
@@ -19,5 +19,5 @@ read-equation-spec =
     (λ c κs. search rules)  -- open-sides-requires
     (λ c κs. search rules)  -- equation-after-requires
     (λ c. search rules)  -- same-length
-    (λ c. search (nodes_quiet, rules) depth 8)  -- returns
+    (λ c. search (nodes_quiet, grammar) depth 8)  -- returns
     )

@@ -3,7 +3,7 @@
 use Rattle.read_steps.specs.Model.{variable_group}
 use Rattle.meaning.specs.Numbers.{text_size}
 use borrow.Author.Rules.{rules}
-use Rattle.read_steps.proofs.Rules.{rules}
+use Rattle.read_steps.proofs.Rules.{grammar}
 use Rattle.read_equations.proofs.equations.read_group.Statement.{statement}
 use Rattle.read_equations.proofs.equations.read_group.Tie as tie
 
@@ -17,5 +17,5 @@ read-group-spec =
     (λ c κs. search rules)  -- expect-requires-2
     (λ c κs. search rules)  -- read-name-requires
     (λ c. search rules)  -- same-length
-    (λ c. search rules)  -- returns
+    (λ c. search grammar)  -- returns
     )

@@ -2,7 +2,7 @@
 -- Assumes nothing.
 use Rattle.read_steps.specs.Model.{implied}
 use borrow.Author.Rules.{rules}
-use Rattle.read_steps.proofs.Rules.{rules}
+use Rattle.read_steps.proofs.Rules.{grammar}
 use Rattle.read_equations.proofs.equations.read_implied.Statement.{statement}
 use Rattle.read_equations.proofs.equations.read_implied.Tie as tie
 
@@ -14,5 +14,5 @@ read-implied-spec =
     (λ c κs. search rules)  -- expect-requires
     (λ c κs. search rules)  -- read-sides-requires
     (λ c. search rules)  -- same-length
-    (λ c. search rules)  -- returns
+    (λ c. search grammar)  -- returns
     )

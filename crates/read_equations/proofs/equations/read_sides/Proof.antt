@@ -2,7 +2,7 @@
 -- Assumes nothing.
 use Rattle.read_steps.specs.Model.{sides}
 use borrow.Author.Rules.{rules}
-use Rattle.read_steps.proofs.Rules.{rules}
+use Rattle.read_steps.proofs.Rules.{grammar}
 use Rattle.read_equations.proofs.equations.read_sides.Statement.{statement}
 use Rattle.read_equations.proofs.equations.read_sides.Tie as tie
 
@@ -16,5 +16,5 @@ read-sides-spec =
     (λ c κs. search rules)  -- read-term-requires-2
     (λ c κs. search rules)  -- mark-requires
     (λ c. search rules)  -- same-length
-    (λ c. search rules)  -- returns
+    (λ c. search grammar)  -- returns
     )

@@ -2,7 +2,7 @@
 -- Assumes nothing.
 use Rattle.read_steps.specs.Model.{optional, variables, some_of}
 use borrow.Author.Rules.{rules}
-use Rattle.read_steps.proofs.Rules.{rules}
+use Rattle.read_steps.proofs.Rules.{grammar}
 use Rattle.read_equations.proofs.equations.section_variables.Statement.{statement}
 use Rattle.read_equations.proofs.equations.section_variables.Tie as tie
 
@@ -16,8 +16,8 @@ section-variables-spec =
     (λ c κs. search rules)  -- next-is-requires-2
     (λ c κs. search rules)  -- read-groups-requires
     (λ c. search rules)  -- same-length
-    (λ c. search rules)  -- returns
+    (λ c. search grammar)  -- returns
     (λ c κs. search rules)  -- unexpected-requires
-    (λ c. search rules)  -- returns-2
-    (λ c. search rules)  -- returns-3
+    (λ c. search grammar)  -- returns-2
+    (λ c. search grammar)  -- returns-3
     )

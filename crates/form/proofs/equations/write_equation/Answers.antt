@@ -1,0 +1,7 @@
+-- `form::equations::write_equation` meets its contract.
+-- Assumes nothing.
+use Rattle.form.proofs.Cases.{cases}
+use Rattle.form.proofs.equations.write_equation.Goals as goal
+
+pub returns : goal.returns
+returns c = search cases

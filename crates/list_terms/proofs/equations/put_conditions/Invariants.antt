@@ -1,0 +1,14 @@
+-- `list_terms::equations::put_conditions` meets its contract.
+-- Assumes nothing.
+use borrow.Author.Rules.{rules}
+use Rattle.text_names.specs.Joint.{joint}
+use Rattle.list_terms.specs.Terms.{sides_at}
+use Rattle.list_terms.proofs.TermCases.{Listing, listing_again, terms}
+use Rattle.list_terms.proofs.equations.put_conditions.Given as goal
+
+abbrev pub invariant-loop-more : goal.invariant-loop-more
+invariant-loop-more l =
+    Listing l.limit (sides_at (joint l.library l.text) l.work l.visible l.depth) l.at l.initial.out l.left l.i l.more l.node l.to l.out
+
+abbrev pub decreases-loop-more : goal.decreases-loop-more
+decreases-loop-more l = l.more

@@ -1,0 +1,8 @@
+-- `list_terms::equations::put_rule` meets its contract.
+-- Assumes nothing.
+use Rattle.list_terms.proofs.TermCases.{terms}
+use borrow.Author.Rules.{rules}
+use Rattle.list_terms.proofs.equations.put_rule.Goals as goal
+
+pub returns : goal.returns
+returns c = search terms

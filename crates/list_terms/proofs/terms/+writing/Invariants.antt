@@ -1,0 +1,31 @@
+-- The cycle of calls {put_deep, put_more} meets its contracts. Two for each level that is left, and one more for what follows a first argument.
+-- Assumes nothing.
+use Rattle.text_names.specs.Joint.{joint}
+use Rattle.list_terms.specs.Terms.{term_at, closed}
+use Rattle.list_terms.proofs.PlaceCases.{Leaving, leaving_first, closing_again, closing_end}
+use Rattle.list_terms.proofs.PlaceCases.{Backing, backing_first, backing_some, backing_again, backing_end}
+use Prim.Native.Nat.{ℕ, ◌+◌, ◌*◌, ◌<◌}
+use lib.ListN.{get_or}
+use borrow.Author.Rules.{rules}
+use Rattle.list_terms.proofs.terms.+writing.Given as goal
+
+abbrev pub decreases-put_deep : goal.decreases-put_deep
+decreases-put_deep l = l.depth * 2
+
+abbrev pub decreases-put_more : goal.decreases-put_more
+decreases-put_more l = l.depth * 2 + 1
+
+abbrev pub invariant-put_deep-loop-n : goal.invariant-put_deep-loop-n
+invariant-put_deep-loop-n l =
+    Backing (joint l.library.now l.text.now) l.work.now l.depth l.i l.initial.n l.initial.places l.initial.out l.n l.places l.out
+
+abbrev pub decreases-put_deep-loop-n : goal.decreases-put_deep-loop-n
+decreases-put_deep-loop-n l = l.n
+
+abbrev pub invariant-put_more-loop-more : goal.invariant-put_more-loop-more
+invariant-put_more-loop-more l =
+    let one = term_at (joint l.library.now l.text.now) l.work.now (get_or l.initial.places 3 0) l.depth in
+    Leaving (closed one l.left (get_or l.initial.places 1 0)) l.initial.places l.initial.out (closed one l.more (get_or l.places 1 0)) l.places l.out
+
+abbrev pub decreases-put_more-loop-more : goal.decreases-put_more-loop-more
+decreases-put_more-loop-more l = l.more

@@ -1,0 +1,8 @@
+-- `list_terms::terms::put_opened` meets its contract.
+-- Assumes nothing.
+use Rattle.list_terms.proofs.PlaceCases.{places}
+use borrow.Author.Rules.{rules}
+use Rattle.list_terms.proofs.terms.put_opened.Goals as goal
+
+pub returns : goal.returns
+returns c = search places
