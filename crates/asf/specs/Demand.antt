@@ -13,8 +13,8 @@ use Rattle.meaning.specs.Answer.{answer}
 use Rattle.meaning.specs.Contract.{call}
 use Rattle.promises.specs.VisiblePart.{visible_part}
 use Rattle.promises.specs.Demand.{Acceptance, Comparable, Demand3, InTheCall, ByItself, SameAnswer}
-use Rattle.promises.specs.Proof.{demand_3}
-use Rattle.promises.specs.Alone.{demand_3_alone}
+use Rattle.promises.proofs.Demanded.{demand_3}
+use Rattle.promises.proofs.Alone.{demand_3_alone}
 use Rattle.answer.specs.declared.Answer.{Answer}
 use Rattle.answer.specs.Answers.{held, told, Returned, told_call}
 use Rattle.asf.specs.Promises.{answer_told, number_told, listing_told}

@@ -7,7 +7,8 @@ use Rattle.meaning.specs.Reached.{short_or_blank}
 use Rattle.meaning.specs.Syntax.{Module}
 use Rattle.meaning.specs.Texts.{Texts}
 use Rattle.meaning.specs.Contract.{Call, call}
-use Rattle.promises_import_order.specs.ImportOrder.{Reordered, BothOrNeither, SameCall, import_order_call}
+use Rattle.promises_import_order.specs.ImportOrder.{Reordered, BothOrNeither, SameCall}
+use Rattle.promises_import_order.proofs.ImportOrder.{import_order_call}
 use Rattle.answer.specs.Answers.{held, told, Returned, told_call}
 
 -- whether it is accepted, the count, the module where it is refused, the listing's length, and the lent slices afterwards

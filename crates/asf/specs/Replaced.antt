@@ -11,7 +11,7 @@ use Rattle.meaning.specs.Listing.{lines_text, listing_lines}
 use Rattle.meaning.specs.Answer.{answer}
 use Rattle.meaning.specs.Contract.{call}
 use Rattle.promises_replacing.specs.Replacing.{Replaced, renewed, Accepts}
-use Rattle.promises_replacing.specs.Replaced.{replaced_answer}
+use Rattle.promises_replacing.proofs.Replaced.{replaced_answer}
 use Rattle.answer.specs.declared.Answer.{Answer}
 use Rattle.answer.specs.Answers.{told, Returned, told_call}
 use Rattle.asf.specs.Promises.{answer_told, number_told, listing_told}

@@ -12,14 +12,16 @@ use Rattle.meaning.specs.Listing.{line, lines_text, visible_lines, shown}
 use Rattle.meaning.specs.Answer.{Answer, refusal, of_ended, answer}
 use Rattle.laws.specs.Distinct.{Fresh, read_fresh}
 use Rattle.promises.specs.Lines.{listing_shown}
-use Rattle.promises.specs.Tied.{ended_tied}
+use Rattle.promises.proofs.Tied.{ended_tied}
 use Rattle.promises.specs.Demand.{ReadAs, ShortOfRoom, IsNormalised, InTurn, Counterparts, Agreeing, Enough}
-use Rattle.promises.specs.Proof.{Tied, short_of_room, Short, answer_ended, has_room, NotAt, Passed, both_alike, NotRefusedAt, not_at, close_so, ended_same, agreeing, EndedVisibly, shows, normalise_visibly, as_seen, Reflects, normalise_reflects, Showing, no_refusal}
-use Rattle.promises.specs.Alone.{normalised_shows, not_refused}
+use Rattle.promises.specs.Proof.{Tied, short_of_room, Short, answer_ended, has_room, NotAt, Passed, NotRefusedAt, not_at, close_so, ended_same, agreeing, EndedVisibly, shows, normalise_visibly, as_seen, Reflects, normalise_reflects, Showing, no_refusal}
+use Rattle.promises.proofs.Demanded.{both_alike}
+use Rattle.promises.specs.Alone.{not_refused}
+use Rattle.promises.proofs.Alone.{normalised_shows}
 use Rattle.promises.specs.Stored.{UpToDate}
 use Rattle.promises.specs.Counts.{refused_from_six}
 use Rattle.promises.specs.TwoCalls.{in_turn_so, both_in_turn}
-use Rattle.promises.specs.Reaches.{is_enough}
+use Rattle.promises.proofs.Reaches.{is_enough}
 
 -- the visible lines as bytes
 unfoldable pub shown_text : Name → Visible → List ℕ

@@ -38,7 +38,7 @@ use Rattle.ask_names.specs.Steps.{Spoken}
 use Rattle.diagram_meaning.specs.Diagram.{diagram_limit, diagram, Expression, own_lines, expressions_of, drawn}
 use Rattle.diagram_meaning.specs.Answer.{of_drawing}
 use Rattle.diagram_meaning.specs.Bounded as Bounded
-use Rattle.diagram_meaning.specs.Bounded.{drawn_whole, drawn_over, drawn_absent}
+use Rattle.diagram_meaning.proofs.Bounded.{drawn_whole, drawn_over, drawn_absent}
 use Rattle.diagram_lines.specs.Sheet.{line_limit, Drawing, drawing, one_more, drew_line, drew}
 use Rattle.diagram_lines.specs.Laws.{drew_full}
 use Rattle.diagram_boxes.specs.Boxes.{bindings_from, begin_of, box_lines}

@@ -9,9 +9,11 @@ use Rattle.meaning.specs.Tokens.{token_at}
 use Rattle.meaning.specs.OrderLaws.{Every}
 use Rattle.meaning.specs.Grammar.{State, done, read}
 use Rattle.meaning.specs.Texts.{Texts, all_read, read_texts}
-use Rattle.meaning.specs.TextsLaws.{Parts, read_parts, by_library}
+use Rattle.meaning.specs.TextsLaws.{Parts, by_library}
+use Rattle.meaning.proofs.TextsLaws.{read_parts}
 use Rattle.laws.specs.EveryLaws.{every_so}
-use Rattle.laws.specs.Reading.{Any, Named, ReadSignature, ReadClause, ReadModule, text_read, modules_read, source_equation}
+use Rattle.laws.specs.Reading.{Any, Named, ReadSignature, ReadClause, ReadModule, source_equation}
+use Rattle.laws.proofs.Reading.{text_read, modules_read}
 
 -- ---- the limits
 

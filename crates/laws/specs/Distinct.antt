@@ -12,7 +12,8 @@ use Rattle.meaning.specs.Syntax.{Module}
 use Rattle.meaning.specs.Grammar.{State, Result, done, refused, after, ◌>>=◌, ◌>>◌, return, refuse, unexpected, if_next, too_many, fresh_name, a_module, modules, read}
 use Rattle.meaning.specs.Reached.{module_names}
 use Rattle.meaning.specs.Texts.{Texts, read_texts, all_read}
-use Rattle.meaning.specs.TextsLaws.{Parts, read_parts, by_library}
+use Rattle.meaning.specs.TextsLaws.{Parts, by_library}
+use Rattle.meaning.proofs.TextsLaws.{read_parts}
 
 -- no module is called like one before it, or like one of the names taken
 abbrev pub Fresh : List Name → List Module → Type 0

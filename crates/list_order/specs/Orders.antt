@@ -5,7 +5,8 @@ use Rattle.meaning.specs.Names.{bytes_not_after, not_after, by_two}
 use Rattle.meaning.specs.Origins.{Item}
 use Rattle.meaning.specs.Written.{origin_text, shape_text, shape_rank, visible_order, hidden_order}
 use Rattle.meaning.specs.OrderLaws.{IsOrder, order_of, bytes_ordered}
-use Rattle.meaning.specs.ListingOrder.{visible_ordered, hidden_ordered, Place, place_order, place_ordered}
+use Rattle.meaning.specs.ListingOrder.{hidden_ordered, Place, place_order, place_ordered}
+use Rattle.meaning.proofs.ListingOrder.{visible_ordered}
 use Rattle.form_sections.specs.declared.Section.{Section}
 use Rattle.form_sections.specs.declared.Section.TheVariants as section
 use Rattle.form_rows.specs.Rows.{row_size}

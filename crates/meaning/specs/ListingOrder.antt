@@ -1,33 +1,17 @@
--- The orders of a listing are orders: of visible items, of hidden ones, and of equations by module, position and written line.
-use Rattle.std.specs.Prelude.{ℕ, Bool, List, [], eqb, leb}
+-- The orders of a listing are orders: of hidden items, and of equations by module, position and written line.
+use Rattle.std.specs.Prelude.{ℕ, Bool, List, eqb, leb}
 use Rattle.meaning.specs.Lists.{pick}
-use Rattle.meaning.specs.Names.{same, bytes_not_after, not_after, by_two}
+use Rattle.meaning.specs.Names.{bytes_not_after, by_two}
 use Rattle.meaning.specs.Origins.{Item}
-use Rattle.meaning.specs.Written.{origin_text, shape_text, shape_rank, standing_text, visible_order, hidden_order}
-use Rattle.meaning.specs.OrderLaws.{IsOrder, Levelled, order_of, levelled_of, then_total, then_transitive, numbers_levelled, bytes_levelled, bytes_ordered, names_levelled, by_two_ordered}
+use Rattle.meaning.specs.Written.{origin_text, shape_text, shape_rank, hidden_order}
+use Rattle.meaning.specs.OrderLaws.{IsOrder, Levelled, order_of, levelled_of, then_total, then_transitive, numbers_levelled, bytes_levelled, bytes_ordered, by_two_ordered}
 
 -- ---- items
-
-pub by_standing :
-    Levelled (λ (a b : Item). same (standing_text a.standing) (standing_text b.standing))
-    (λ (a b : Item). not_after (standing_text a.standing) (standing_text b.standing))
-by_standing = levelled_of names_levelled (λ (i : Item). standing_text i.standing)
 
 pub by_rank :
     Levelled (λ (a b : Item). eqb (shape_rank a.shape) (shape_rank b.shape))
     (λ (a b : Item). leb (shape_rank a.shape) (shape_rank b.shape))
 by_rank = levelled_of numbers_levelled (λ (i : Item). shape_rank i.shape)
-
-by_name_and_type : IsOrder (by_two not_after (λ (i : Item). i.name) (λ (i : Item). shape_text [] i.shape))
-by_name_and_type = by_two_ordered not_after names_levelled (λ (i : Item). i.name) (λ (i : Item). shape_text [] i.shape)
-
-pub visible_ordered : IsOrder visible_order
-unfolding visible_order
-visible_ordered = record {
-  total = λ a b e. then_total by_standing a b _ _ (λ f. then_total by_rank a b _ _ (by_name_and_type.total a b) f) e;
-  transitive = λ a b c e f.
-      then_transitive by_standing a b c _ _ _ (λ g h. then_transitive by_rank a b c _ _ _ (by_name_and_type.transitive a b c) g h) e f;
-}
 
 pub hidden_ordered : (sorts : List Item) → IsOrder (hidden_order sorts)
 unfolding hidden_order

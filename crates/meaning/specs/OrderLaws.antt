@@ -1,5 +1,5 @@
--- Laws of order: `same` decides equality, the orders of bytes, of names and of pairs of texts are total and transitive, names are level only when
--- their bytes are the same, and sorting gives the one ordered list of the same items.
+-- Laws of order: `same` decides equality, the orders of bytes, of names and of pairs of texts are total and transitive, and sorting gives the one
+-- ordered list of the same items.
 use Rattle.std.proofs.Math.Path.{◌≡◌, refl, ap}
 use Rattle.std.proofs.Common.{sym, ap₂, subst, ◌∙◌, ⊎_elim, arith, true≢false, leb-true, leb-false, eqb-true, le-leb, eq-eqb, ne_eqb}
 use Rattle.std.specs.Prelude.{ℕ, suc, Bool, ◌&&◌, eqb, leb, length}
@@ -11,7 +11,6 @@ use mathlib.Core.List.Permᴰ
 use mathlib.Core.List.{List, [], ◌∷◌, ◌++◌, map, Memᴰ, Permᴰ}
 use Rattle.meaning.specs.Lists.{pick, any, place_in, sorted_onto, sorted}
 use Rattle.meaning.specs.Names.{Name, same, bytes_not_after, elements, weights, not_after, by_name, by_two}
-use Rattle.meaning.specs.ElementLaws.{weights_told, name_told}
 use Rattle.meaning.specs.Checks.{at_odds, least_at_odds}
 
 -- ---- orders
@@ -170,18 +169,13 @@ pub names_ordered : IsOrder not_after
 unfolding not_after
 names_ordered = order_of bytes_ordered (λ (w : Name). weights (elements w))
 
--- names are level only when their bytes are the same
-pub not_after_antisymmetric : (v w : Name) → not_after v w ≡ true → not_after w v ≡ true → v ≡ w
-unfolding not_after
-not_after_antisymmetric v w e f = name_told v w (weights_told _ _ (bytes_antisymmetric (weights (elements v)) (weights (elements w)) e f))
-
 pub not_after_self : (w : Name) → not_after w w ≡ true
 not_after_self w = order_reflexive names_ordered w
 
 -- ---- texts that are level have the same bytes, in both orders
 
 module _ (le : List ℕ → List ℕ → Bool) (order : IsOrder le) (told : (v w : List ℕ) → le v w ≡ true → le w v ≡ true → v ≡ w) where
-  level_texts : Levelled same le
+  pub level_texts : Levelled same le
   level_texts = record { order = order; both_ways = λ v w. go v w (same v w) refl }
     where
       both : (v w : List ℕ) → v ≡ w → (le v w && le w v) ≡ true
@@ -198,9 +192,6 @@ module _ (le : List ℕ → List ℕ → Bool) (order : IsOrder le) (told : (v w
 
 pub bytes_levelled : Levelled same bytes_not_after
 bytes_levelled = level_texts bytes_not_after bytes_ordered bytes_antisymmetric
-
-pub names_levelled : Levelled same not_after
-names_levelled = level_texts not_after names_ordered not_after_antisymmetric
 
 -- ---- by the first text, then by the bytes of the second
 

@@ -12,14 +12,13 @@ use Rattle.meaning.specs.Checks.{◌>>=◌, ◌>>◌, Outcome, Check, fine, Culp
 use Rattle.meaning.specs.Evaluate.{clause_names, import_names, named_by, missing, too_late, names_right}
 use Rattle.meaning.specs.OutcomeLaws.{then_fine}
 use Rattle.meaning.specs.VisiblyLaws.{clause_visibly, clauses_visibly, expressions_visibly, imported_visibly, joined_visibly, evaluate_visibly}
-use Rattle.meaning.specs.Reached.{wanted, Placed, reached_among, reached, Ended, module_names, normalise, normalised, refused_at}
+use Rattle.meaning.specs.Reached.{wanted, Placed, reached_among, reached, module_names}
 use Rattle.meaning.specs.Laws.{by_cases}
-use Rattle.laws.specs.Distinct.{Fresh, read_fresh}
-use Rattle.meaning.specs.OrderLaws.{Every, same_equal}
+use Rattle.laws.specs.Distinct.{Fresh}
+use Rattle.meaning.specs.OrderLaws.{same_equal}
 use Rattle.promises.specs.Members.{clear, member_here, member_right, member_left, no_name, member_either, Inside, inside_more, inside_later, refuted, wanted_here, wanted_asked, ReachedIn, wanted_within, Closed, closed_more, closed_skip}
 use Rattle.promises.specs.TwoCalls.{went_on, both_cases}
-use Rattle.promises.specs.Demand.{RefusedAtMost, InTheCall, IsNormalised, ByItself, Comparable, Demand3}
-use Rattle.promises.specs.Proof.{eighteen_told, answer_ended, demand_3, EndedVisibly, shows, refuses, end_visibly, seen_as, in_turn_visibly, normalise_visibly, Eighteen, as_seen, Reflects, normalise_reflects, Showing, stands_visibly, no_refusal}
+use Rattle.promises.specs.Proof.{EndedVisibly, shows, refuses, end_visibly, seen_as, in_turn_visibly, normalise_visibly, Showing, stands_visibly, no_refusal}
 use Rattle.meaning.specs.OutcomeLaws.{never, fine_same}
 use Rattle.meaning.specs.VisiblyLaws.{Seen, visible_of}
 
@@ -114,7 +113,7 @@ refused_next c u more (fine v) n c' y w h = inr (v, refl, h)
 refused_next c u more (stop k x) n c' y w h = inl (cc, cc)
 
 -- a module at which the call is refused is reached
-refused_reached : (d : List Name) (asked : Name) (ms : List Module) (k : ℕ) (e : List Name) (env : List Seen) (last : Visible) (n c : ℕ)
+pub refused_reached : (d : List Name) (asked : Name) (ms : List Module) (k : ℕ) (e : List Name) (env : List Seen) (last : Visible) (n c : ℕ)
     (y : Name) (w : Culprit) → in_turn_visibly d env last (reached_among asked k e ms) ≡ refuses n c y w → ReachedIn y asked ms
 unfolding in_turn_visibly reached_among
 refused_reached d asked [] k e env last n c y w = no_refusal _ n c _ y w
@@ -182,62 +181,3 @@ unfolding reached member
 not_refused asked y ms fresh stands v h n c w q =
     both_calls (module_names ms) asked y n c w ms 0 [] [] [] nothing_visible nothing_visible fresh
     (λ u z. refl) (λ u z. z) (λ u z g. g) (in_its_turn y ms v h) (sym (stands_visibly asked ms stands) ∙ q)
-
--- ---- accepted when asked by itself
-
-pub normalised_shows : (asked : Name) (ms : List Module) → IsNormalised (normalise asked ms) → (v : Visible) × Showing asked ms v
-unfolding as_seen
-normalised_shows asked ms h = go (normalise asked ms) h (normalise_reflects asked ms)
-  where
-    go : (e : Ended) → IsNormalised e → Reflects e (normalise_visibly asked ms) → (v : Visible) × Showing asked ms v
-    go (normalised c n) h (inl r) = absurd r
-    go (normalised c n) h (inr r) = (n.visible, (c, r))
-    go (refused_at k c m w) h r = absurd h
-
--- what holds of each reached module holds of the one that is called so
-of_reached : (P : Placed → Type 0) (asked y : Name) (ms : List Module) (k : ℕ) (e : List Name) → ReachedIn y asked ms
-    → Every P (reached_among asked k e ms) → (x : Placed) × (x.self.name ≡ y) × P x
-unfolding reached_among
-of_reached P asked y [] k e h = absurd h
-of_reached P asked y (m ∷ ms) k e (inl h) =
-    by_cases (λ (xs : List Placed). Every P xs → (x : Placed) × (x.self.name ≡ y) × P x) (member m.name (wanted asked ms)) _ _
-    (λ b f. (record { self = m; number = k; earlier = e }, h.1, f.0)) (λ b f. clear (sym h.0 ∙ b))
-of_reached P asked y (m ∷ ms) k e (inr h) =
-    let later = of_reached P asked y ms (k + 1) (m.name ∷ e) h in
-    by_cases (λ (xs : List Placed). Every P xs → (x : Placed) × (x.self.name ≡ y) × P x) (member m.name (wanted asked ms)) _ _
-    (λ b f. later f.1) (λ b f. later f)
-
-pub alone_accepted : (asked : Name) (ms : List Module) → Fresh [] ms → member asked (module_names ms) ≡ true → ByItself asked ms
-    → Eighteen (normalise asked ms) ⊎ InTheCall asked ms
-unfolding reached as_seen
-alone_accepted asked ms fresh stands alone = go (normalise asked ms) (normalise_reflects asked ms)
-  where
-    go : (e : Ended) → Reflects e (normalise_visibly asked ms) → Eighteen e ⊎ RefusedAtMost asked e
-    go (normalised c n) r = inr tt
-    go (refused_at n c y w) (inl r) = inl r
-    go (refused_at n c y w) (inr r) =
-        let x = of_reached (λ x. (x.self.name ≡ asked) ⊎ IsNormalised (normalise x.self.name ms)) asked y ms 0 []
-        (refused_reached (module_names ms) asked ms 0 [] [] nothing_visible n c y w (sym (stands_visibly asked ms stands) ∙ r)) alone in
-        ⊎_elim (λ p. inr (sym x.1 ∙ p)) (λ k. let s = normalised_shows y ms (subst (λ (v : Name). IsNormalised (normalise v ms)) x.1 k) in
-        absurd (not_refused asked y ms fresh stands s.0 s.1 n c w r)) x.2
-
--- ---- the demand
-
-pub demand_3_alone : Demand3 ByItself
-demand_3_alone asked texts texts' ms ms' c memory memory' output output' =
-    ⊎_elim (λ z. inl (eighteen_told asked _ _ z (answer_ended memory output asked texts ms c.read_as))) (λ a. ⊎_elim
-    (λ z. inr (inl (eighteen_told asked _ _ z (answer_ended memory' output' asked texts' ms' c.read_as'))))
-    (λ a'. demand_3 asked texts texts' ms ms' (in_the_call a a') memory memory' output output')
-    (alone_accepted asked ms' (read_fresh texts' ms' c.read_as'.reads) c.stands' c.accepted'))
-    (alone_accepted asked ms (read_fresh texts ms c.read_as.reads) c.stands c.accepted)
-  where
-    in_the_call : InTheCall asked ms → InTheCall asked ms' → Comparable InTheCall asked texts texts' ms ms'
-    in_the_call a a' = record {
-      read_as = c.read_as;
-      read_as' = c.read_as';
-      stands = c.stands;
-      stands' = c.stands';
-      same_order = c.same_order;
-      accepted = a;
-      accepted' = a';
-    }

@@ -4,7 +4,6 @@ pub mod Demand
 -- names among names
 pub mod Members
 -- a listing's bytes and its lines: no name has an LF
-pub mod Tie
 pub mod Spelling
 pub mod Tied
 -- two calls side by side
@@ -17,7 +16,6 @@ pub mod Proof
 -- the other reading of "accepted"
 pub mod Alone
 -- from less, and for the desk
-pub mod Reaches
 pub mod Stored
 -- one listing for each accepted normal form
 pub mod ListingLaws

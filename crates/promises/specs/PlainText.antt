@@ -6,7 +6,8 @@ use Rattle.meaning.specs.Normal.{Normal}
 use Rattle.meaning.specs.OrderLaws.{Every}
 use Rattle.meaning.specs.Texts.{Texts, all_read, read_texts}
 use Rattle.meaning.specs.Reached.{normalised, normalise}
-use Rattle.laws.specs.Reading.{Named, modules_read}
+use Rattle.laws.specs.Reading.{Named}
+use Rattle.laws.proofs.Reading.{modules_read}
 use Rattle.promises.specs.ListingLaws.{Plain}
 use Rattle.promises.specs.Spelling.{token_named, prefix_plain, infix_plain}
 use Rattle.promises.specs.SoundEvaluation.{AcceptedCall, PlainModule, call_accepted}

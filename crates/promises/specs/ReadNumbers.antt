@@ -5,7 +5,8 @@ use Rattle.meaning.specs.Laws.{by_cases}
 use Rattle.meaning.specs.Syntax.{Module}
 use Rattle.meaning.specs.Texts.{Texts, Reading, all_read, refused_in, behind, read_behind, library_first, read_texts}
 use Rattle.meaning.specs.Grammar.{Result, done, refused}
-use Rattle.laws.specs.Reading.{UpToFive, text_refused}
+use Rattle.laws.specs.Reading.{UpToFive}
+use Rattle.laws.proofs.Reading.{text_refused}
 
 abbrev LowReading : Reading → Type 0
 LowReading (all_read ms) = Unit {0}

@@ -13,8 +13,10 @@ use Rattle.meaning.specs.Normal.{Slot, Visible, Normal, sorts_among}
 use Rattle.meaning.specs.Written.{origin_text, shape_text, equation_text, equation_order, shape_rank, standing_text, visible_order, visible_in_order, hidden_order, hidden_in_order, in_order}
 use Rattle.meaning.specs.Listing.{line, lines_text, equation_line, hidden_lines, listing_lines}
 use Rattle.meaning.specs.Grammar.{is}
-use Rattle.meaning.specs.OrderLaws.{Rearranged, NoTie, order_of, then_both, bytes_ordered, bytes_antisymmetric, bytes_levelled, names_ordered, names_levelled, same_equal, not_after_antisymmetric, by_two_both, sorted_map, sorted_one, sorted_rearranged}
-use Rattle.meaning.specs.ListingOrder.{by_standing, by_rank, visible_ordered, hidden_ordered, Place, place_order, by_position, place_ordered, by_module}
+use Rattle.meaning.specs.OrderLaws.{Rearranged, NoTie, order_of, then_both, bytes_ordered, bytes_antisymmetric, bytes_levelled, names_ordered, same_equal, by_two_both, sorted_map, sorted_one, sorted_rearranged}
+use Rattle.meaning.proofs.OrderLaws.{names_levelled, not_after_antisymmetric}
+use Rattle.meaning.specs.ListingOrder.{by_rank, hidden_ordered, Place, place_order, by_position, place_ordered, by_module}
+use Rattle.meaning.proofs.ListingOrder.{by_standing, visible_ordered}
 use Rattle.laws.specs.EveryLaws.{kept_member}
 
 -- ---- the same items and equations, in whatever order

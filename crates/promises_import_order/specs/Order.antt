@@ -1,11 +1,11 @@
 -- Modules whose import expressions stand in another order, or some of them more than once. One evaluates alike, over modules evaluated before that
--- are the same in both calls (`evaluate_anyhow`); and two specifications of such modules are accepted alike, with one normal form, or refused after
--- as many modules, at the same one (`normalise_anyhow`). Names change as in `promises_replacing`, by the change that changes none.
+-- are the same in both calls (`evaluate_anyhow`); and proofs/Order.antt has it of the
+-- specifications of such modules. Names change as in `promises_replacing`, by the change that changes none.
 use Rattle.std.specs.Prelude.{◌≡◌, ℕ, false}
 use Rattle.std.proofs.Math.Path.{refl, sym, ap, ap₂, subst}
-use Rattle.std.proofs.Common.{◌∙◌, inl, inr}
+use Rattle.std.proofs.Common.{◌∙◌}
 use mathlib.Core.List.{List, [], ◌∷◌, map, Memᴰ}
-use Rattle.meaning.specs.Names.{Name, same, member}
+use Rattle.meaning.specs.Names.{Name, same}
 use Rattle.meaning.specs.Syntax.{Function, Signature, Pair, Clause, renamed_by, bound_by, Import, Term, node, Terms, no_terms, ◌then◌, Sides, Equation, Module, variables_of}
 use Rattle.meaning.specs.Origins.{Declared, declared_sort, declared_function, declared_variable, Origin, Sort, visible_sort, hidden_sort, FunctionType, Head, visible_head, hidden_head, ResolvedTerm, var, app, ResolvedTerms, none_left, ◌and_then◌, ResolvedSides, ResolvedEquation, Shape, sort_shape, function_shape, variable_shape, Item}
 use Rattle.meaning.specs.Normal.{Normal, empty}
@@ -13,19 +13,19 @@ use Rattle.meaning.specs.Clauses.{may_name}
 use Rattle.meaning.specs.OrderLaws.{Rearranged, Every}
 use Rattle.meaning.specs.Checks.{Outcome, fine, stop, ◌>>=◌, Size}
 use Rattle.meaning.specs.Evaluate.{Evaluated, named_by, evaluate, import_names, missing, too_late, names_right, declared_once, normal_of, clauses, expressions, united, imported, seen_sorts, joined_visible, own_checks, own_equations, joined_hidden, joined_own}
-use Rattle.meaning.specs.Reached.{Placed, reached, Ended, normalised, refused_at, total_of, module_names, normalise}
+use Rattle.meaning.specs.Reached.{Placed, Ended, normalised, refused_at, total_of}
 use Rattle.meaning.specs.Lists.{pick}
 use Rattle.meaning.specs.Own.{resolved, function_type, own_sort, own_function, own_section, own_slot, own_visible, own_variable, own_hidden_items, available_sorts}
 use Rattle.promises.specs.SameListing.{SameNormal}
 use Rattle.promises.specs.Demand.{InTurn}
-use Rattle.promises.specs.TwoCalls.{in_turn_each, every_first, equals_same, PlacedAlike, reached_alike, module_names_alike, evaluated, Beside, Goes, Ends, normalise_two, went_on, by_turns}
-use Rattle.promises.specs.SoundEvaluation.{whole_keeps, PlainModule, imports_plain, reached_plain, PlainClause, Whole, WholeEnv, Accepted, expressions_whole, evaluated_accepted}
+use Rattle.promises.specs.TwoCalls.{every_first, equals_same, PlacedAlike, evaluated, Beside, Goes, went_on, by_turns}
+use Rattle.promises.specs.SoundEvaluation.{PlainModule, imports_plain, PlainClause, Whole, WholeEnv, Accepted, expressions_whole, evaluated_accepted}
 use Rattle.promises.specs.AcceptedForms.{accepted_one_order, same_itself}
 use Rattle.promises_replacing.specs.Changing.{re_function, re_signature, re_parameter, re_pair, re_clause, re_import, re_group, re_raw, re_raws, re_raw_sides, re_raw_equation, re_module, re_declared, re_origin, re_sort, re_type, re_shape, re_item, re_head, re_term, re_terms, re_sides, re_equation}
 use Rattle.promises_replacing.specs.VisibleAlike.{Like, member_map_from}
 use Rattle.promises_replacing.specs.Alike.{Alike, Both}
-use Rattle.promises_replacing.specs.ModulesAlike.{EasyClause, EasyImport, HasTags, empty_both, GoodPlaced, EnvAlike, expressions_alike, imported_alike, joined_own_alike, evaluates_so, tags_of, good_placed}
-use Rattle.promises_import_order.specs.Sets.{member_same, Among, SameSet, set_turned, set_each, every_among}
+use Rattle.promises_replacing.specs.ModulesAlike.{EasyClause, EasyImport, HasTags, GoodPlaced, EnvAlike, expressions_alike, imported_alike, joined_own_alike, evaluates_so}
+use Rattle.promises_import_order.specs.Sets.{Among, SameSet, set_turned, set_each, every_among}
 use Rattle.promises_import_order.specs.AnyOrder.{united_anyhow, Good}
 use Rattle.meaning.specs.OutcomeLaws.{then_fine, bind_fine, fine_same, never}
 use Rattle.laws.specs.EveryLaws.{every_so, member_map_to, every_of}
@@ -380,17 +380,10 @@ EndsAlike (refused_at k c m w) (refused_at k' c' m' w') = (c ≡ c') × (m ≡ m
 
 module _ (tags : ℕ → ℕ → Name) where
   -- one normal form, which is kept
-  abbrev One : Normal → Normal → Type 0
+  abbrev pub One : Normal → Normal → Type 0
   One n n' = (n ≡ n') × Kept tags n
 
-  ends_alike : (e e' : Ended) → Ends One ⊥ e e' → EndsAlike e e'
-  ends_alike (normalised c n) (normalised c' n') h = (h.0, h.1.0)
-  ends_alike (normalised c n) (refused_at k c' m w) h = h
-  ends_alike (refused_at k c m w) (normalised c' n) h = h
-  ends_alike (refused_at k c m w) (refused_at k' c' m' w') (inl h) = absurd h
-  ends_alike (refused_at k c m w) (refused_at k' c' m' w') (inr h) = h
-
-  abbrev SamePlaced : Placed → Placed → Type 0
+  abbrev pub SamePlaced : Placed → Placed → Type 0
   SamePlaced x x' = PlacedAlike OtherOrder x x' × (GoodPlaced as_it_is kept tags x × PlainModule x'.self)
 
   -- a module that stands at the same place, over the same modules evaluated before
@@ -401,7 +394,7 @@ module _ (tags : ℕ → ℕ → Name) where
       let r = evaluate_anyhow tags env h declared x.earlier x.number (total_of env) x.self x'.self plain plain' p.self t n e in
       (subst (λ (o : Outcome Normal). o ≡ fine n) (λ i. evaluate declared (p.earlier i) (p.number i) (total_of env) env x'.self) r.0, r.1)
 
-  evaluated_anyhow : (declared : List Name) (env env' : List Evaluated) → InTurn (Beside One) env env' → (x x' : Placed) → SamePlaced x x'
+  pub evaluated_anyhow : (declared : List Name) (env env' : List Evaluated) → InTurn (Beside One) env env' → (x x' : Placed) → SamePlaced x x'
       → Goes One ⊥ (evaluated declared env x) (evaluated declared env' x')
   evaluated_anyhow declared env env' h x x' p =
       subst (λ (es : List Evaluated). Goes One ⊥ (evaluated declared env x) (evaluated declared es x'))
@@ -430,22 +423,3 @@ module _ (tags : ℕ → ℕ → Name) where
       go (fine n) o' f b = subst (Goes One ⊥ (fine n)) (sym (f n refl).0) (refl, (f n refl).1)
       go (stop j w) (fine n) f b = never j w n (b n refl)
       go (stop j w) (stop j' w') f b = tt
-
-called : (m m' : Module) → OtherOrder m m' → m.name ≡ m'.name
-called m m' o = o.name
-
-naming : (m m' : Module) → OtherOrder m m' → (w : Name) → member w (named_by m) ≡ member w (named_by m')
-naming m m' o w = member_same (named_anyhow m m' o) w
-
-pub normalise_anyhow : (asked : Name) (ms ms' : List Module) → Every PlainModule ms → Every PlainModule ms' → InTurn OtherOrder ms ms'
-    → EndsAlike (normalise asked ms) (normalise asked ms')
-unfolding reached
-normalise_anyhow asked ms ms' plain plain' a =
-    let tags = tags_of ms in
-    let easy = every_of _ ms (λ m l. every_of _ m.imports (λ i k. import_easy tags i)) in
-    ends_alike tags (normalise asked ms) (normalise asked ms')
-    (normalise_two (One tags) ⊥ (SamePlaced tags) (λ x x' p. p.0.self.name) (module_names ms) (evaluated_anyhow tags (module_names ms)) asked ms ms'
-    refl (sym (module_names_alike OtherOrder called naming ms ms' a))
-    (in_turn_each (PlacedAlike OtherOrder) (GoodPlaced as_it_is kept tags) (λ x. PlainModule x.self) (reached asked ms) (reached asked ms')
-    (reached_alike OtherOrder called naming asked ms ms' a) (good_placed as_it_is kept asked ms plain easy) (reached_plain asked 0 [] ms' plain'))
-    (refl, record { whole = whole_keeps.nothing; itself = empty_both as_it_is kept tags }))

@@ -11,8 +11,10 @@ use Rattle.meaning.specs.Answer.{Answer, listing, answer}
 use Rattle.meaning.specs.Opened.{all_opened}
 use Rattle.promises.specs.VisiblePart.{visible_part, visible_part_opened}
 use Rattle.promises.specs.Demand.{ReadAs, Counterparts, InTurn, InTheCall, ByItself, Comparable, SameAnswer, ShortOfRoom, placed_among, all_placed, Enough}
-use Rattle.promises.specs.Proof.{demand_3, if_accepted}
-use Rattle.promises.specs.Stored.{UpToDate, may_be_kept_alone}
+use Rattle.promises.specs.Proof.{if_accepted}
+use Rattle.promises.proofs.Demanded.{demand_3}
+use Rattle.promises.specs.Stored.{UpToDate}
+use Rattle.promises.proofs.Stored.{may_be_kept_alone}
 
 -- what was read
 unfoldable pub modules_in : Reading → List Module

@@ -13,7 +13,8 @@ use Rattle.laws.specs.EveryLaws.{every_member}
 use Rattle.promises_instances.specs.Instance.{modules_in}
 use Rattle.promises_import_order.specs.Sets.{SameSet, set_itself}
 use Rattle.promises_import_order.specs.Order.{OtherOrder, with_imports}
-use Rattle.promises_import_order.specs.ImportOrder.{Reordered, SameOutcome, import_order}
+use Rattle.promises_import_order.specs.ImportOrder.{Reordered, SameOutcome}
+use Rattle.promises_import_order.proofs.ImportOrder.{import_order}
 
 -- ---- two pairs of texts. The parameter of the library's A arrives at M on every way
 

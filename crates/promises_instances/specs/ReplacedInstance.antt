@@ -11,7 +11,7 @@ use Rattle.meaning.specs.Opened.{all_opened}
 use Rattle.promises_instances.specs.Instance.{modules_in}
 use Rattle.promises_replacing.specs.Changing.{changing_opened}
 use Rattle.promises_replacing.specs.Replacing.{replace, Replaced, SameApart}
-use Rattle.promises_replacing.specs.Replaced.{replaced_answer}
+use Rattle.promises_replacing.proofs.Replaced.{replaced_answer}
 
 -- ---- two pairs of texts. The library's X exports the operator; S has it in a parameter, which M binds to X; H hides one of that name
 

@@ -1,39 +1,29 @@
 -- The proof: two names that change places, of which the second is used nowhere, and so takes the first one's place in the modules and in what they
 -- evaluate to; then the answer of a call.
-use Rattle.std.specs.Prelude.{◌≡◌, ℕ, ◌≤◌, Bool, ◌⊎◌, leb, length}
+use Rattle.std.specs.Prelude.{◌≡◌, ℕ, Bool}
 use Rattle.std.proofs.Math.Path.{refl, sym, ap, ap₂}
-use Rattle.std.proofs.Common.{◌∙◌, subst, true≢false, inl, inr, arith, leb-false, le-ltb}
+use Rattle.std.proofs.Common.{◌∙◌, true≢false}
 use Rattle.std.proofs.Math.Bool.{false, true}
 use mathlib.Core.List.{List, [], ◌∷◌, ◌++◌, map}
-use Rattle.meaning.specs.Laws.{by_cases}
 use Rattle.meaning.specs.Lists.{pick, each}
 use Rattle.meaning.specs.Names.{Name, same, member, is_operator}
 use Rattle.meaning.specs.Syntax.{Function, Signature, Pair, Clause, renamed_by, bound_by, Import, Term, node, Terms, no_terms, ◌then◌, Sides, Equation, Module}
 use Rattle.meaning.specs.Origins.{Declared, declared_sort, declared_function, declared_variable, Origin, Sort, visible_sort, hidden_sort, FunctionType, Head, visible_head, hidden_head, ResolvedTerm, var, app, ResolvedTerms, none_left, ◌and_then◌, ResolvedSides, ResolvedEquation, Shape, sort_shape, function_shape, variable_shape, Item}
 use Rattle.meaning.specs.Normal.{Normal}
-use Rattle.meaning.specs.Reached.{normalised, normalise, Ended, refused_at}
+use Rattle.meaning.specs.Reached.{normalised, normalise}
 use Rattle.meaning.specs.OrderLaws.{Every, same_equal, same_self}
-use Rattle.meaning.specs.Numbers.{memory_size, accepted}
-use Rattle.meaning.specs.Written.{in_order}
 use Rattle.meaning.specs.Clauses.{arguments_fit, may_name}
-use Rattle.meaning.specs.Texts.{Texts}
-use Rattle.meaning.specs.Listing.{lines_text, listing_lines}
-use Rattle.meaning.specs.Answer.{Answer, refusal, of_ended, of_read, within, answer}
 use Rattle.laws.specs.EveryLaws.{every_so, every_split as split, split_each}
 use Rattle.laws.specs.Walk.{ClauseNames}
 use Rattle.promises.specs.Members.{each_way, refuted, found_first, found_later}
 use Rattle.promises.specs.Public.{map_agree}
-use Rattle.promises.specs.Demand.{ReadAs}
-use Rattle.promises.specs.Proof.{Short, answer_ended}
 use Rattle.promises.specs.SoundEvaluation.{PlainModule}
-use Rattle.promises.specs.PlainText.{read_plain}
-use Rattle.promises.specs.Counts.{refused_from_six}
 use Rattle.promises_replacing.specs.NamesFrom.{DeclaredOf, SortOf, TypeOf, ShapeOf, ItemOf, HeadOf, TermOf, TermsOf, SidesOf, EquationOf, NormalOf, module_of, imports_of, names_from}
 use Rattle.promises_replacing.specs.Reordering.{names_symmetric}
 use Rattle.promises_replacing.specs.Changing.{re_function, re_signature, re_parameter, re_pair, re_clause, re_import, re_group, re_raw, re_raws, re_raw_sides, re_raw_equation, re_module, function_names, signature_names, pair_names, clause_pairs, import_pairs, term_names, terms_names, sides_names, equation_names, names_used, re_declared, re_origin, re_sort, re_type, re_shape, re_item, re_head, re_term, re_terms, re_sides, re_equation, re_visible, re_hidden, re_normal}
-use Rattle.promises_replacing.specs.Replacing.{replace, Replacement, renewed, Accepts, TooShort, SameApart, ReplacedAnswer}
+use Rattle.promises_replacing.specs.Replacing.{replace}
 use Rattle.promises_replacing.specs.Exchanging.{map_length}
-use Rattle.promises_replacing.specs.ModulesAlike.{EasyClause, EasyModule, tags_of, changed}
+use Rattle.promises_replacing.specs.ModulesAlike.{EasyClause, EasyModule}
 
 unfoldable pub exchange : Name → Name → Name → Name
 exchange o f w = pick (same w o) f (pick (same w f) o w)
@@ -201,10 +191,10 @@ module _ (τ τ' : Name → Name) where
 
 -- ---- a fresh name
 
-abbrev Other : Name → Name → Type 0
+abbrev pub Other : Name → Name → Type 0
 Other f w = same f w ≡ false
 
-all_other : (f : Name) (ws : List Name) → member f ws ≡ false → Every (Other f) ws
+pub all_other : (f : Name) (ws : List Name) → member f ws ≡ false → Every (Other f) ws
 unfolding member
 all_other f [] e = tt
 all_other f (w ∷ ws) e = (refuted _ (λ q. sym (found_first (same f w) _ q) ∙ e), all_other f ws (refuted _ (λ q. sym (found_later (same f w) _ q) ∙ e)))
@@ -242,7 +232,7 @@ module _ (o f : Name) where
       go false p true q = rw (same_self o) (sym (same_equal w f q))
       go false p false q = rw (p, q)
 
-  exchange_keeps : (v w : Name) → same (exchange o f v) (exchange o f w) ≡ same v w
+  pub exchange_keeps : (v w : Name) → same (exchange o f v) (exchange o f w) ≡ same v w
   exchange_keeps v w =
       each_way _ _
       (λ q. let e : v ≡ w = sym (twice v) ∙ ap (exchange o f) (same_equal (exchange o f v) (exchange o f w) q) ∙ twice w in
@@ -279,65 +269,5 @@ module _ (o f : Name) (tags : ℕ → ℕ → Name) (plain : is_operator f ≡ f
   clause_easy (renamed_by rs) h = every_so _ _ rs (λ r q s. easier o f plain r.new q s) h
   clause_easy (bound_by p rs m) h = tt
 
-  module_easy : (m : Module) → Every (Other f) (names_used m) → EasyModule (exchange o f) (exchange_keeps o f) tags m
+  pub module_easy : (m : Module) → Every (Other f) (names_used m) → EasyModule (exchange o f) (exchange_keeps o f) tags m
   module_easy m h = every_so _ _ m.imports (λ i k. every_so _ _ i.clauses clause_easy k) (imports_of (Other f) m (module_of (Other f) m h))
-
--- ---- the theorem
-
--- in an accepted specification, its sizes kept, an operator may be replaced by a fresh plain function throughout
-pub replacement : Replacement
-replacement operator plain texts texts' ms r asked count n e =
-    let τ = exchange operator plain in
-    let keeps = exchange_keeps operator plain in
-    let exchanged = exchange_replaces operator plain ms r.fresh in
-    let easy =
-    every_so _ _ ms (module_easy operator plain (tags_of ms) r.is_none)
-    (split_each (Other plain) names_used ms (all_other plain (each names_used ms) r.fresh)) in
-    let plain_before = read_plain texts ms r.read_as.reads in
-    let plain_after = subst (Every PlainModule) (sym exchanged) (read_plain texts' _ r.read_as'.reads) in
-    ap (normalise asked) (sym exchanged) ∙ changed τ keeps asked ms plain_before plain_after easy count n e
-    ∙ ap (λ (k : Normal). normalised count (in_order k)) (exchange_replaces_normal operator plain asked ms count n plain_before r.fresh e)
-
--- ---- the answer
-
-within_so : (output : ℕ) (asked : Name) (count : ℕ) (n : Normal) → TooShort asked count n output (within output asked (of_ended asked (normalised count n)))
-    ⊎ Accepts asked count n (within output asked (of_ended asked (normalised count n)))
-unfolding within of_ended refusal
-within_so output asked count n =
-    by_cases (λ (r : Answer). TooShort asked count n output r ⊎ Accepts asked count n r) (leb (length (lines_text (listing_lines asked n))) output) _ _
-    (λ q. inr (record { number = refl; modules = refl; lines = refl }))
-    (λ q. inl (record { number = refl; modules = refl; longer = leb-false (length (lines_text (listing_lines asked n))) output q }))
-
--- with memory enough the answer is how the call ended, or 19
-with_memory : (memory output : ℕ) (asked : Name) (texts : Texts) (ms : List Module) → ReadAs texts ms → memory_size ≤ memory
-    → answer memory output asked texts ≡ within output asked (of_ended asked (normalise asked ms))
-unfolding answer of_read pick
-with_memory memory output asked texts ms r e = rw (le-ltb memory memory_size e, r.reads)
-
-pub replaced_answer : ReplacedAnswer
-unfolding of_ended refusal
-replaced_answer operator plain texts texts' ms r asked memory memory' output output' e enough =
-    go (answer_ended memory output asked texts ms r.read_as) (normalise asked ms) refl
-  where
-    ends : (count : ℕ) (n : Normal) → normalise asked ms ≡ normalised count n
-        → answer memory' output' asked texts' ≡ within output' asked (of_ended asked (normalised count (renewed operator plain n)))
-    ends count n q =
-        with_memory memory' output' asked texts' _ r.read_as' enough
-        ∙ ap (λ (x : Ended). within output' asked (of_ended asked x)) (replacement operator plain texts texts' ms r asked count n q)
-
-    go : Short (answer memory output asked texts) (of_ended asked (normalise asked ms)) → (x : Ended) → normalise asked ms ≡ x
-        → SameApart operator plain asked output' (answer memory output asked texts) (answer memory' output' asked texts')
-    go (inl short) x q = absurd (omega (arith, e, short))
-    go (inr h) (normalised count n) q =
-        let first = h ∙ ap (of_ended asked) q in
-        record {
-          count = count;
-          normal = n;
-          before = record { number = e; modules = ap (λ (a : Answer). a.modules) first; lines = ap (λ (a : Answer). a.lines) first };
-          after =
-              subst (λ (a : Answer). TooShort asked count (renewed operator plain n) output' a ⊎ Accepts asked count (renewed operator plain n) a)
-              (sym (ends count n q)) (within_so output' asked count (renewed operator plain n));
-        }
-    go (inr h) (refused_at number count told culprit) q =
-        let z : number ≡ accepted = sym (ap (λ (a : Answer). a.number) (h ∙ ap (of_ended asked) q)) ∙ e in
-        absurd (omega (arith, z, refused_from_six asked ms number count told culprit q))

@@ -8,7 +8,8 @@ use Rattle.meaning.specs.Names.{Name}
 use Rattle.meaning.specs.Texts.{Texts}
 use Rattle.meaning.specs.Listing.{Line, lines_text, shown}
 use Rattle.meaning.specs.Answer.{Answer, answer, listing}
-use Rattle.promises.specs.Tied.{answer_plain, answer_tied}
+use Rattle.promises.specs.Tied.{answer_plain}
+use Rattle.promises.proofs.Tied.{answer_tied}
 use Rattle.promises.specs.VisiblePart.{visible_part}
 use Rattle.promises.specs.OneListing.{accepted_call, answer_so}
 use Rattle.reader.specs.Visible.{front_part}

@@ -13,7 +13,8 @@ use borrow.Author.Rules.{rules}
 use borrow.Author.Tests.{eq-eqb, ne_eqb, eqb-false, ltb-true, ltb-false}
 use Rattle.meaning.specs.Lists.{pick, any}
 use Rattle.meaning.specs.Names.{Name, same, not_after}
-use Rattle.meaning.specs.OrderLaws.{same_equal, same_self, not_after_antisymmetric}
+use Rattle.meaning.specs.OrderLaws.{same_equal, same_self}
+use Rattle.meaning.proofs.OrderLaws.{not_after_antisymmetric}
 use Rattle.meaning.specs.Origins.{Item}
 use Rattle.meaning.specs.Normal.{Slot}
 use Rattle.meaning.specs.Checks.{at_odds, least_at_odds}

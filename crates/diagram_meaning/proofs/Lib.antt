@@ -1,0 +1,2 @@
+pub mod Bounded
+pub mod Paths

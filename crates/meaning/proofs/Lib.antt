@@ -1,0 +1,4 @@
+pub mod VisiblyLaws
+pub mod OrderLaws
+pub mod ListingOrder
+pub mod TextsLaws

@@ -1,0 +1,2 @@
+pub mod ImportOrder
+pub mod Order
