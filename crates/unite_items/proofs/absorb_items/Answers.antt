@@ -1,7 +1,6 @@
 -- `unite_items::absorb_items` meets its contract.
 -- Assumes nothing.
 use Rattle.unite_items.proofs.Loops.{loops}
-use borrow.Author.Rules.{rules}
 use Rattle.unite_items.proofs.absorb_items.Goals as goal
 
 pub returns : goal.returns

@@ -1,6 +1,6 @@
 -- `unite_items::absorb_within` meets its contract.
 -- Assumes nothing.
-use Rattle.unite_items.proofs.Loops.{Absorbing, loops}
+use Rattle.unite_items.proofs.Loops.{Absorbing}
 use Prim.Native.Nat.{◌-◌}
 use Rattle.text_names.specs.Joint.{joint}
 use Rattle.unite_items.proofs.absorb_within.Given as goal

@@ -3,7 +3,6 @@
 use Rattle.form_rows.specs.Rows.{item_of}
 use Rattle.unite_items.specs.Absorb.{taken}
 use Rattle.laws_choices.specs.Choices.{choices}
-use borrow.Author.Rules.{rules}
 use Rattle.unite_items.proofs.is_taken.Goals as goal
 
 pub returns-then-in_parameter : goal.returns-then-in_parameter

@@ -1,7 +1,6 @@
 -- `unite_items::place_item` meets its contract.
 -- Assumes nothing.
 use Rattle.unite_items.proofs.Places.{places}
-use borrow.Author.Rules.{rules}
 use Rattle.unite_items.proofs.place_item.Goals as goal
 
 pub returns-then-at-n : goal.returns-then-at-n

@@ -1,7 +1,6 @@
 -- `unite_items::take_row` meets its contract.
 -- Assumes nothing.
 use Rattle.unite_items.proofs.Steps.{turns}
-use borrow.Author.Rules.{rules}
 use Rattle.unite_items.proofs.take_row.Goals as goal
 
 pub place_item-at-requires : goal.place_item-at-requires
