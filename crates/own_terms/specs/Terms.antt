@@ -27,7 +27,7 @@ use Rattle.laws.specs.EveryLaws.{every_append}
 use Rattle.tape.specs.Tape.{Entry, entry, alone_role, close_role, flat_node}
 use Rattle.tape.specs.Tape as on_tape
 use Rattle.form_rows.specs.Entries.{role_at, name_at}
-use Rattle.form_rows.specs.Rows.{sort_of, type_of, item_of, words_from, row_at, row_size}
+use Rattle.form_rows.specs.Rows.{sort_of, type_of, item_of, row_at, row_size}
 use Rattle.form.specs.Memory.{Kept}
 use Rattle.form.specs.Forms.{items_at, how_many, flat_term, flat_terms, node_of}
 use Rattle.form_walks.specs.Shapes.{by_kind}

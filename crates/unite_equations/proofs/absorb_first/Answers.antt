@@ -1,8 +1,6 @@
 -- `unite_equations::absorb_first` meets its contract.
 -- Assumes nothing.
-use Rattle.unite_equations.proofs.Turns.{Joining, turns}
-use Prim.Native.Nat.{◌-◌}
-use Rattle.text_names.specs.Joint.{joint}
+use Rattle.unite_equations.proofs.Turns.{turns}
 use Rattle.unite_equations.proofs.absorb_first.Goals as goal
 
 pub loop-k-init : goal.loop-k-init

@@ -1,6 +1,6 @@
 -- `unite_equations::absorb_first` meets its contract.
 -- Assumes nothing.
-use Rattle.unite_equations.proofs.Turns.{Joining, turns}
+use Rattle.unite_equations.proofs.Turns.{Joining}
 use Prim.Native.Nat.{◌-◌}
 use Rattle.text_names.specs.Joint.{joint}
 use Rattle.unite_equations.proofs.absorb_first.Given as goal

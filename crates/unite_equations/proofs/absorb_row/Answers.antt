@@ -1,7 +1,6 @@
 -- `unite_equations::absorb_row` meets its contract.
 -- Assumes nothing.
 use Rattle.unite_equations.proofs.Turns.{turns}
-use borrow.Author.Rules.{rules}
 use Rattle.unite_equations.proofs.absorb_row.Goals as goal
 
 pub returns-then-nodes-used : goal.returns-then-nodes-used

@@ -1,8 +1,6 @@
 -- `unite_equations::has_equation` meets its contract.
 -- Assumes nothing.
-use Rattle.unite_equations.proofs.Turns.{Seeking, turns}
-use Prim.Native.Nat.{◌-◌}
-use Rattle.text_names.specs.Joint.{joint}
+use Rattle.unite_equations.proofs.Turns.{turns}
 use Rattle.unite_equations.proofs.has_equation.Goals as goal
 
 pub loop-i-init : goal.loop-i-init

@@ -1,6 +1,6 @@
 -- `unite_equations::has_equation` meets its contract.
 -- Assumes nothing.
-use Rattle.unite_equations.proofs.Turns.{Seeking, turns}
+use Rattle.unite_equations.proofs.Turns.{Seeking}
 use Prim.Native.Nat.{◌-◌}
 use Rattle.text_names.specs.Joint.{joint}
 use Rattle.unite_equations.proofs.has_equation.Given as goal

@@ -1,7 +1,6 @@
 -- `unite_equations::is_equation` meets its contract.
 -- Assumes nothing.
 use Rattle.unite_equations.proofs.Turns.{turns}
-use borrow.Author.Rules.{rules}
 use Rattle.unite_equations.proofs.is_equation.Goals as goal
 
 pub returns : goal.returns

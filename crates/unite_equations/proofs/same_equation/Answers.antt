@@ -1,7 +1,6 @@
 -- `unite_equations::same_equation` meets its contract.
 -- Assumes nothing.
 use Rattle.unite_equations.proofs.Turns.{turns}
-use borrow.Author.Rules.{rules}
 use Rattle.unite_equations.proofs.same_equation.Goals as goal
 
 pub returns-then-q-r-3 : goal.returns-then-q-r-3

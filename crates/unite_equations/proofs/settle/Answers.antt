@@ -1,7 +1,6 @@
 -- `unite_equations::settle` meets its contract.
 -- Assumes nothing.
 use Rattle.unite_equations.proofs.Turns.{turns}
-use borrow.Author.Rules.{rules}
 use Rattle.unite_equations.proofs.settle.Goals as goal
 
 pub returns-then-has_equation : goal.returns-then-has_equation

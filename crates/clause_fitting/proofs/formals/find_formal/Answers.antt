@@ -1,12 +1,6 @@
 -- `clause_fitting::formals::find_formal` meets its contract.
 -- Assumes nothing.
 use Rattle.clause_fitting.proofs.FormalCases.{finds}
-use Rattle.form_walks.specs.Rows.{Finding}
-use Prim.Native.Nat.{◌-◌}
-use Rattle.text_names.specs.Word.{name_of}
-use Rattle.text_names.specs.Joint.{joint}
-use Rattle.form.specs.Memory.{part}
-use Rattle.clause_fitting.specs.Unpaired.{formal_called}
 use Rattle.clause_fitting.proofs.formals.find_formal.Goals as goal
 
 pub loop-i-init : goal.loop-i-init

@@ -1,6 +1,5 @@
 -- `clause_fitting::formals::find_formal` meets its contract.
 -- Assumes nothing.
-use Rattle.clause_fitting.proofs.FormalCases.{finds}
 use Rattle.form_walks.specs.Rows.{Finding}
 use Prim.Native.Nat.{◌-◌}
 use Rattle.text_names.specs.Word.{name_of}

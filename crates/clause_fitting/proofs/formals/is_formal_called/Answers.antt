@@ -4,7 +4,6 @@ use Rattle.meaning.specs.Normal.{is_called}
 use Rattle.form_rows.specs.Rows.{item_of}
 use Rattle.clause_fitting.specs.Unpaired.{formal_called}
 use Rattle.laws_choices.specs.Choices.{choices}
-use borrow.Author.Rules.{rules}
 use Rattle.clause_fitting.proofs.formals.is_formal_called.Goals as goal
 
 pub returns-then-in_parameter : goal.returns-then-in_parameter

@@ -1,7 +1,6 @@
 -- `clause_fitting::formals::is_unpaired` meets its contract.
 -- Assumes nothing.
 use Rattle.clause_fitting.proofs.FormalCases.{items}
-use borrow.Author.Rules.{rules}
 use Rattle.clause_fitting.proofs.formals.is_unpaired.Goals as goal
 
 pub returns-in-At : goal.returns-in-At

@@ -1,7 +1,6 @@
 -- `clause_fitting::formals::least_from` meets its contract.
 -- Assumes nothing.
 use Rattle.clause_fitting.proofs.FormalCases.{least}
-use borrow.Author.Rules.{rules}
 use Rattle.clause_fitting.proofs.formals.least_from.Goals as goal
 
 pub returns-then-is_unpaired : goal.returns-then-is_unpaired

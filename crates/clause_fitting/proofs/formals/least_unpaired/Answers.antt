@@ -1,8 +1,6 @@
 -- `clause_fitting::formals::least_unpaired` meets its contract.
 -- Assumes nothing.
-use Rattle.text_names.specs.Joint.{joint}
-use Rattle.clause_fitting.proofs.FormalCases.{lasts, Lasting}
-use Rattle.form.specs.Memory.{part}
+use Rattle.clause_fitting.proofs.FormalCases.{lasts}
 use Rattle.clause_fitting.proofs.formals.least_unpaired.Goals as goal
 
 pub loop-k-init : goal.loop-k-init

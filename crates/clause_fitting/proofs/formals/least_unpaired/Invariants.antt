@@ -1,7 +1,7 @@
 -- `clause_fitting::formals::least_unpaired` meets its contract.
 -- Assumes nothing.
 use Rattle.text_names.specs.Joint.{joint}
-use Rattle.clause_fitting.proofs.FormalCases.{lasts, Lasting}
+use Rattle.clause_fitting.proofs.FormalCases.{Lasting}
 use Rattle.form.specs.Memory.{part}
 use Rattle.clause_fitting.proofs.formals.least_unpaired.Given as goal
 

@@ -1,7 +1,6 @@
 -- `clause_fitting::formals::lesser_name` meets its contract.
 -- Assumes nothing.
 use Rattle.clause_fitting.proofs.FormalCases.{least}
-use borrow.Author.Rules.{rules}
 use Rattle.clause_fitting.proofs.formals.lesser_name.Goals as goal
 
 pub returns-then-not_after : goal.returns-then-not_after

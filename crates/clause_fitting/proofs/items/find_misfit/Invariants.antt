@@ -1,9 +1,7 @@
 -- `clause_fitting::items::find_misfit` meets its contract.
 -- Assumes nothing.
-use Rattle.clause_fitting.proofs.FormalCases.{finds}
 use Rattle.form_walks.specs.Rows.{Finding}
 use Prim.Native.Nat.{◌-◌}
-use borrow.Author.Rules.{rules}
 use Rattle.text_names.specs.Word.{name_of}
 use Rattle.text_names.specs.Joint.{joint}
 use Rattle.form.specs.Memory.{part}

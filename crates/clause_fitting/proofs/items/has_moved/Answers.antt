@@ -1,7 +1,6 @@
 -- `clause_fitting::items::has_moved` meets its contract.
 -- Assumes nothing.
 use Rattle.clause_fitting.proofs.ItemCases.{types}
-use borrow.Author.Rules.{rules}
 use Rattle.clause_fitting.proofs.items.has_moved.Goals as goal
 
 pub returns : goal.returns

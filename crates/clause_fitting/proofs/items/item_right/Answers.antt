@@ -1,7 +1,6 @@
 -- `clause_fitting::items::item_right` meets its contract.
 -- Assumes nothing.
 use Rattle.clause_fitting.proofs.ItemCases.{fits}
-use borrow.Author.Rules.{rules}
 use Rattle.clause_fitting.proofs.items.item_right.Goals as goal
 
 pub returns-then-by_type : goal.returns-then-by_type

@@ -2,7 +2,6 @@
 -- Assumes nothing.
 use Rattle.clause_fitting.specs.Fits.{kind_there}
 use Rattle.laws_choices.specs.Choices.{choices}
-use borrow.Author.Rules.{rules}
 use Rattle.clause_fitting.proofs.items.kind_right.Goals as goal
 
 pub returns-then-kind-eq-SORT : goal.returns-then-kind-eq-SORT

@@ -1,7 +1,6 @@
 -- `clause_fitting::items::type_right` meets its contract.
 -- Assumes nothing.
 use Rattle.clause_fitting.proofs.ItemCases.{types}
-use borrow.Author.Rules.{rules}
 use Rattle.clause_fitting.proofs.items.type_right.Goals as goal
 
 pub returns-then-kind-lt-FUNCTION : goal.returns-then-kind-lt-FUNCTION

@@ -1,11 +1,6 @@
 -- `clause_fitting::sorts::inputs_right` meets its contract.
 -- Assumes nothing.
 use Rattle.clause_fitting.proofs.SortCases.{fittings}
-use Rattle.clause_checks.specs.Walks.{Fitting}
-use Rattle.clause_fitting.specs.Fits.{sort_fits}
-use Prim.Native.Nat.{◌-◌}
-use Rattle.text_names.specs.Joint.{joint}
-use Rattle.form.specs.Memory.{part}
 use Rattle.clause_fitting.proofs.sorts.inputs_right.Goals as goal
 
 pub loop-i-init : goal.loop-i-init

@@ -1,6 +1,5 @@
 -- `clause_fitting::sorts::inputs_right` meets its contract.
 -- Assumes nothing.
-use Rattle.clause_fitting.proofs.SortCases.{fittings}
 use Rattle.clause_checks.specs.Walks.{Fitting}
 use Rattle.clause_fitting.specs.Fits.{sort_fits}
 use Prim.Native.Nat.{◌-◌}

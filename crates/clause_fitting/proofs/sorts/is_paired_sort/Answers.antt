@@ -1,7 +1,6 @@
 -- `clause_fitting::sorts::is_paired_sort` meets its contract.
 -- Assumes nothing.
 use Rattle.clause_fitting.proofs.SortCases.{theres}
-use borrow.Author.Rules.{rules}
 use Rattle.clause_fitting.proofs.sorts.is_paired_sort.Goals as goal
 
 pub returns-in-At : goal.returns-in-At

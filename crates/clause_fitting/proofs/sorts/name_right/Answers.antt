@@ -1,7 +1,6 @@
 -- `clause_fitting::sorts::name_right` meets its contract.
 -- Assumes nothing.
 use Rattle.clause_fitting.proofs.SortCases.{rights}
-use borrow.Author.Rules.{rules}
 use Rattle.clause_fitting.proofs.sorts.name_right.Goals as goal
 
 pub returns-then-is_formal_sort : goal.returns-then-is_formal_sort

@@ -1,7 +1,6 @@
 -- `clause_fitting::sorts::same_sort_origin` meets its contract.
 -- Assumes nothing.
 use Rattle.clause_fitting.proofs.SortCases.{origins}
-use borrow.Author.Rules.{rules}
 use Rattle.clause_fitting.proofs.sorts.same_sort_origin.Goals as goal
 
 pub returns-then-j-m : goal.returns-then-j-m

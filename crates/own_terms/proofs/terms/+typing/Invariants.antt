@@ -2,15 +2,11 @@
 -- no more for arguments, which stand one level deeper; one more behind a row of operators, where the levels of the row count too, and on the way
 -- back; two more for the term, and three for what calls it.
 -- Assumes nothing.
-use mathlib.Core.Path.{refl}
-use borrow.Author.Rules.{rules}
 use Rattle.text_names.specs.Joint.{joint}
 use Rattle.own_terms.specs.Typing.{operators_in}
-use Rattle.own_terms.proofs.Words.{reached_room, reached_fits, room_at, at_less, at_some}
-use Rattle.own_terms.proofs.Arguments.{Deep, deep_tape, deep_fits, deep_still, deep_few, deep_nine, deep_done, deep_many, deep_whole, deep_down, deep_falls, deep_ill, deep_long, deep_rises, deep_again}
-use Rattle.own_terms.proofs.Row.{Returning, operator_infix, back_open, back_entry, back_place, back_less, back_room, back_some, back_fits, back_ill, back_long, back_rises, back_fewer, back_again, back_end, row_less, row_room, row_ended, row_back_less, row_backed, onward_less}
-use Rattle.own_terms.proofs.Deep.{deep_sunk, deep_row, read_room, deeper}
-use Prim.Native.Nat.{ℕ, ◌+◌, ◌-◌, ◌*◌, ◌<◌}
+use Rattle.own_terms.proofs.Arguments.{Deep}
+use Rattle.own_terms.proofs.Row.{Returning}
+use Prim.Native.Nat.{◌+◌, ◌-◌, ◌*◌}
 use lib.ListN.{get_or}
 use Rattle.own_terms.proofs.terms.+typing.Given as goal
 

@@ -1,9 +1,8 @@
 -- `own_terms::terms::operators_from` meets its contract.
 -- Assumes nothing.
 use mathlib.Core.Path.{refl}
-use lib.ListN.{get_or}
 use borrow.Author.Rules.{rules}
-use Rattle.own_terms.proofs.Operators.{Going, row_again, onward}
+use Rattle.own_terms.proofs.Operators.{row_again, onward}
 use Rattle.own_terms.proofs.terms.operators_from.Goals as goal
 
 pub bounds-words-0 : goal.bounds-words-0

@@ -1,9 +1,7 @@
 -- `own_terms::terms::operators_from` meets its contract.
 -- Assumes nothing.
-use mathlib.Core.Path.{refl}
 use lib.ListN.{get_or}
-use borrow.Author.Rules.{rules}
-use Rattle.own_terms.proofs.Operators.{Going, row_again, onward}
+use Rattle.own_terms.proofs.Operators.{Going}
 use Rattle.own_terms.proofs.terms.operators_from.Given as goal
 
 abbrev pub invariant-loop-words : goal.invariant-loop-words

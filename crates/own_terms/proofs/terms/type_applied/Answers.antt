@@ -1,5 +1,4 @@
 use Rattle.own_terms.proofs.Cases.{cases}
-use borrow.Author.Rules.{rules}
 use Rattle.own_terms.proofs.terms.type_applied.Goals as goal
 
 pub returns-then-f-count : goal.returns-then-f-count

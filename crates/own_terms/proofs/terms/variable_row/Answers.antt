@@ -1,5 +1,4 @@
 use Rattle.own_terms.proofs.Cases.{cases}
-use borrow.Author.Rules.{rules}
 use Rattle.own_terms.proofs.terms.variable_row.Goals as goal
 
 pub returns-then-alone : goal.returns-then-alone

@@ -1,0 +1,11 @@
+-- `own_declarations::checks::available_at` meets its contract.
+-- Assumes nothing.
+use Rattle.own_declarations.proofs.Told.{checking}
+use borrow.Author.Rules.{rules}
+use Rattle.own_declarations.proofs.checks.available_at.Goals as goal
+
+pub returns-then-lacks_sort : goal.returns-then-lacks_sort
+returns-then-lacks_sort c = search checking
+
+pub returns : goal.returns
+returns c = search checking

@@ -1,0 +1,26 @@
+-- `own_declarations::checks::variables_right` meets its contract.
+-- Assumes nothing.
+use borrow.Author.Rules.{rules}
+use mathlib.Core.Path.{◌≡◌}
+use Prim.Native.Nat.{◌-◌}
+use Rattle.text_names.specs.Joint.{joint}
+use Rattle.form.specs.Memory.{part}
+use Rattle.own_repeats.specs.Scans.{walked}
+use Rattle.own_declarations.specs.Checked.{variable_at}
+use Rattle.own_declarations.proofs.Told.{checking}
+use Rattle.own_declarations.proofs.checks.variables_right.Goals as goal
+
+pub loop-i-init : goal.loop-i-init
+loop-i-init c = search checking
+
+pub returns-in-Stop : goal.returns-in-Stop
+returns-in-Stop c = search checking
+
+pub enum_told-1 : goal.enum_told-1
+enum_told-1 c = search checking
+
+pub loop-i-preserved : goal.loop-i-preserved
+loop-i-preserved c = search checking
+
+pub returns : goal.returns
+returns c = search checking

@@ -1,0 +1,13 @@
+-- `own_declarations::rows::own_rows` meets its contract.
+-- Assumes nothing.
+use borrow.Author.Rules.{rules}
+use Prim.Native.Nat.{◌-◌}
+use Rattle.text_names.specs.Joint.{joint}
+use Rattle.own_declarations.proofs.Made.{making, Appending, append_put}
+use Rattle.own_declarations.proofs.rows.own_rows.Given as goal
+
+abbrev pub invariant-loop-i : goal.invariant-loop-i
+invariant-loop-i l = Appending (joint l.library l.text) l.t l.own l.hidden l.base l.n l.initial.work l.work l.k l.i
+
+abbrev pub decreases-loop-i : goal.decreases-loop-i
+decreases-loop-i l = l.own.end - l.i

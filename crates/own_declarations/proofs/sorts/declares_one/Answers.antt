@@ -1,0 +1,23 @@
+-- `own_declarations::sorts::declares_one` meets its contract.
+-- Assumes nothing.
+use borrow.Author.Rules.{rules}
+use mathlib.Core.Path.{◌≡◌}
+use Prim.Native.Nat.{◌-◌}
+use Rattle.text_names.specs.Word.{name_of}
+use Rattle.text_names.specs.Joint.{joint}
+use Rattle.own_repeats.specs.Scans.{found}
+use Rattle.own_declarations.specs.Sorts.{declares_at}
+use Rattle.own_declarations.proofs.Cases.{cases}
+use Rattle.own_declarations.proofs.sorts.declares_one.Goals as goal
+
+pub loop-i-init : goal.loop-i-init
+loop-i-init c = search cases
+
+pub returns-then-declares_at : goal.returns-then-declares_at
+returns-then-declares_at c = search cases
+
+pub loop-i-preserved : goal.loop-i-preserved
+loop-i-preserved c = search cases
+
+pub returns : goal.returns
+returns c = search cases

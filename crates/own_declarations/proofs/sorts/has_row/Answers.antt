@@ -1,0 +1,23 @@
+-- `own_declarations::sorts::has_row` meets its contract.
+-- Assumes nothing.
+use borrow.Author.Rules.{rules}
+use mathlib.Core.Path.{◌≡◌}
+use Prim.Native.Nat.{◌-◌}
+use Rattle.text_names.specs.Word.{name_of}
+use Rattle.text_names.specs.Joint.{joint}
+use Rattle.own_repeats.specs.Scans.{found}
+use Rattle.own_declarations.specs.Sorts.{is_row}
+use Rattle.own_declarations.proofs.Cases.{cases}
+use Rattle.own_declarations.proofs.sorts.has_row.Goals as goal
+
+pub loop-i-init : goal.loop-i-init
+loop-i-init c = search cases
+
+pub returns-then-is_row : goal.returns-then-is_row
+returns-then-is_row c = search cases
+
+pub loop-i-preserved : goal.loop-i-preserved
+loop-i-preserved c = search cases
+
+pub returns : goal.returns
+returns c = search cases

@@ -1,0 +1,12 @@
+use Rattle.unite_checks.proofs.Checks.{checks}
+use borrow.Author.Rules.{rules}
+use Rattle.unite_checks.proofs.checked.checked.Goals as goal
+
+pub consistent-requires : goal.consistent-requires
+consistent-requires c = search checks
+
+pub returns-in-Stop : goal.returns-in-Stop
+returns-in-Stop c = search checks
+
+pub returns-in-Fine : goal.returns-in-Fine
+returns-in-Fine c = search checks

@@ -1,0 +1,12 @@
+-- `unite_checks::clashes::find_repeated` meets its contract. Assumes nothing.
+use Prim.Native.Nat.{◌-◌}
+use Rattle.text_names.specs.Joint.{joint}
+use Rattle.unite_checks.proofs.SearchCases.{Neighbours, neighbours_start, neighbours_again, neighbours_found, neighbours_end}
+use borrow.Author.Rules.{rules}
+use Rattle.unite_checks.proofs.clashes.find_repeated.Given as goal
+
+abbrev pub invariant-loop-i : goal.invariant-loop-i
+invariant-loop-i l = Neighbours (joint l.library l.text) l.w l.b l.n l.p l.i
+
+abbrev pub decreases-loop-i : goal.decreases-loop-i
+decreases-loop-i l = l.n - l.i

@@ -1,0 +1,10 @@
+-- `unite_checks::consistency::check_overloading` meets its contract. Assumes nothing.
+use Rattle.unite_checks.proofs.VerdictCases.{cases}
+use borrow.Author.Rules.{rules}
+use Rattle.unite_checks.proofs.consistency.check_overloading.Goals as goal
+
+pub returns-in-At : goal.returns-in-At
+returns-in-At c = search cases
+
+pub returns-in-Nothing : goal.returns-in-Nothing
+returns-in-Nothing c = search cases
