@@ -23,7 +23,8 @@ use Rattle.read_both.specs.declared.Both.{Both}
 use Rattle.read_both.specs.declared.Both.TheVariants.{Done, Refused}
 use Rattle.read_both.specs.Both.{Said}
 use Rattle.tape.specs.Tape.{spelled, entries}
-use Rattle.invariants.specs.Limits.{limits_read, modules_few}
+use Rattle.invariants.specs.Limits.{modules_few}
+use Rattle.invariants.proofs.Limits.{limits_read}
 use Rattle.form_rows.specs.Entries.{word_at, name_at}
 use Rattle.invariants.specs.HiddenItems.{HiddenSound}
 use Rattle.laws.specs.Outcomes.{Ends}

@@ -16,7 +16,8 @@ use Rattle.meaning.specs.Reached.{Placed, reached, Ended, normalised, refused_at
 use Rattle.meaning.specs.Answer.{Answer, refusal, of_ended, unread, of_read, within, answer}
 use Rattle.laws.specs.EveryLaws.{every_so}
 use Rattle.laws.specs.Walk.{reached_every}
-use Rattle.invariants.specs.Limits.{Limited, limits_read}
+use Rattle.invariants.specs.Limits.{Limited}
+use Rattle.invariants.proofs.Limits.{limits_read}
 use Rattle.promises.specs.Counts.{CountedIn, in_turn_counted}
 use Rattle.promises.specs.ReadNumbers.{refused_low}
 

@@ -4,16 +4,15 @@ use Rattle.std.specs.Prelude.{◌≡◌, ℕ, ◌+◌, ◌-◌, ◌≤◌, List,
 use Rattle.std.proofs.Common.{ap, ◌∙◌, arith, length-append, length-take, leb-true}
 use Rattle.meaning.specs.Names.{Name}
 use Rattle.meaning.specs.Numbers.{name_size, module_limit, import_limit, pair_limit, argument_limit, node_limit}
-use Rattle.meaning.specs.Syntax.{Function, Signature, Parameter, Clause, renamed_by, bound_by, Import, Equation, Module}
+use Rattle.meaning.specs.Syntax.{Function, Parameter, Clause, renamed_by, bound_by, Import, Equation, Module}
 use Rattle.meaning.specs.Tokens.{token_at}
 use Rattle.meaning.specs.OrderLaws.{Every}
 use Rattle.meaning.specs.Grammar.{State, done, read}
 use Rattle.meaning.specs.Texts.{Texts, all_read, read_texts}
 use Rattle.meaning.specs.TextsLaws.{Parts, by_library}
 use Rattle.meaning.proofs.TextsLaws.{read_parts}
-use Rattle.laws.specs.EveryLaws.{every_so}
-use Rattle.laws.specs.Reading.{Any, Named, ReadSignature, ReadClause, ReadModule, source_equation}
-use Rattle.laws.proofs.Reading.{text_read, modules_read}
+use Rattle.laws.specs.Reading.{Any, Named, source_equation}
+use Rattle.laws.proofs.Reading.{text_read}
 
 -- ---- the limits
 
@@ -39,10 +38,10 @@ pub record Limited (m : Module) : Type 0 where
 -- ---- what is read is within them
 
 -- of names only the size is asked
-abbrev Short : Name → Type 0
+abbrev pub Short : Name → Type 0
 Short w = length w ≤ name_size
 
-short : (text : List ℕ) → Named Short Any text
+pub short : (text : List ℕ) → Named Short Any text
 short text = record {
   token = λ i e f.
       let t = token_at text i in
@@ -52,31 +51,10 @@ short text = record {
   as_infix = λ w h. tt;
 }
 
-signature_within : (g : Signature) → ReadSignature Short Any g → Every InputsWithin g.functions
-signature_within g h = every_so _ InputsWithin g.functions (λ f k. k.inputs.few) h.functions
-
-clause_within : (c : Clause) → ReadClause Short Any c → PairsWithin c
-clause_within (renamed_by rs) h = h.few
-clause_within (bound_by p rs m) h = h.few
-
-module_within : (m : Module) → ReadModule Short Any m → Limited m
-module_within m h = record {
-  name = h.name;
-  parameters = every_so _ _ m.parameters (λ p k. signature_within p.signature k.signature) h.parameters;
-  exports = signature_within m.exports h.exports;
-  hidden = signature_within m.hidden h.hidden;
-  imports = h.imports.few;
-  clauses = every_so _ _ m.imports (λ i k. every_so _ PairsWithin i.clauses clause_within k) h.imports.each_one;
-  equations = every_so _ NodesWithin m.equations (λ e k. k.nodes) h.equations;
-}
-
 pub text_few : (text : List ℕ) (n : ℕ) (taken : List Name) (ms : List Module) (s : State) → read text n taken ≡ done ms s → length ms ≤ n
 text_few text n taken ms s e = (text_read Short Any text (short text) n taken ms s e).few
 
 -- ---- both texts
-
-pub limits_read : (t : Texts) (ms : List Module) → read_texts t ≡ all_read ms → Every Limited ms
-limits_read t ms e = every_so _ Limited ms module_within (modules_read Short Any short t ms e)
 
 -- the modules of both are at most 64
 pub modules_few : (t : Texts) (ms : List Module) → read_texts t ≡ all_read ms → length ms ≤ module_limit

@@ -1,0 +1,4 @@
+pub mod Changed
+pub mod Exact
+pub mod Held
+pub mod Samples
