@@ -1,5 +1,4 @@
-use Prim.Native.Nat.{◌-◌}
-use Rattle.form_keeping.proofs.Cases.{cases, Clearing}
+use Rattle.form_keeping.proofs.Cases.{cases}
 use Rattle.form_keeping.proofs.clear_forms.Goals as goal
 
 pub loop-k-init : goal.loop-k-init

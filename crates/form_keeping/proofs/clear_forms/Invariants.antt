@@ -1,5 +1,5 @@
 use Prim.Native.Nat.{◌-◌}
-use Rattle.form_keeping.proofs.Cases.{cases, Clearing}
+use Rattle.form_keeping.proofs.Cases.{Clearing}
 use Rattle.form_keeping.proofs.clear_forms.Given as goal
 
 abbrev pub invariant-loop-k : goal.invariant-loop-k

@@ -1,5 +1,4 @@
 use Rattle.form_keeping.proofs.Cases.{cases}
-use borrow.Author.Rules.{rules}
 use Rattle.form_keeping.proofs.write_form.Goals as goal
 
 pub returns : goal.returns

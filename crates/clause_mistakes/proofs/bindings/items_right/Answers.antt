@@ -1,7 +1,6 @@
 -- `clause_mistakes::bindings::items_right` meets its contract.
 -- Assumes nothing.
 use Rattle.clause_mistakes.proofs.BindingCases.{items}
-use borrow.Author.Rules.{rules}
 use Rattle.clause_mistakes.proofs.bindings.items_right.Goals as goal
 
 pub returns-then-all_right-2 : goal.returns-then-all_right-2

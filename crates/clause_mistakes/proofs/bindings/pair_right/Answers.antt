@@ -1,7 +1,6 @@
 -- `clause_mistakes::bindings::pair_right` meets its contract.
 -- Assumes nothing.
 use Rattle.clause_mistakes.proofs.BindingCases.{single}
-use borrow.Author.Rules.{rules}
 use Rattle.clause_mistakes.proofs.bindings.pair_right.Goals as goal
 
 pub returns-then-is_given : goal.returns-then-is_given

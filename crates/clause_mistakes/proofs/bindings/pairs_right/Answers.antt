@@ -1,9 +1,6 @@
 -- `clause_mistakes::bindings::pairs_right` meets its contract.
 -- Assumes nothing.
-use Rattle.clause_mistakes.proofs.BindingCases.{bindings, Checking}
-use Prim.Native.Nat.{◌-◌}
-use Rattle.text_names.specs.Joint.{joint}
-use Rattle.form.specs.Memory.{part}
+use Rattle.clause_mistakes.proofs.BindingCases.{bindings}
 use Rattle.clause_mistakes.proofs.bindings.pairs_right.Goals as goal
 
 pub slice_bounds-pair_count-count : goal.slice_bounds-pair_count-count

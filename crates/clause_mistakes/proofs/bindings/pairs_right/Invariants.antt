@@ -1,6 +1,6 @@
 -- `clause_mistakes::bindings::pairs_right` meets its contract.
 -- Assumes nothing.
-use Rattle.clause_mistakes.proofs.BindingCases.{bindings, Checking}
+use Rattle.clause_mistakes.proofs.BindingCases.{Checking}
 use Prim.Native.Nat.{◌-◌}
 use Rattle.text_names.specs.Joint.{joint}
 use Rattle.form.specs.Memory.{part}

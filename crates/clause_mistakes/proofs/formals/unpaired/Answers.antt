@@ -1,7 +1,6 @@
 -- `clause_mistakes::formals::unpaired` meets its contract.
 -- Assumes nothing.
 use Rattle.clause_mistakes.proofs.FormalCases.{verdicts}
-use borrow.Author.Rules.{rules}
 use Rattle.clause_mistakes.proofs.formals.unpaired.Goals as goal
 
 pub returns-in-At : goal.returns-in-At
