@@ -2,7 +2,6 @@
 -- Assumes nothing.
 use Rattle.ask_alike.specs.Alike.{declaring}
 use Rattle.laws_choices.specs.Choices.{choices}
-use borrow.Author.Rules.{rules}
 use Rattle.ask_alike.proofs.is_declaring.Goals as goal
 
 pub returns-then-is_between : goal.returns-then-is_between

@@ -2,7 +2,6 @@
 -- Assumes nothing.
 use Rattle.ask_alike.specs.Alike.{section_role}
 use Rattle.laws_choices.specs.Choices.{choices}
-use borrow.Author.Rules.{rules}
 use Rattle.ask_alike.proofs.is_of_section.Goals as goal
 
 pub returns-then-section-eq-PARAMETERS : goal.returns-then-section-eq-PARAMETERS

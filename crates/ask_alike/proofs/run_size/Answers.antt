@@ -1,8 +1,6 @@
 -- `ask_alike::run_size` meets its contract.
 -- Assumes nothing.
-use Prim.Native.Nat.{◌-◌}
-use Rattle.ask_alike.proofs.Cases.{Counted, sections}
-use borrow.Author.Rules.{rules}
+use Rattle.ask_alike.proofs.Cases.{sections}
 use Rattle.ask_alike.proofs.run_size.Goals as goal
 
 pub loop-j-init : goal.loop-j-init

@@ -1,8 +1,7 @@
 -- `ask_alike::run_size` meets its contract.
 -- Assumes nothing.
 use Prim.Native.Nat.{◌-◌}
-use Rattle.ask_alike.proofs.Cases.{Counted, sections}
-use borrow.Author.Rules.{rules}
+use Rattle.ask_alike.proofs.Cases.{Counted}
 use Rattle.ask_alike.proofs.run_size.Given as goal
 
 abbrev pub invariant-loop-j : goal.invariant-loop-j

@@ -1,8 +1,6 @@
 -- `ask_alike::same_entries` meets its contract.
 -- Assumes nothing.
-use Rattle.text_names.specs.Joint.{joint}
-use Rattle.ask_alike.proofs.Cases.{Comparing, cases}
-use borrow.Author.Rules.{rules}
+use Rattle.ask_alike.proofs.Cases.{cases}
 use Rattle.ask_alike.proofs.same_entries.Goals as goal
 
 pub loop-left-init : goal.loop-left-init

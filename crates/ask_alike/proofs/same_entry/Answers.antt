@@ -1,7 +1,6 @@
 -- `ask_alike::same_entry` meets its contract.
 -- Assumes nothing.
 use Rattle.ask_alike.proofs.Cases.{cases}
-use borrow.Author.Rules.{rules}
 use Rattle.ask_alike.proofs.same_entry.Goals as goal
 
 pub returns-then-v-w : goal.returns-then-v-w

@@ -1,7 +1,6 @@
 -- `ask_alike::same_part` meets its contract.
 -- Assumes nothing.
 use Rattle.ask_alike.proofs.Cases.{cases}
-use borrow.Author.Rules.{rules}
 use Rattle.ask_alike.proofs.same_part.Goals as goal
 
 pub returns : goal.returns

@@ -1,7 +1,6 @@
 -- `ask_alike::same_runs` meets its contract.
 -- Assumes nothing.
 use Rattle.ask_alike.proofs.Cases.{cases}
-use borrow.Author.Rules.{rules}
 use Rattle.ask_alike.proofs.same_runs.Goals as goal
 
 pub returns-then-n-m : goal.returns-then-n-m

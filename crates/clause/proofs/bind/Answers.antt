@@ -1,7 +1,6 @@
 -- `clause::bind` meets its contract.
 -- Assumes nothing.
 use Rattle.clause.proofs.Cases.{ends}
-use borrow.Author.Rules.{rules}
 use Rattle.clause.proofs.bind.Goals as goal
 
 pub clause_right-requires : goal.clause_right-requires

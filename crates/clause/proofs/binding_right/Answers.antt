@@ -1,7 +1,6 @@
 -- `clause::binding_right` meets its contract.
 -- Assumes nothing.
 use Rattle.clause.proofs.Cases.{ends}
-use borrow.Author.Rules.{rules}
 use Rattle.clause.proofs.binding_right.Goals as goal
 
 pub returns-in-Stop : goal.returns-in-Stop

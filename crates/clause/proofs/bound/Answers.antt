@@ -2,7 +2,6 @@
 -- Assumes nothing.
 use Rattle.clause.specs.WholeSteps.{hidden_step, check_step, bound_form}
 use Rattle.clause.proofs.Cases.{whole}
-use borrow.Author.Rules.{rules}
 use Rattle.clause.proofs.bound.Goals as goal
 
 pub formals_noted-requires : goal.formals_noted-requires

@@ -2,7 +2,6 @@
 -- Assumes nothing.
 use Rattle.clause.specs.HiddenSteps.{actual_hidden_room}
 use Rattle.clause.proofs.Cases.{hidden}
-use borrow.Author.Rules.{rules}
 use Rattle.clause.proofs.bound_hidden.Goals as goal
 
 pub unite_hidden-own-requires : goal.unite_hidden-own-requires

@@ -1,7 +1,6 @@
 -- `clause::bound_own` meets its contract.
 -- Assumes nothing.
 use Rattle.clause.proofs.Cases.{own}
-use borrow.Author.Rules.{rules}
 use Rattle.clause.proofs.bound_own.Goals as goal
 
 pub keep_parameters-n-requires : goal.keep_parameters-n-requires

@@ -1,7 +1,6 @@
 -- `clause::clause_right` meets its contract.
 -- Assumes nothing.
 use Rattle.clause.proofs.Cases.{either}
-use borrow.Author.Rules.{rules}
 use Rattle.clause.proofs.clause_right.Goals as goal
 
 pub returns-then-kind-eq-BINDING : goal.returns-then-kind-eq-BINDING

@@ -1,7 +1,6 @@
 -- `clause::formals_noted` meets its contract.
 -- Assumes nothing.
 use Rattle.clause.proofs.Cases.{either}
-use borrow.Author.Rules.{rules}
 use Rattle.clause.proofs.formals_noted.Goals as goal
 
 pub note_formals-requires : goal.note_formals-requires

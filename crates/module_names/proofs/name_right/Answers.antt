@@ -1,7 +1,6 @@
 -- `module_names::name_right` meets its contract.
 -- Assumes nothing.
 use Rattle.module_names.proofs.Cases.{numbers}
-use borrow.Author.Rules.{rules}
 use Rattle.module_names.proofs.name_right.Goals as goal
 
 pub returns-then-count-p : goal.returns-then-count-p

@@ -3,12 +3,9 @@
 use mathlib.Core.Path.{◌≡◌}
 use Prim.Native.Nat.{◌-◌}
 use lib.ListN.{take}
-use Rattle.form_rows.proofs.Auto.{on, done}
-use borrow.Author.Rules.{rules}
 use Rattle.meaning.specs.Evaluate.{names_right}
 use Rattle.text_names.specs.Joint.{joint}
 use Rattle.modules.specs.Modules.{names_module, declared, named_in, picked, heads_in}
-use Rattle.module_names.proofs.Cases.{scans}
 use Rattle.module_names.proofs.names_right.Given as goal
 
 abbrev pub invariant-loop-j : goal.invariant-loop-j

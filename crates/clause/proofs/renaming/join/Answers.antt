@@ -1,5 +1,4 @@
 use Rattle.clause.proofs.renaming.Cases.{cases}
-use borrow.Author.Rules.{rules}
 use Rattle.clause.proofs.renaming.join.Goals as goal
 
 pub unite-u-requires : goal.unite-u-requires

@@ -1,5 +1,4 @@
 use Rattle.clause.proofs.renaming.Cases.{cases}
-use borrow.Author.Rules.{rules}
 use Rattle.clause.proofs.renaming.rename.Goals as goal
 
 pub renamed-requires : goal.renamed-requires

@@ -1,5 +1,4 @@
 use Rattle.own_completing.proofs.Notes.{notes}
-use borrow.Author.Rules.{rules}
 use Rattle.own_completing.proofs.hidden.join_hidden.Goals as goal
 
 pub unite_hidden_within-requires : goal.unite_hidden_within-requires

@@ -1,5 +1,4 @@
-use Rattle.own_completing.proofs.Notes.{Noting, notes}
-use Prim.Native.Nat.{◌-◌}
+use Rattle.own_completing.proofs.Notes.{notes}
 use Rattle.own_completing.proofs.hidden.note_same.Goals as goal
 
 pub loop-i-init : goal.loop-i-init

@@ -1,4 +1,4 @@
-use Rattle.own_completing.proofs.Notes.{Noting, notes}
+use Rattle.own_completing.proofs.Notes.{Noting}
 use Prim.Native.Nat.{◌-◌}
 use Rattle.own_completing.proofs.hidden.note_same.Given as goal
 

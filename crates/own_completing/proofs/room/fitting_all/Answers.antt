@@ -1,5 +1,4 @@
 use Rattle.own_completing.proofs.Rooms.{rooms}
-use borrow.Author.Rules.{rules}
 use Rattle.own_completing.proofs.room.fitting_all.Goals as goal
 
 pub returns-in-Stop : goal.returns-in-Stop

@@ -1,5 +1,4 @@
 use Rattle.own_completing.proofs.Forms.{forms}
-use borrow.Author.Rules.{rules}
 use Rattle.own_completing.proofs.said.join_made.Goals as goal
 
 pub join_said-requires : goal.join_said-requires
