@@ -2,12 +2,12 @@
 use mathlib.Core.Path.{◌≡◌}
 use mathlib.Core.Bool.{Bool, true, false}
 use mathlib.Core.List.{List, ◌++◌}
-use Prim.Native.Nat.{ℕ, ◌+◌, ◌-◌, ◌<◌, ◌≤◌}
+use Prim.Native.Nat.{ℕ, ◌<◌, ◌≤◌}
 use native.Mathlib.Omega.{arith}
 use borrow.Author.Rules.{rules}
 use borrow.Author.Tests.{eq-eqb, ne_eqb, le-leb, lt-leb}
-use lib.ListN.{length, take}
-use Rattle.meaning.specs.Lists.{pick, each}
+use lib.ListN.{take}
+use Rattle.meaning.specs.Lists.{pick}
 use Rattle.meaning.specs.Names.{bytes}
 use Rattle.meaning.specs.Written.{digits, decimal}
 use Rattle.meaning.specs.Answer as Meaning
@@ -15,7 +15,6 @@ use Rattle.list_pen.specs.Pen.{Pen, pen, written}
 use Rattle.list_pen.proofs.Laws.{then}
 use Rattle.answer.specs.declared.Name.{Name}
 use Rattle.answer.specs.declared.Answer.{Answer}
-use Rattle.answer.specs.Answers as Answers
 use Rattle.answer_lines.specs.Lines.{line_of, spelled, actual_text, marked_place, refusal_text, answer_text}
 
 -- ---- lines: p is where the pen stands before, q after

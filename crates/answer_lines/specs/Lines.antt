@@ -1,7 +1,6 @@
 -- The lines of an answer as the code has it (meaning/specs/Answer.antt).
-use Rattle.std.specs.Prelude.{ℕ, ◌+◌, Bool, List, [], ◌++◌, eqb, length, take}
+use Rattle.std.specs.Prelude.{ℕ, Bool, List, [], ◌++◌, eqb, take}
 use Rattle.meaning.specs.Lists.{pick}
-use Rattle.meaning.specs.Names as Names
 use Rattle.meaning.specs.Names.{bytes}
 use Rattle.meaning.specs.Numbers.{accepted}
 use Rattle.meaning.specs.Written.{decimal}

@@ -1,6 +1,6 @@
 -- The values and names of an answer, laid over what is lent for them. What has no room is left out.
 use Rattle.std.specs.Prelude.{ℕ, ◌+◌, List, [], ◌∷◌, length}
-use Rattle.values_c.specs.Values.{laid, bit_of}
+use Rattle.values_c.specs.Values.{bit_of}
 use Rattle.list_pen.specs.Pen.{pen, written}
 use Rattle.answer.specs.declared.Name.{Name}
 use Rattle.answer.specs.declared.Answer.{Answer}

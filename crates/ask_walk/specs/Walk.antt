@@ -1,6 +1,6 @@
 -- Two sets of modules by their numbers, walked upwards in pairs, in terms of two tapes (ask_decision/specs/Decide.antt). All of it is total,
 -- whatever the tapes and their heads say.
-use Rattle.std.specs.Prelude.{ℕ, zero, suc, ◌-◌, Bool, List, [], ◌∷◌}
+use Rattle.std.specs.Prelude.{ℕ, zero, suc, Bool, List, [], ◌∷◌}
 use Rattle.std.proofs.Math.Option.{Option, none, some}
 use Rattle.meaning.specs.Lists.{pick, agree, or_else}
 use Rattle.meaning.specs.Names.{Name}

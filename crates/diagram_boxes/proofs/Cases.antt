@@ -1,24 +1,23 @@
 -- One law for each way through the code, in the code's terms: r, b and w are callees' answers.
-use mathlib.Core.Path.{◌≡◌, refl, sym, ap, ◌∙◌}
+use mathlib.Core.Path.{◌≡◌, refl, ap, ◌∙◌}
 use mathlib.Core.Bool.{Bool, true, false}
 use mathlib.Core.List.{List, [], ◌∷◌, ◌++◌, map}
-use Prim.Native.Nat.{ℕ, zero, suc, ◌+◌, ◌-◌, ◌<◌, ◌≤◌}
+use Prim.Native.Nat.{ℕ, suc, ◌+◌, ◌-◌, ◌<◌, ◌≤◌}
 use native.Mathlib.Omega.{arith}
 use native.Mathlib.Numerals.{add-one}
 use borrow.Author.Rules.{rules}
 use borrow.Author.Tests.{eq-eqb, ne_eqb, lt-ltb, le-ltb}
 use lib.ListN.{length, get_or}
 use Rattle.meaning.specs.Lists.{pick}
-use Rattle.meaning.specs.Names.{bytes, Name}
-use Rattle.meaning.specs.Listing.{Line}
+use Rattle.meaning.specs.Names.{bytes}
 use Rattle.text_names.specs.Word.{name_of}
 use Rattle.form_rows.specs.Entries.{role_at, word_at}
 use Rattle.modules.specs.Modules.{Heads, picked}
 use Rattle.modules.proofs.Cases.{picked_none, picked_other, picked_here}
-use Rattle.diagram_meaning.specs.Diagram.{Binding, box_line, parameter_line, bind_line}
+use Rattle.diagram_meaning.specs.Diagram.{box_line, parameter_line, bind_line}
 use Rattle.diagram_lines.specs.Sheet.{Drawing, drawing, drew, named_line}
 use Rattle.diagram_lines.specs.Laws.{Going, drew_then, going_start, going_on, going_by, going_end}
-use Rattle.diagram_boxes.specs.Boxes.{is_parameter, bindings_from, begin_of, end_of, box_lines}
+use Rattle.diagram_boxes.specs.Boxes.{is_parameter, bindings_from, box_lines}
 
 -- ---- parameters: those from j on are to be drawn
 

@@ -1,12 +1,12 @@
 -- The parameters and the import expressions of a module laid flat (tape/specs/Tape.antt).
-use Rattle.std.specs.Prelude.{◌≡◌, refl, ℕ, ◌<◌, ◌≤◌, Bool, true, false, List, [], ◌∷◌, ◌++◌, map, eqb, ltb}
-use Rattle.std.proofs.Common.{sym, ap, ◌∙◌, arith, append_assoc, append-nil, ne_eqb, lt-ltb, le-ltb}
+use Rattle.std.specs.Prelude.{◌≡◌, refl, ℕ, ◌≤◌, Bool, true, false, List, [], ◌∷◌, ◌++◌, map, eqb, ltb}
+use Rattle.std.proofs.Common.{sym, ap, ◌∙◌, arith, append_assoc, append-nil, ne_eqb}
 use Rattle.std.proofs.lemmas.Bool.{false≢true}
 use Rattle.meaning.specs.Lists.{pick, each}
 use Rattle.meaning.specs.Names.{Name}
 use Rattle.meaning.specs.Syntax.{Function, Signature, Parameter, Pair, Clause, renamed_by, bound_by, Import, VariableGroup, Equation, Module}
 use Rattle.tape.specs.Tape.{Entry, entry, parameter_role, import_role, renamed_role, bound_role, actual_role, export_sort, export_function, hidden_sort, hidden_function, flat_function, flat_signature, flat_parameter, flat_pair, flat_clause, flat_import, flat_group, flat_equation, flat_module}
-use Rattle.tape.specs.Roles.{All, behind_parameters, behind_name, all_append, all_signature, all_parameters, all_groups, all_clauses, all_equations, all_behind_parameters}
+use Rattle.tape.specs.Roles.{All, behind_parameters, all_append, all_signature, all_parameters, all_groups, all_clauses, all_equations, all_behind_parameters}
 use Rattle.form_walks.specs.Flat.{names_with, names_append, names_each, names_none}
 use Rattle.diagram_meaning.specs.Diagram.{Binding, Expression, clause_bindings, expression_of, expressions_of}
 use Rattle.diagram_boxes.specs.Boxes.{is_parameter}

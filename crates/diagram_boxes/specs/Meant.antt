@@ -1,20 +1,19 @@
 -- A tape that spells modules: what a diagram shows of module k there is what it shows of the module.
-use Rattle.std.specs.Prelude.{◌≡◌, Bool, true, false, List, [], ◌∷◌, ◌++◌, map, get_or, take, drop, eqb}
+use Rattle.std.specs.Prelude.{◌≡◌, List, [], ◌∷◌, ◌++◌, map, take, drop}
 use Rattle.std.proofs.Math.Path.{refl, sym, ap}
 use Rattle.std.proofs.Common.{◌∙◌, drop-cons}
 use Prim.Native.Nat.{ℕ, zero, suc, ◌+◌, ◌-◌, ◌<◌, ◌≤◌}
 use native.Mathlib.Omega.{arith}
 use Rattle.std.proofs.Math.ListN.{length, length-map, length-take, length-drop}
-use Rattle.meaning.specs.Lists.{pick}
 use Rattle.meaning.specs.Names.{Name}
 use Rattle.meaning.specs.Syntax.{Parameter, Module}
 use Rattle.text_names.specs.Word.{name_of, no_name}
 use Rattle.tape.specs.Tape.{Entry, flat_module, flat_modules, spelled}
-use Rattle.form_rows.specs.Entries.{role_at, word_at, name_at}
+use Rattle.form_rows.specs.Entries.{word_at, name_at}
 use Rattle.form_walks.specs.Flat.{names_with}
 use Rattle.modules.specs.Modules.{Heads, picked}
 use Rattle.modules.specs.ModuleLaws.{Spells, begin, end, module_entries}
-use Rattle.diagram_meaning.specs.Diagram.{Binding, Expression, expressions_of}
+use Rattle.diagram_meaning.specs.Diagram.{expressions_of}
 use Rattle.diagram_boxes.specs.Boxes.{is_parameter, bindings_from, expressions_from, begin_of, end_of}
 use Rattle.diagram_boxes.specs.Flat.{bindings_in, expressions_in, flat_parameters, flat_expressions}
 

@@ -1,13 +1,13 @@
 -- The lines that are drawn are those of the answer, or there are too many, or they are too long for the lent output.
-use Rattle.std.specs.Prelude.{◌≡◌, Bool, ltb, take}
+use Rattle.std.specs.Prelude.{◌≡◌, Bool, ltb}
 use Rattle.std.proofs.Math.Path.{refl, sym, ap, ap₂}
 use Rattle.std.proofs.Common.{◌∙◌, length-take-le}
-use Prim.Native.Nat.{ℕ, zero, suc, ◌+◌, ◌-◌, ◌<◌, ◌≤◌, min}
+use Prim.Native.Nat.{ℕ, suc, ◌+◌, ◌-◌, ◌<◌, ◌≤◌, min}
 use native.Mathlib.Omega.{arith}
 use Rattle.std.proofs.Math.Nat.{zero-add}
 use Rattle.std.proofs.Math.Bool.{true, false}
 use mathlib.Core.List.{List, [], ◌∷◌, ◌++◌}
-use borrow.Author.Tests.{lt-ltb, le-ltb, le-leb, lt-leb, ltb-true, ltb-false}
+use borrow.Author.Tests.{lt-ltb, le-leb, lt-leb, ltb-true, ltb-false}
 use Rattle.std.proofs.Math.Dec.{leb}
 use Rattle.std.proofs.Math.ListN.{length, drop}
 use Rattle.meaning.specs.Lists.{pick, before, each}
@@ -25,7 +25,7 @@ use Rattle.form.specs.Memory.{part}
 use Rattle.form_layout.specs.Layout.{tape_end}
 use Rattle.tape.specs.Tape.{flat_modules}
 use Rattle.list_pen.specs.Pen.{Pen, pen, written}
-use Rattle.list_pen.proofs.Laws.{written_append, count_over, count_fits, laid, reached, none_written}
+use Rattle.list_pen.proofs.Laws.{written_append, count_over, count_fits, laid, reached}
 use Rattle.modules.specs.Modules.{Heads, HeadsOf, declared}
 use Rattle.modules.specs.ModuleLaws.{Spells, heads_number, declared_names}
 use Rattle.modules.specs.Members.{member_found, member_absent}
@@ -34,17 +34,15 @@ use Rattle.modules.specs.ReachedLaws.{names_distinct, names_number}
 use Rattle.answer.specs.declared.Answer.{Answer}
 use Rattle.answer.specs.Answers.{held, told, told_listed}
 use Rattle.answer.specs.Told.{short_name}
-use Rattle.ask_names.specs.Steps.{Spoken}
 use Rattle.diagram_meaning.specs.Diagram.{diagram_limit, diagram, Expression, own_lines, expressions_of, drawn}
 use Rattle.diagram_meaning.specs.Answer.{of_drawing}
 use Rattle.diagram_meaning.specs.Bounded as Bounded
 use Rattle.diagram_meaning.proofs.Bounded.{drawn_whole, drawn_over, drawn_absent}
 use Rattle.diagram_lines.specs.Sheet.{line_limit, Drawing, drawing, one_more, drew_line, drew}
 use Rattle.diagram_lines.specs.Laws.{drew_full}
-use Rattle.diagram_boxes.specs.Boxes.{bindings_from, begin_of, box_lines}
-use Rattle.diagram_open.specs.Numbers.{earlier, Number, numbered, diagram_number}
-use Rattle.diagram_open.specs.Open.{rest}
-use Rattle.diagram_open.specs.Turns.{drew_kept, Walking, Starting, Walked, top_lines, read_modules, modules_in, box_meant, rest_meant, start_within}
+use Rattle.diagram_boxes.specs.Boxes.{bindings_from}
+use Rattle.diagram_open.specs.Numbers.{earlier, numbered, diagram_number}
+use Rattle.diagram_open.specs.Turns.{drew_kept, Starting, Walked, top_lines, read_modules, modules_in, box_meant, rest_meant, start_within}
 use Rattle.diagram_lent.specs.Drawn.{Drawn, Ready, Asked}
 
 -- ---- lines that are drawn are written

@@ -1,18 +1,16 @@
 -- What is drawn for an expression of module k, by the number of the module that it names (diagram_meaning/specs/Diagram.antt).
 use Rattle.std.specs.Prelude.{◌≡◌, Bool, true, eqb, length, get_or, take, drop}
 use Rattle.std.proofs.Math.Path.{refl, ap}
-use Rattle.std.proofs.Common.{sym, ◌∙◌, arith, add-one, eqb-true, take-add, take_all}
-use Prim.Native.Nat.{ℕ, zero, suc, ◌+◌, ◌-◌, ◌<◌, ◌≤◌}
+use Rattle.std.proofs.Common.{sym, ◌∙◌, arith, eqb-true, take-add, take_all}
+use Prim.Native.Nat.{ℕ, zero, suc, ◌+◌, ◌<◌, ◌≤◌}
 use Rattle.std.proofs.Math.Bool.{false}
-use mathlib.Core.List.{List, [], ◌∷◌, ◌++◌, map}
+use mathlib.Core.List.{List, [], ◌∷◌, ◌++◌}
 use Rattle.std.proofs.lemmas.Bool.{eqb-false}
-use Rattle.std.proofs.lemmas.List.{length-map}
 use Rattle.meaning.specs.Lists.{pick, before, each}
 use Rattle.meaning.specs.Names.{Name, same}
 use Rattle.meaning.specs.OrderLaws.{same_self}
 use Rattle.meaning.specs.Syntax.{Module}
 use Rattle.meaning.specs.Reached.{module_names}
-use Rattle.meaning.specs.Listing.{Line}
 use Rattle.modules.specs.ReachedLaws.{Distinct, found_name, names_apart, names_number, drop_some}
 use Rattle.diagram_meaning.specs.Diagram.{Expression, expressions_of, asked_expression, absent_line, own_lines, drawn, latest_first, diagram}
 

@@ -1,11 +1,11 @@
 -- What is still to be drawn while boxes are open: of each its module's number and the place from which its expressions are left stand in two words.
-use Rattle.std.specs.Prelude.{◌≡◌, Bool, eqb, length, get_or}
+use Rattle.std.specs.Prelude.{◌≡◌, Bool, eqb, get_or}
 use Rattle.std.proofs.Math.Path.{refl, ap, ap₂}
-use Rattle.std.proofs.Common.{sym, ◌∙◌, add-one}
+use Rattle.std.proofs.Common.{sym, ◌∙◌}
 use Prim.Native.Nat.{ℕ, zero, suc, ◌+◌, ◌-◌, ◌*◌, ◌<◌, ◌≤◌}
 use native.Mathlib.Omega.{arith}
 use Rattle.std.proofs.Math.Bool.{true, false}
-use mathlib.Core.List.{List, [], ◌∷◌, ◌++◌, map}
+use mathlib.Core.List.{List, [], ◌∷◌, ◌++◌}
 use Rattle.meaning.specs.Lists.{pick, each}
 use Rattle.meaning.specs.Syntax.{Module}
 use Rattle.meaning.specs.Listing.{Line}
@@ -13,7 +13,7 @@ use Rattle.tape.specs.Tape.{import_role}
 use Rattle.form_rows.specs.Entries.{role_at, name_at, next_with}
 use Rattle.modules.specs.Modules.{Heads}
 use Rattle.diagram_meaning.specs.Diagram.{Expression, drawn}
-use Rattle.diagram_boxes.specs.Boxes.{bindings_from, expressions_from, begin_of, end_of}
+use Rattle.diagram_boxes.specs.Boxes.{bindings_from, expressions_from, end_of}
 use Rattle.diagram_open.specs.Numbers.{earlier}
 
 -- the expression at place e of a module that ends at `end`

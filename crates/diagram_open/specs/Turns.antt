@@ -1,14 +1,14 @@
 -- The turns of the walk: what holds while boxes are open, and what a turn leaves.
 use Rattle.std.specs.Prelude.{◌≡◌, Bool, eqb, ltb, take, drop, set}
 use Rattle.std.proofs.Math.Path.{refl, sym, ap, ap₂}
-use Rattle.std.proofs.Common.{◌∙◌, add-one, eqb-true, take-append-drop, length-take-le}
+use Rattle.std.proofs.Common.{◌∙◌, eqb-true, take-append-drop, length-take-le}
 use Prim.Native.Nat.{ℕ, zero, suc, ◌+◌, ◌-◌, ◌*◌, ◌<◌, ◌≤◌}
 use native.Mathlib.Omega.{arith}
 use Rattle.std.proofs.Math.Bool.{true, false}
 use Rattle.std.proofs.lemmas.Bool.{eqb-false}
 use mathlib.Core.List.{List, [], ◌∷◌, ◌++◌, map, append_assoc, append-nil}
 use Rattle.std.proofs.Math.ListN.{length, get_or, length-set}
-use Rattle.std.proofs.lemmas.List.{length-map, take-set-le}
+use Rattle.std.proofs.lemmas.List.{take-set-le}
 use Rattle.std.proofs.lemmas.List.Edits.{sets}
 use Rattle.std.proofs.Math.Seq.{length-sets, get_or-set_same, get_or-set_other}
 use Rattle.meaning.specs.Lists.{pick, before, each}
@@ -18,13 +18,13 @@ use Rattle.meaning.specs.Reached.{module_names}
 use Rattle.meaning.specs.Listing.{Line, line_text}
 use Rattle.meaning.specs.Texts.{two_texts, Reading, all_read, refused_in, read_texts}
 use Rattle.laws.specs.Distinct.{Fresh}
-use Rattle.text_names.specs.Word.{name_of, no_name}
+use Rattle.text_names.specs.Word.{name_of}
 use Rattle.tape.specs.Tape.{import_role}
 use Rattle.form.specs.Memory.{part}
 use Rattle.form_rows.specs.Entries.{word_at, name_at, next_with}
 use Rattle.modules.specs.Modules.{Heads, declared, picked}
-use Rattle.modules.specs.ModuleLaws.{Spells, heads_number, declared_names}
-use Rattle.modules.specs.ReachedLaws.{names_distinct, names_number, drop_some}
+use Rattle.modules.specs.ModuleLaws.{Spells, declared_names}
+use Rattle.modules.specs.ReachedLaws.{names_distinct, drop_some}
 use Rattle.diagram_meaning.specs.Diagram.{Expression, expressions_of, absent_line, own_lines, parameter_line, bind_line, box_line, drawn}
 use Rattle.diagram_lines.specs.Sheet.{line_limit, Drawing, drawing, one_more, drew_line, drew, named_line}
 use Rattle.list_pen.specs.Pen.{pen, written}

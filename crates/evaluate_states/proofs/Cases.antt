@@ -1,7 +1,7 @@
 -- One law for each way through the code.
 use mathlib.Core.Path.{◌≡◌, ap}
 use mathlib.Core.List.{List}
-use Prim.Native.Nat.{ℕ, ◌+◌, ◌-◌}
+use Prim.Native.Nat.{ℕ, ◌+◌}
 use borrow.Author.Rules.{rules}
 use Rattle.form.specs.declared.Form.{Form}
 use Rattle.form.specs.declared.Made.TheVariants.{Done}

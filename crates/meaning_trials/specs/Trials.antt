@@ -1,6 +1,6 @@
 -- The trials that document 01 marks proved: L and eleven of 004's appendix, each with all that the program prints, as one table under one
 -- theorem.
-use Rattle.std.specs.Prelude.{◌≡◌, refl, ◌⊎◌}
+use Rattle.std.specs.Prelude.{◌≡◌, refl}
 use Rattle.std.proofs.Common.{sym, subst, inl, inr}
 use Prim.Native.String.{String}
 use mathlib.Core.List.Memᴰ

@@ -14,7 +14,7 @@ use Rattle.meaning.specs.Syntax.{Module}
 use Rattle.meaning.specs.Grammar.{Result}
 use Rattle.meaning.specs.Grammar
 use Rattle.meaning.specs.Reached.{module_names}
-use Rattle.meaning.specs.Texts.{two_texts, Reading, refused_in, behind, read_behind, library_first, read_texts}
+use Rattle.meaning.specs.Texts.{two_texts, refused_in, behind, read_behind, library_first, read_texts}
 use Rattle.meaning.specs.OrderLaws.{Every}
 use Rattle.laws.specs.EveryLaws.{every_append}
 use Rattle.invariants.specs.Limits.{text_few}

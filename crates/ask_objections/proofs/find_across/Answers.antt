@@ -1,12 +1,6 @@
 -- `ask_objections::find_across` meets its contract.
 -- Assumes nothing.
-use Prim.Native.Nat.{◌-◌}
-use Rattle.meaning.specs.Names.{same}
-use Rattle.text_names.specs.Word.{name_of}
-use Rattle.text_names.specs.Joint.{joint}
-use borrow.Author.Rules.{rules}
-use Rattle.modules.proofs.Cases.{numbers, Seeking}
-use Rattle.modules.specs.Modules.{heads_in}
+use Rattle.modules.proofs.Cases.{numbers}
 use Rattle.ask_objections.proofs.find_across.Goals as goal
 
 pub loop-k-init : goal.loop-k-init

@@ -4,8 +4,7 @@ use Prim.Native.Nat.{◌-◌}
 use Rattle.meaning.specs.Names.{same}
 use Rattle.text_names.specs.Word.{name_of}
 use Rattle.text_names.specs.Joint.{joint}
-use borrow.Author.Rules.{rules}
-use Rattle.modules.proofs.Cases.{numbers, Seeking}
+use Rattle.modules.proofs.Cases.{Seeking}
 use Rattle.modules.specs.Modules.{heads_in}
 use Rattle.ask_objections.proofs.find_across.Given as goal
 

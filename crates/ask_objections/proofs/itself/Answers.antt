@@ -1,7 +1,6 @@
 -- `ask_objections::itself` meets its contract.
 -- Assumes nothing.
 use Rattle.ask_objections.proofs.Cases.{cases}
-use borrow.Author.Rules.{rules}
 use Rattle.ask_objections.proofs.itself.Goals as goal
 
 pub returns-then-same_module : goal.returns-then-same_module

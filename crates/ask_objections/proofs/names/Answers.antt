@@ -1,10 +1,6 @@
 -- `ask_objections::names` meets its contract.
 -- Assumes nothing.
-use Prim.Native.Nat.{◌-◌}
-use Rattle.text_names.specs.Joint.{joint}
-use borrow.Author.Rules.{rules}
-use Rattle.ask_objections.proofs.Cases.{Rest, names}
-use Rattle.modules.specs.Modules.{heads_in}
+use Rattle.ask_objections.proofs.Cases.{names}
 use Rattle.ask_objections.proofs.names.Goals as goal
 
 pub loop-j-init : goal.loop-j-init

@@ -2,8 +2,7 @@
 -- Assumes nothing.
 use Prim.Native.Nat.{◌-◌}
 use Rattle.text_names.specs.Joint.{joint}
-use borrow.Author.Rules.{rules}
-use Rattle.ask_objections.proofs.Cases.{Rest, names}
+use Rattle.ask_objections.proofs.Cases.{Rest}
 use Rattle.modules.specs.Modules.{heads_in}
 use Rattle.ask_objections.proofs.names.Given as goal
 

@@ -1,5 +1,4 @@
 use Rattle.ask_objections.proofs.Cases.{cases}
-use borrow.Author.Rules.{rules}
 use Rattle.ask_objections.proofs.objection_in.Goals as goal
 
 pub returns-then-pass-eq0 : goal.returns-then-pass-eq0

@@ -1,7 +1,6 @@
 -- `ask_objections::otherwise` meets its contract.
 -- Assumes nothing.
 use Rattle.ask_objections.proofs.Cases.{cases}
-use borrow.Author.Rules.{rules}
 use Rattle.ask_objections.proofs.otherwise.Goals as goal
 
 pub returns-then-same_wherever : goal.returns-then-same_wherever

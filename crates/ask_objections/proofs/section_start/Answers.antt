@@ -1,8 +1,7 @@
 -- `ask_objections::section_start` meets its contract.
 -- Assumes nothing.
-use Prim.Native.Nat.{◌-◌}
 use borrow.Author.Rules.{rules}
-use Rattle.ask_objections.proofs.Cases.{Sections, few_counted, places}
+use Rattle.ask_objections.proofs.Cases.{few_counted, places}
 use Rattle.ask_objections.proofs.section_start.Goals as goal
 
 pub loop-s-init : goal.loop-s-init

@@ -1,8 +1,7 @@
 -- `ask_objections::section_start` meets its contract.
 -- Assumes nothing.
 use Prim.Native.Nat.{◌-◌}
-use borrow.Author.Rules.{rules}
-use Rattle.ask_objections.proofs.Cases.{Sections, few_counted, places}
+use Rattle.ask_objections.proofs.Cases.{Sections}
 use Rattle.ask_objections.proofs.section_start.Given as goal
 
 abbrev pub invariant-loop-s : goal.invariant-loop-s

@@ -1,7 +1,6 @@
 -- `ask_objections::shown` meets its contract.
 -- Assumes nothing.
 use Rattle.ask_objections.proofs.Cases.{shows}
-use borrow.Author.Rules.{rules}
 use Rattle.ask_objections.proofs.shown.Goals as goal
 
 pub returns-then-same_there-3 : goal.returns-then-same_there-3

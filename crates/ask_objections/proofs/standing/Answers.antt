@@ -1,6 +1,5 @@
 -- `ask_objections::standing` meets its contract.
 -- Assumes nothing.
-use borrow.Author.Rules.{rules}
 use Rattle.ask_objections.proofs.Cases.{places}
 use Rattle.ask_objections.proofs.standing.Goals as goal
 

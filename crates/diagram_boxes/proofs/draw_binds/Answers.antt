@@ -1,7 +1,5 @@
 -- `diagram_boxes::draw_binds` meets its contract. Assumes nothing.
-use Prim.Native.Nat.{◌-◌}
-use Rattle.text_names.specs.Joint.{joint}
-use Rattle.diagram_boxes.proofs.Cases.{binds, Bindings}
+use Rattle.diagram_boxes.proofs.Cases.{binds}
 use Rattle.diagram_boxes.proofs.draw_binds.Goals as goal
 
 pub loop-j-init : goal.loop-j-init

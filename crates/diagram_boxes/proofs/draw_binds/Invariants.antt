@@ -1,7 +1,7 @@
 -- `diagram_boxes::draw_binds` meets its contract. Assumes nothing.
 use Prim.Native.Nat.{◌-◌}
 use Rattle.text_names.specs.Joint.{joint}
-use Rattle.diagram_boxes.proofs.Cases.{binds, Bindings}
+use Rattle.diagram_boxes.proofs.Cases.{Bindings}
 use Rattle.diagram_boxes.proofs.draw_binds.Given as goal
 
 abbrev pub invariant-loop-j : goal.invariant-loop-j

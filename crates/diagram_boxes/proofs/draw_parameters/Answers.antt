@@ -1,7 +1,5 @@
 -- `diagram_boxes::draw_parameters` meets its contract. Assumes nothing.
-use Prim.Native.Nat.{◌-◌}
-use Rattle.text_names.specs.Joint.{joint}
-use Rattle.diagram_boxes.proofs.Cases.{parameters, Parameters}
+use Rattle.diagram_boxes.proofs.Cases.{parameters}
 use Rattle.diagram_boxes.proofs.draw_parameters.Goals as goal
 
 pub loop-j-init : goal.loop-j-init

@@ -1,7 +1,7 @@
 -- `diagram_boxes::draw_parameters` meets its contract. Assumes nothing.
 use Prim.Native.Nat.{◌-◌}
 use Rattle.text_names.specs.Joint.{joint}
-use Rattle.diagram_boxes.proofs.Cases.{parameters, Parameters}
+use Rattle.diagram_boxes.proofs.Cases.{Parameters}
 use Rattle.diagram_boxes.proofs.draw_parameters.Given as goal
 
 abbrev pub invariant-loop-j : goal.invariant-loop-j

@@ -2,7 +2,6 @@
 -- Assumes nothing.
 use Rattle.list.specs.Lines.{listing_text}
 use Rattle.list.proofs.Cases.{cases}
-use borrow.Author.Rules.{rules}
 use Rattle.list.proofs.put_listing.Goals as goal
 
 pub returns : goal.returns

@@ -1,7 +1,6 @@
 -- `read_modules::fresh_name` meets its contract.
 -- Assumes nothing.
 use Rattle.read_modules.proofs.Cases.{cases}
-use borrow.Author.Rules.{rules}
 use Rattle.read_modules.proofs.fresh_name.Goals as goal
 
 pub returns-then-again : goal.returns-then-again

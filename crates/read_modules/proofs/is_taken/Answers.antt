@@ -1,11 +1,7 @@
 -- `read_modules::is_taken` meets its contract. The entries before i declare no module with the name.
 -- Assumes nothing.
-use mathlib.Core.Path.{◌≡◌}
-use Prim.Native.Nat.{◌-◌}
-use lib.ListN.{take, drop}
-use Rattle.meaning.specs.Lists.{any}
 use Rattle.text_names.proofs.Auto.{on, done}
-use Rattle.read_steps.specs.Model.{declares, taken}
+use Rattle.read_steps.specs.Model.{taken}
 use Rattle.read_modules.proofs.Cases.{cases}
 use Rattle.read_modules.proofs.is_taken.Goals as goal
 

@@ -4,9 +4,7 @@ use mathlib.Core.Path.{◌≡◌}
 use Prim.Native.Nat.{◌-◌}
 use lib.ListN.{take, drop}
 use Rattle.meaning.specs.Lists.{any}
-use Rattle.text_names.proofs.Auto.{on, done}
 use Rattle.read_steps.specs.Model.{declares, taken}
-use Rattle.read_modules.proofs.Cases.{cases}
 use Rattle.read_modules.proofs.is_taken.Given as goal
 
 abbrev pub invariant-loop-i : goal.invariant-loop-i

@@ -1,10 +1,8 @@
 -- `read_modules::read_modules` meets its contract. The loop keeps what is to be read: what was at first comes to what is now.
 -- Assumes nothing.
 use Rattle.read_steps.specs.Model.{modules}
-use borrow.Author.Rules.{rules}
-use Rattle.read_steps.proofs.Lists.{Comes, sized}
+use Rattle.read_steps.proofs.Lists.{Comes}
 use Rattle.read_known.specs.Known.{named_so}
-use Rattle.read_modules.proofs.Cases.{rounds}
 use Rattle.read_modules.proofs.read_modules.Given as goal
 
 abbrev pub invariant-loop-left : goal.invariant-loop-left

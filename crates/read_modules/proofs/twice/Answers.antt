@@ -1,7 +1,6 @@
 -- `read_modules::twice` meets its contract.
 -- Assumes nothing.
 use Rattle.read_modules.proofs.Cases.{cases}
-use borrow.Author.Rules.{rules}
 use Rattle.read_modules.proofs.twice.Goals as goal
 
 pub returns-in-Refused : goal.returns-in-Refused

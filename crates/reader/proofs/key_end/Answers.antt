@@ -1,9 +1,5 @@
 -- `reader::key_end` meets its contract.
 -- Assumes nothing.
-use mathlib.Core.Path.{◌≡◌}
-use Prim.Native.Nat.{◌-◌}
-use lib.ListN.{length}
-use Rattle.meaning.specs.Tokens.{run_end}
 use Rattle.meaning.specs.Reader.{in_key}
 use Rattle.text_names.proofs.Auto.{on, done}
 use Rattle.text_names.proofs.Runs.{run_on, run_stop, run_ends}

@@ -1,10 +1,7 @@
 -- `reader::visible_end` meets its contract: what is left of the front is passed as the whole is.
 -- Assumes nothing.
 use mathlib.Core.Path.{◌≡◌}
-use Rattle.text_names.proofs.Auto.{on, done}
 use Rattle.reader.specs.Visible.{front_end, visible_end}
-use Rattle.reader.proofs.Front.{front_start, front_on, front_off, front_out}
-use borrow.Author.Rules.{rules}
 use Rattle.reader.proofs.visible_end.Given as goal
 
 abbrev pub invariant-loop-left : goal.invariant-loop-left

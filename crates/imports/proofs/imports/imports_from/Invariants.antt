@@ -1,8 +1,6 @@
 -- `imports::imports::imports_from` meets its contract. Assumes nothing.
-use borrow.Author.Rules.{rules}
 use Rattle.text_names.specs.Joint.{joint}
-use Rattle.imports.specs.Expressions.{ImportsGoing, imports_start, imports_ended, imports_none, imports_stop, imports_again}
-use Rattle.imports.specs.Expressions.{imports_tape, import_room, union_room}
+use Rattle.imports.specs.Expressions.{ImportsGoing}
 use Rattle.modules.specs.Modules.{heads_in}
 use Rattle.imports.proofs.imports.imports_from.Given as goal
 

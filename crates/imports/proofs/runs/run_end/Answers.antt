@@ -1,6 +1,5 @@
 -- `imports::runs::run_end` meets its contract. Assumes nothing.
-use Prim.Native.Nat.{◌-◌}
-use Rattle.imports.proofs.Cases.{cases, Walking}
+use Rattle.imports.proofs.Cases.{cases}
 use Rattle.imports.proofs.runs.run_end.Goals as goal
 
 pub overflow_cast-end : goal.overflow_cast-end

@@ -1,6 +1,6 @@
 -- `imports::runs::run_end` meets its contract. Assumes nothing.
 use Prim.Native.Nat.{◌-◌}
-use Rattle.imports.proofs.Cases.{cases, Walking}
+use Rattle.imports.proofs.Cases.{Walking}
 use Rattle.imports.proofs.runs.run_end.Given as goal
 
 abbrev pub invariant-loop-j : goal.invariant-loop-j

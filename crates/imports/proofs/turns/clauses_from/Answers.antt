@@ -1,8 +1,6 @@
 -- `imports::turns::clauses_from` meets its contract. Assumes nothing.
-use Rattle.text_names.specs.Joint.{joint}
-use Rattle.imports.specs.Clausal.{ClausesGoing, clauses_again}
+use Rattle.imports.specs.Clausal.{clauses_again}
 use Rattle.imports.proofs.Cases.{cases}
-use Rattle.modules.specs.Modules.{heads_in}
 use Rattle.imports.proofs.turns.clauses_from.Goals as goal
 
 pub loop-n-init : goal.loop-n-init

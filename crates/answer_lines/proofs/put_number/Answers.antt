@@ -1,0 +1,7 @@
+-- `answer_lines::put_number` meets its contract.
+-- Assumes nothing.
+use Rattle.answer_lines.proofs.Cases.{cases}
+use Rattle.answer_lines.proofs.put_number.Goals as goal
+
+pub returns : goal.returns
+returns c = search cases

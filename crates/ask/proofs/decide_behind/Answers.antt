@@ -1,0 +1,26 @@
+-- `ask::decide_behind` meets its contract. Assumes nothing.
+use Rattle.ask.specs.Lying.{second_refused}
+use Rattle.ask.proofs.Cases.{reading_second}
+use borrow.Author.Rules.{rules}
+use Rattle.ask.proofs.decide_behind.Goals as goal
+
+pub slice_bounds-read_both-end : goal.slice_bounds-read_both-end
+slice_bounds-read_both-end c = search reading_second
+
+pub read_both-requires : goal.read_both-requires
+read_both-requires c = search reading_second
+
+pub slice_bounds-decide_read-end : goal.slice_bounds-decide_read-end
+slice_bounds-decide_read-end c = search reading_second
+
+pub overflow_add-end-in-Done : goal.overflow_add-end-in-Done
+overflow_add-end-in-Done c = search reading_second
+
+pub slice_bounds-decide_read-end-in-Done : goal.slice_bounds-decide_read-end-in-Done
+slice_bounds-decide_read-end-in-Done c = search reading_second
+
+pub decide_read-requires : goal.decide_read-requires
+decide_read-requires c = search reading_second
+
+pub returns-in-Refused : goal.returns-in-Refused
+returns-in-Refused c = search (second_refused, c.nameless.ensures, c.in_library-1.given, c.read_both.ensures, c.requires, rules)

@@ -1,0 +1,21 @@
+-- `ask_walk::next_member` meets its contract. Assumes nothing.
+use Rattle.ask_walk.proofs.Walking.{seeking}
+use Rattle.ask_walk.proofs.next_member.Goals as goal
+
+pub loop-k-init : goal.loop-k-init
+loop-k-init c = search seeking
+
+pub returns-then-has : goal.returns-then-has
+returns-then-has c = search seeking
+
+pub overflow_add-k : goal.overflow_add-k
+overflow_add-k c = search seeking
+
+pub loop-k-smaller : goal.loop-k-smaller
+loop-k-smaller c = search seeking
+
+pub loop-k-preserved : goal.loop-k-preserved
+loop-k-preserved c = search seeking
+
+pub returns : goal.returns
+returns c = search seeking
