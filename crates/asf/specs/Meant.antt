@@ -45,11 +45,9 @@ use Rattle.evaluate_turns.specs.Turns.{EndsAs, Given, AllTurned}
 use Rattle.answer_listing.specs.Answered.{Evaluated}
 use Rattle.asf.specs.Steps.{Spoken, Found, Refusing, Holding, SoughtAs, ModuleSought}
 use Rattle.asf.specs.declared.Sought.{Sought}
-use Rattle.asf.specs.declared.Sought.TheVariants as Sought
 use Rattle.evaluate_turns.specs.ByNumber.{name_there}
 use Rattle.meaning.specs.Reached as Reached
 use Rattle.read_both.specs.Both as TwoTexts
-use Rattle.evaluate_turns.specs.declared.Ended.TheVariants as Ended
 
 -- ---- what is read
 

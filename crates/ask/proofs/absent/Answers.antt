@@ -1,6 +1,5 @@
 -- `ask::absent` meets its contract. Assumes nothing.
 use Rattle.ask.proofs.Cases.{answering}
-use borrow.Author.Rules.{rules}
 use Rattle.ask.proofs.absent.Goals as goal
 
 pub returns : goal.returns

@@ -1,6 +1,5 @@
 -- `ask::decide` meets its contract. Assumes nothing.
 use Rattle.ask.proofs.Cases.{calling}
-use borrow.Author.Rules.{rules}
 use Rattle.ask.proofs.decide.Goals as goal
 
 pub returns-then-work-size : goal.returns-then-work-size

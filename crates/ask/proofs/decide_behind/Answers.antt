@@ -23,4 +23,4 @@ pub decide_read-requires : goal.decide_read-requires
 decide_read-requires c = search reading_second
 
 pub returns-in-Refused : goal.returns-in-Refused
-returns-in-Refused c = search (second_refused, c.nameless.ensures, c.in_library-1.given, c.read_both.ensures, c.requires, rules)
+returns-in-Refused c = search (second_refused, c.nameless.ensures, c.in-Refused.is, c.read_both.ensures, c.requires, rules)

@@ -1,6 +1,5 @@
 -- `ask::decide_from` meets its contract. Assumes nothing.
 use Rattle.ask.proofs.Cases.{comparing_texts}
-use borrow.Author.Rules.{rules}
 use Rattle.ask.proofs.decide_from.Goals as goal
 
 pub slice_bounds-decide_read-end : goal.slice_bounds-decide_read-end

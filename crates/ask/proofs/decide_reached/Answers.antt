@@ -1,6 +1,5 @@
 -- `ask::decide_reached` meets its contract. Assumes nothing.
 use Rattle.ask.proofs.Cases.{deciding_sets}
-use borrow.Author.Rules.{rules}
 use Rattle.ask.proofs.decide_reached.Goals as goal
 
 pub returns : goal.returns

@@ -1,6 +1,5 @@
 -- `ask::decide_sets` meets its contract. Assumes nothing.
 use Rattle.ask.proofs.Cases.{deciding_sets}
-use borrow.Author.Rules.{rules}
 use Rattle.ask.proofs.decide_sets.Goals as goal
 
 pub returns-in-Against : goal.returns-in-Against

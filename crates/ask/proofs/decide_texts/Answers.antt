@@ -1,6 +1,5 @@
 -- `ask::decide_texts` meets its contract. Assumes nothing.
 use Rattle.ask.proofs.Cases.{reading_first}
-use borrow.Author.Rules.{rules}
 use Rattle.ask.proofs.decide_texts.Goals as goal
 
 pub slice_bounds-read_both-end : goal.slice_bounds-read_both-end

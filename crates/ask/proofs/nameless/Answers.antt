@@ -1,6 +1,5 @@
 -- `ask::nameless` meets its contract. Assumes nothing.
 use Rattle.ask.proofs.Cases.{answering}
-use borrow.Author.Rules.{rules}
 use Rattle.ask.proofs.nameless.Goals as goal
 
 pub returns : goal.returns

@@ -1,6 +1,5 @@
 -- `ask::objected` meets its contract. Assumes nothing.
 use Rattle.ask.proofs.Cases.{answering}
-use borrow.Author.Rules.{rules}
 use Rattle.ask.proofs.objected.Goals as goal
 
 pub returns-then-in_new : goal.returns-then-in_new

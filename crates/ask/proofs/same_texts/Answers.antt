@@ -1,6 +1,5 @@
 -- `ask::same_texts` meets its contract. Assumes nothing.
 use Rattle.ask.proofs.Cases.{comparing_texts}
-use borrow.Author.Rules.{rules}
 use Rattle.ask.proofs.same_texts.Goals as goal
 
 pub returns-then-same_bytes : goal.returns-then-same_bytes
