@@ -1,5 +1,5 @@
 -- An answer as the code has it is printed as document 01 prints the answer itself.
-use Rattle.std.specs.Prelude.{◌≡◌, ℕ, ◌+◌, Bool, eqb, length, take}
+use Rattle.std.specs.Prelude.{◌≡◌, ℕ, Bool, eqb, length, take}
 use Rattle.std.proofs.Math.Path.{refl, ap}
 use Rattle.std.proofs.Common.{sym, le-leb}
 use Rattle.std.proofs.Math.Bool.{true, false}

@@ -8,7 +8,6 @@ use Rattle.meaning.specs.Numbers.{text_size, memory_size, program_output, over_s
 use Rattle.meaning.specs.Checks.{lone}
 use Rattle.meaning.specs.Answer as Meaning
 use Rattle.list_pen.specs.Pen.{pen, written}
-use Rattle.answer.specs.declared.Name.{Name}
 use Rattle.answer.specs.declared.Answer.{Answer}
 use Rattle.answer.specs.Answers.{told}
 
