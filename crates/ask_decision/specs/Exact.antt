@@ -1,4 +1,5 @@
--- The decision is exact: it keeps where the premises of demand 3 hold but for acceptance, and nowhere else, and it names the modules that changed.
+-- The decision is exact: it keeps where the premises of demand 3 hold but for acceptance, and nowhere else, and it names the modules that changed
+-- (proofs/Exact.antt).
 use Rattle.std.specs.Prelude.{◌≡◌, ℕ, false, ltb, length}
 use Rattle.std.proofs.Common.{arith}
 use Rattle.std.proofs.Math.Bool.{Bool, true}

@@ -1,4 +1,5 @@
--- The decision on small specifications, computed; and a part that is held through two edits, with one module asked after each.
+-- The decision on small specifications, computed; and two edits through which a part is held, with one module asked after each
+-- (proofs/Samples.antt).
 use Rattle.std.specs.Prelude.{◌≡◌, refl, ℕ, true, false, List, [], ◌∷◌}
 use Rattle.meaning.specs.Names.{bytes}
 use Rattle.meaning.specs.Numbers.{memory_size, program_output, no_token_there, not_allowed, clashing}

@@ -138,14 +138,14 @@ module _ (text : List ℕ) where
   unfoldable pub input_type : Parser (List Name)
   input_type = if_next (is arrow) (return []) (separated argument_limit (byte "#") is_name name)
 
-  -- `-◌`
+  -- `-_`
   unfoldable pub prefix_operator : Parser Name
   prefix_operator = do
     o ← bare_operator
     expect (byte "_")
     return (prefix_name o)
 
-  -- `◌+◌`
+  -- `_+_`
   unfoldable pub infix_operator : Parser Name
   infix_operator = do
     expect (byte "_")

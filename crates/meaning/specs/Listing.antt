@@ -83,7 +83,7 @@ hidden_lines h = hidden_item_lines h.items 1 h.items ++ map (equation_line h.ite
 unfoldable pub listing_lines : Name → Normal → List Line
 listing_lines m n = line "module" m ∷ (visible_lines n.visible ++ (hidden_lines n.hidden ++ (line "end" m ∷ [])))
 
--- ---- the visible lines: those whose key stands before `hidden_sort` in this order, with the origins that follow them
+-- ---- the visible lines: those whose key stands before `hidden-sort` in this order, with the origins that follow them
 
 unfoldable pub visible_keys : List Name
 visible_keys = take (before (same (bytes "hidden-sort")) listing_keys) listing_keys

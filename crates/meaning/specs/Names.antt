@@ -68,7 +68,7 @@ weights (other b ∷ es) = 1 ∷ b ∷ weights es
 unfoldable pub not_after : Name → Name → Bool
 not_after v w = bytes_not_after (weights (elements v)) (weights (elements w))
 
--- ---- an operator's name has its underlines, as listings write it: `-◌` and `◌+◌` are two names
+-- ---- an operator's name has its underlines, as listings write it: `-_` and `_+_` are two names
 
 unfoldable pub prefix_name : Name → Name
 prefix_name o = o ++ bytes "_"

@@ -3,7 +3,7 @@ use Rattle.std.specs.Prelude.{List, [], ◌∷◌, ◌++◌, map}
 use Rattle.meaning.specs.Lists.{each}
 use Rattle.meaning.specs.Names.{Name, infix_name}
 
--- `f : A # B -> C`; without inputs, a constant. An operator's name has its underlines: `◌+◌ : A # B -> C`
+-- `f : A # B -> C`; without inputs, a constant. An operator's name has its underlines: `_+_ : A # B -> C`
 pub record Function : Type 0 where
   pub name : Name
   pub inputs : List Name
@@ -41,7 +41,7 @@ pub record Variable : Type 0 where
   pub name : Name
   pub sort : Name
 
--- a name and its arguments: none for an identifier that stands alone. `a + b` is the name `◌+◌` with two
+-- a name and its arguments: none for an identifier that stands alone. `a + b` is the name `_+_` with two
 mutual
   pub data Term : Type 0 where
     node : Name → Terms → Term
@@ -60,7 +60,7 @@ pub record Operand : Type 0 where
   pub operator : Name
   pub right : Term
 
--- `a + b - c` joins to the left: `◌-◌(◌+◌(a,b),c)`
+-- `a + b - c` joins to the left: `_-_(_+_(a,b),c)`
 unfoldable pub joined_left : Term → List Operand → Term
 joined_left t [] = t
 joined_left t (o ∷ os) = joined_left (node (infix_name o.operator) (terms (t ∷ o.right ∷ []))) os

@@ -1,4 +1,4 @@
--- The modules reached in the one text, standing alike and in the same order in the other, are all that the other reaches: the proof of Enough.antt.
+-- The modules reached in the one text, standing alike and in the same order in the other, are all that the other reaches: the proof for `Enough`.
 use Rattle.std.specs.Prelude.{◌≡◌, ℕ, ◌+◌, Bool, ◌&&◌}
 use Rattle.std.proofs.Math.Path.{refl, sym, ap, ap₂}
 use Rattle.std.proofs.Common.{subst, ◌∙◌, inl, inr}

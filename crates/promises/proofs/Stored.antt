@@ -1,4 +1,4 @@
--- When a stored visible part may be kept (docs/CACHE.md): demand 3 in the words of the desk. The premises are those of Enough.antt.
+-- When a stored visible part may be kept (docs/CACHE.md): demand 3 in the words of the desk. The premises are those of `Enough`.
 use Rattle.std.specs.Prelude.{◌⊎◌, ℕ, List}
 use Rattle.std.proofs.Common.{sym, ◌∙◌, inl, inr}
 use Rattle.meaning.specs.Answer.{Answer}

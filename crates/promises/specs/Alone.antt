@@ -1,5 +1,6 @@
 -- Demand 3 where "accepted" is read of a module asked by itself: a module that is accepted in one call of a specification is so in another, room
--- apart; so if each other reached module is answered 0 when it is asked, a refusal of the asked module's call is its own, or 18.
+-- apart; so if each other reached module is answered 0 when it is asked, a refusal of the asked module's call is its own, or 18
+-- (proofs/Alone.antt).
 use Rattle.std.specs.Prelude.{◌≡◌, ◌⊎◌, Bool, true, false, not, ◌&&◌, ℕ, ◌+◌}
 use Rattle.std.proofs.Math.Path.{refl, sym, ap}
 use Rattle.std.proofs.Common.{◌∙◌, subst, ⊎_elim, inl, inr}

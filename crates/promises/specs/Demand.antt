@@ -104,7 +104,7 @@ Demand3 OthersAccepted =
     → (memory memory' output output' : ℕ) → Agreeing (answer memory output asked texts) (answer memory' output' asked texts')
 
 -- ---- the premises from less: it is enough that the modules reached in the one text stand in the other, in the same order, and look alike there.
--- Then the other reaches no more, as Reaches.antt proves
+-- Then the other reaches no more, as proofs/Reaches.antt proves
 
 -- all modules of a specification in their places, reached or not
 unfoldable pub placed_among : ℕ → List Name → List Module → List Placed

@@ -1,4 +1,4 @@
--- The proof of demand 3. How a call ends, room apart: the reached modules in turn over visible parts alone. Without room nothing depends on who
+-- What the proof of demand 3 (proofs/Demanded.antt) stands on. How a call ends, room apart: the reached modules in turn over visible parts alone. Without room nothing depends on who
 -- is asked, and 18 does not occur; so two calls end alike where each reached module is the same, or accepted in both.
 use Rattle.std.specs.Prelude.{◌≡◌, refl, ◌⊎◌, ℕ, suc, ◌+◌, true, false, List, [], ◌∷◌, map, length}
 use Rattle.std.proofs.Common.{sym, ap, subst, ◌∙◌, inl, inr, arith}

@@ -1,4 +1,4 @@
--- When a stored visible part may be kept (docs/CACHE.md): demand 3 in the words of the desk. The premises are those of Enough.antt.
+-- When a stored visible part may be kept (docs/CACHE.md): demand 3 in the words of the desk. The premises are those of `Enough`.
 use Rattle.std.specs.Prelude.{◌≡◌, ◌⊎◌, ℕ, List}
 use Rattle.meaning.specs.Names.{Name}
 use Rattle.meaning.specs.Numbers.{accepted}

@@ -1,4 +1,4 @@
--- The visible part of a listing, from its bytes alone (document 01, "The listing"): all lines whose key stands before `hidden_sort` in the
+-- The visible part of a listing, from its bytes alone (document 01, "The listing"): all lines whose key stands before `hidden-sort` in the
 -- order of keys, with the origins that follow them; so too where no hidden sort is listed.
 use Rattle.std.specs.Prelude.{ℕ, Bool, false, List, [], ◌∷◌, eqb}
 use Rattle.meaning.specs.Lists.{pick, each}

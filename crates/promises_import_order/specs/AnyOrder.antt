@@ -420,13 +420,13 @@ united_all tags (k ∷ ks) js n m good more u e =
 
 -- the forms `all`, accepted as w; those so far, js, united as n, and one more of them, k
 module _ (tags : ℕ → ℕ → Name) (all js : List Normal) (w n k : Normal) (whole : Unites all w) (u : Unites js n) (good : Every (Good tags) all)
-    (Some_of : Among js all) (one_of_lem : Memᴰ k all) where
+    (some_of : Among js all) (one_of : Memᴰ k all) where
   part_of : {A : Type 0} (part : Normal → List A) → Collects part all (part w) → Collects part js (part n) → Among (part n) (part w)
-  part_of part c d a m = let r = d.to a m in c.from r.0 (Some_of r.0 r.1) a r.2
+  part_of part c d a m = let r = d.to a m in c.from r.0 (some_of r.0 r.1) a r.2
 
   in_union : {A : Type 0} (one : A → A → Bool) (part : Normal → List A) → Collects part all (part w) → Collects part js (part n)
       → Among (union one (part n) (part k)) (part w)
-  in_union one part c d a m = ⊎_elim (λ l. part_of part c d a l) (λ l. c.from k one_of_lem a l) (union_of one (part n) (part k) a m)
+  in_union one part c d a m = ⊎_elim (λ l. part_of part c d a l) (λ l. c.from k one_of a l) (union_of one (part n) (part k) a m)
 
   fewer : {A : Type 0} (one : A → A → Bool) → ((a : A) → one a a ≡ true) → (part : Normal → List A) → Collects part all (part w)
       → Collects part js (part n) → length (union one (part n) (part k)) ≤ length (part w)
@@ -435,18 +435,18 @@ module _ (tags : ℕ → ℕ → Name) (all js : List Normal) (w n k : Normal) (
   -- a parameter of k that has the name of one of n's is that one
   meets : (p q : Slot) → Memᴰ p (slots n) → Memᴰ q (slots k) → p.name ≡ q.name → is_parameter_of n.visible k.visible q ≡ true
   meets p q m l e =
-      let one = once_told (slots w) whole.clear.once p q (part_of slots whole.parameters u.parameters p m) (whole.parameters.from k one_of_lem q l) e in
+      let one = once_told (slots w) whole.clear.once p q (part_of slots whole.parameters u.parameters p m) (whole.parameters.from k one_of q l) e in
       let r = u.parameters.to p m in
       one_is n.visible k.visible q origins (record {
         there = subst (λ (x : Slot). Memᴰ x (slots n)) one m;
-        to = λ i h a. whole.inside k one_of_lem q l i h (part_of items whole.visible u.visible i a);
+        to = λ i h a. whole.inside k one_of q l i h (part_of items whole.visible u.visible i a);
         from = λ i h b.
             u.visible.from r.0 r.1 i
-            (whole.inside r.0 (Some_of r.0 r.1) p r.2 i (ap (λ x. in_parameter x i.standing) e ∙ h) (whole.visible.from k one_of_lem i b));
+            (whole.inside r.0 (some_of r.0 r.1) p r.2 i (ap (λ x. in_parameter x i.standing) e ∙ h) (whole.visible.from k one_of i b));
       })
     where
       origins : OneOriginIn n.visible k.visible
-      origins x y m l = clear_one w.visible [] whole.clear x y (part_of items whole.visible u.visible x m) (whole.visible.from k one_of_lem y l)
+      origins x y m l = clear_one w.visible [] whole.clear x y (part_of items whole.visible u.visible x m) (whole.visible.from k one_of y l)
 
   once_again : Once (unite_visible n.visible k.visible)
   unfolding unite_visible
@@ -454,7 +454,7 @@ module _ (tags : ℕ → ℕ → Name) (all js : List Normal) (w n k : Normal) (
       let R : Slot → Slot → Type 0 = λ p q. same p.name q.name ≡ false in
       let stays : Slot → Bool = λ q. not (is_parameter_of n.visible k.visible q) in
       pairwise_joined R (slots n) (keep stays (slots k)) u.clear.once
-      (pairwise_kept R stays (slots k) (every_member (Good tags) all good k one_of_lem).once) (λ p q m l.
+      (pairwise_kept R stays (slots k) (every_member (Good tags) all good k one_of).once) (λ p q m l.
       let r = kept_member stays (slots k) l in
       go (same p.name q.name) p q refl m r.0 r.1)
     where
@@ -478,7 +478,7 @@ module _ (tags : ℕ → ℕ → Name) (all js : List Normal) (w n k : Normal) (
     where
       slots_in : Among (unite_visible n.visible k.visible).parameters (slots w)
       slots_in p m =
-          ⊎_elim (λ l. part_of slots whole.parameters u.parameters p l) (λ l. whole.parameters.from k one_of_lem p (kept_member _ (slots k) l).0)
+          ⊎_elim (λ l. part_of slots whole.parameters u.parameters p l) (λ l. whole.parameters.from k one_of p (kept_member _ (slots k) l).0)
           (Memᴰ.append_cases (slots n) m)
 
   goes_on : checked (unite n k) ≡ fine (unite n k)
@@ -490,12 +490,12 @@ united_again : (tags : ℕ → ℕ → Name) (all : List Normal) (w : Normal) �
 unfolding united ◌>>=◌
 united_again tags all w whole good [] js n s t u = (n, refl)
 united_again tags all w whole good (k ∷ ks) js n s t u =
-    let one_of_lem = s k (Memᴰ.head refl) in
-    let on = goes_on tags all js w n k whole u good t one_of_lem in
+    let one_of = s k (Memᴰ.head refl) in
+    let on = goes_on tags all js w n k whole u good t one_of in
     let c = checked_fine (unite n k) (unite n k) on in
-    let v = unites_more tags js n k u (every_among (Good tags) t good) (every_member (Good tags) all good k one_of_lem) c.0 c.1 in
+    let v = unites_more tags js n k u (every_among (Good tags) t good) (every_member (Good tags) all good k one_of) c.0 c.1 in
     rw on (united_again tags all w whole good ks (k ∷ js) (unite n k) (λ a m. s a (Memᴰ.tail m))
-    (λ a m. ⊎_elim (λ (e : a ≡ k). subst (λ (x : Normal). Memᴰ x all) (sym e) one_of_lem) (λ l. t a l) (Memᴰ.cases_cons m)) v)
+    (λ a m. ⊎_elim (λ (e : a ≡ k). subst (λ (x : Normal). Memᴰ x all) (sym e) one_of) (λ l. t a l) (Memᴰ.cases_cons m)) v)
 
 -- so two lists of the same forms are accepted alike, with one result but for order
 pub united_anyhow : (tags : ℕ → ℕ → Name) (ks ks' : List Normal) → SameSet ks ks' → Every (Good tags) ks → (n : Normal) → united empty ks ≡ fine n

@@ -1,5 +1,5 @@
 -- The proof: two names that change places, of which the second is used nowhere, and so takes the first one's place in the modules and in what they
--- evaluate to; then the answer of a call.
+-- evaluate to; then the answer of a call (proofs/Replaced.antt).
 use Rattle.std.specs.Prelude.{◌≡◌, ℕ, Bool}
 use Rattle.std.proofs.Math.Path.{refl, sym, ap, ap₂}
 use Rattle.std.proofs.Common.{◌∙◌, true≢false}

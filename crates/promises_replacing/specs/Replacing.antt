@@ -20,7 +20,7 @@ use Rattle.promises_replacing.specs.Changing.{re_module, re_normal, names_used}
 unfoldable pub replace : Name → Name → Name → Name
 replace o f w = pick (same w o) f w
 
--- one of the operator's two names, `-◌` or `◌-◌`, is replaced wherever it stands, in all modules and with all its types, by a plain name that
+-- one of the operator's two names, `-_` or `_-_`, is replaced wherever it stands, in all modules and with all its types, by a plain name that
 -- is used nowhere for a sort, a function or a variable. The new texts are read, so their sizes are kept, the depth of terms included
 pub record Replaced (operator plain : Name) (texts texts' : Texts) (ms : List Module) : Type 0 where
   pub is_one : is_operator operator ≡ true

@@ -6,7 +6,7 @@ use Rattle.reader.specs.declared.Line.{Line}
 use Rattle.reader.specs.declared.Line.TheVariants.{Keyed, End, Bad}
 use Rattle.reader.specs.Places.{key_number}
 
--- by the number of its key a line belongs to the front: before `hidden_sort`, 7, or after `end`, 11
+-- by the number of its key a line belongs to the front: before `hidden-sort`, 7, or after `end`, 11
 unfoldable pub in_front : ℕ → Bool
 in_front n = pick (ltb n 7) true (ltb 11 n)
 

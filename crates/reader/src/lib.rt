@@ -137,7 +137,7 @@ pub fn next_line(listing: &[u8], cursor: Cursor) -> Step
     }
 }
 
-// Does what was read belong to the front of the listing, where its visible lines stand? Those from `hidden_sort`, 7, to `end`, 11, do not.
+// Does what was read belong to the front of the listing, where its visible lines stand? Those from `hidden-sort`, 7, to `end`, 11, do not.
 fn is_front(line: Line) -> bool
     ensures { result ≡ is_front line }
 {

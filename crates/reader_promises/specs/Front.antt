@@ -10,7 +10,7 @@ use Rattle.reader.specs.Visible.{in_front, front_line, after, front_end, visible
 use Rattle.promises.specs.ListingLaws.{PlainLine}
 use Rattle.reader_promises.specs.Lines.{Gives, line_size, text_size, lines_past, lines_from}
 
--- the lines up to the first whose key stands from `hidden_sort` to `end` in the listing's order
+-- the lines up to the first whose key stands from `hidden-sort` to `end` in the listing's order
 unfoldable pub leading : List Line → List Line
 leading [] = []
 leading (l ∷ ls) = let more = l ∷ leading ls in pick (in_front (key_number l.key)) more []
