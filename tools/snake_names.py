@@ -14,6 +14,7 @@ import sys
 TOKEN = re.compile(r'"(?:[^"\\]|\\.)*"|`[^`\n]*`|[^\s(){}\[\],;.λ⌜⌝"`]+')
 KEBAB = re.compile(r"[A-Za-z_][\w']*(?:-[\w']+)+")
 USE = re.compile(r"^(?:ghost |pub )*use ([^\s{;]+?)(?:\.\{([^}]*)\})?;?\s*$", re.M)
+RULESET = re.compile(r"^(?:pub )?ruleset (\S+) =", re.M)
 HEAD = re.compile(r"^\s*(?:(?:unfoldable|abbrev|pub|reducible|constructor)\s+)*([^\s(){}:;]+)\s*:(?:\s|$)", re.M)
 
 def spelled(name):
@@ -57,7 +58,7 @@ def scan(root):
         text = open(path, encoding="utf-8").read()
         library |= imported(text, crates)
         if path.endswith(".antt") and not of_function(path):
-            heads |= {h for h in HEAD.findall(text) if KEBAB.fullmatch(h)}
+            heads |= {h for h in HEAD.findall(text) + RULESET.findall(text) if KEBAB.fullmatch(h)}
             for line in text.splitlines():
                 for t in TOKEN.findall(line[: comment_at(line)]):
                     if KEBAB.fullmatch(t):

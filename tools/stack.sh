@@ -1,7 +1,7 @@
 #!/usr/bin/env bash
 # Tells the most stack that a call of the library takes, over every vector, the texts that are timed and deep ones; c/stack.c says what counts.
 # stack.sh [native|all] [--limit BYTES] measures the archive in build/library or, with `native`, the one that tools/native_library.sh makes for
-# this machine, and fails where a call takes more than the limit. Under an emulator texts that take long are left out, but not with `all`.
+# aarch64, and fails where a call takes more than the limit. Under an emulator texts that take long are left out, but not with `all`.
 set -euo pipefail
 cd "$(dirname "$0")/.."
 library=build/library limit= long=

@@ -1,7 +1,7 @@
 #!/usr/bin/env bash
 # Times of the library beside those of the reference, as a table (times.sh [HOW OFTEN]), and those of a decision whether a part may be kept beside
-# those of a call. On x86-64 the archive of build/library is timed; on another machine, where its programs run under an emulator, that of
-# build/native: run tools/native_library.sh first.
+# those of a call. On x86-64 the archive of build/library is timed; on aarch64, where its programs run under an emulator, that of build/native,
+# which tools/native_library.sh makes on x86-64.
 set -euo pipefail
 cd "$(dirname "$0")/.."
 library=build/library

@@ -1,5 +1,5 @@
 -- What is checked before a binding, and what each step of it leaves (meaning/specs/Clauses.antt, `bind`).
-use Rattle.std.specs.Prelude.{◌≡◌, true, false, not, List, [], ℕ, ◌+◌, length}
+use Rattle.std.specs.Prelude.{◌≡◌, true, false, List, [], ℕ, ◌+◌, length}
 use Rattle.std.proofs.Math.Option.{none}
 use Rattle.meaning.specs.Names.{Name}
 use Rattle.meaning.specs.Numbers.{formal_unpaired}

@@ -12,7 +12,7 @@ use Rattle.meaning.specs.Names.{member}
 use Rattle.meaning.specs.Syntax.{Pair}
 use Rattle.meaning.specs.Origins.{Item, in_parameter}
 use Rattle.meaning.specs.Normal.{names_in, is_called}
-use Rattle.meaning.specs.Checks.{Check, ◌>>◌, rules as refused_unless, each_beside}
+use Rattle.meaning.specs.Checks.{Check, ◌>>◌, needs as refused_unless, each_beside}
 use Rattle.meaning.specs.Clauses.{pair_right, pairs_right}
 use Rattle.meaning.specs.Numbers.{other_kind, other_type}
 use Rattle.text_names.specs.Word.{name_of}

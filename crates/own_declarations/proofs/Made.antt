@@ -30,7 +30,6 @@ use Rattle.own_declarations.specs.Sorts.{Ready, resolved_in}
 use Rattle.own_declarations.specs.Items.{resolved_at, resolved_from, own_shape, own_item, InputSorts, OwnSorts, OwnRow, is_own, own_count, own_items, Roomy, Put, Appended}
 use Rattle.own_declarations.specs.Frames.{item_same, count_short}
 use Rattle.own_declarations.specs.declared.Own.{Own}
-use Rattle.meaning.specs.Origins as meant
 
 -- ---- sorts
 

@@ -1,7 +1,6 @@
 -- What is visible stands visibly and is no variable, whatever is evaluated: renaming, binding, union and order keep it so.
 use Rattle.std.specs.Prelude.{◌≡◌, true, false, List, ℕ}
 use Rattle.std.proofs.Math.Path.{refl}
-use Rattle.meaning.specs.Lists.{union}
 use Rattle.meaning.specs.Names.{Name}
 use Rattle.meaning.specs.Syntax.{Signature, Import, Module}
 use Rattle.meaning.specs.Origins.{Section, export_section, parameter_section, FunctionType, Shape, sort_shape, function_shape, variable_shape, Item, one_item}

@@ -7,7 +7,7 @@ use native.Mathlib.Numerals.{add-one}
 use native.Mathlib.Omega.{arith}
 use borrow.Author.Rules.{rules}
 use lib.ListN.{length}
-use Rattle.meaning.specs.Lists.{pick, any, before, union}
+use Rattle.meaning.specs.Lists.{pick, any, union}
 use Rattle.meaning.specs.Origins.{Item, one_item}
 use Rattle.form_rows.specs.declared.Row.{Row}
 use Rattle.form_rows.specs.Rows.{item_of, row_size}

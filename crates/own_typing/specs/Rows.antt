@@ -9,7 +9,7 @@ use native.Mathlib.Omega.{arith}
 use Rattle.std.proofs.Math.ListN.{length}
 use Rattle.std.proofs.lemmas.List.{length-map}
 use Rattle.std.proofs.lemmas.List.Edits.{sets}
-use Rattle.meaning.specs.Lists.{pick, each}
+use Rattle.meaning.specs.Lists.{pick}
 use Rattle.meaning.specs.Syntax.{Equation, conditions_of}
 use Rattle.meaning.specs.Origins.{ResolvedSides, ResolvedEquation}
 use Rattle.meaning.specs.OrderLaws.{Every}

@@ -26,7 +26,7 @@ use Rattle.form.specs.declared.Made.{Made}
 use Rattle.form.specs.declared.Made.TheVariants.{Done, Refused}
 use Rattle.form.specs.Memory.{part, Kept}
 use Rattle.form.specs.FormLaws.{Apart, kept_all, kept_same, slots_same, items_same, items_split}
-use Rattle.form.specs.Forms.{items_at, node_row, node_of, node_in, nodes_of, flat_equation, equation_row_at, EquationStands, EquationsStand, node_item, VisiblePoint, HiddenPoint, Pointing, visible_at, equation_size, slot_size}
+use Rattle.form.specs.Forms.{items_at, node_row, node_of, node_in, nodes_of, equation_row_at, EquationStands, EquationsStand, node_item, VisiblePoint, HiddenPoint, Pointing, visible_at, equation_size, slot_size}
 use Rattle.form.specs.Verdicts.{lone_of}
 use Rattle.form.specs.Blocks.{Makes}
 use Rattle.own_finding.specs.declared.Known.{Known}

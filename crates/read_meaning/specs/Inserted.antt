@@ -12,7 +12,7 @@ use Rattle.meaning.specs.OrderLaws.{Every}
 use Rattle.read_steps.specs.declared.Place.{Place}
 use Rattle.tape.specs.Tape.{Entry, entries, spelled}
 use Rattle.read_steps.specs.Model.{place, pushed}
-use Rattle.read_meaning.specs.Matches.{Lies, Inside, Stands, Ready, Step, next_ready}
+use Rattle.read_meaning.specs.Matches.{Lies, Inside, Stands, Ready, Step}
 use Rattle.read_meaning.specs.Steps.{ends_within, forward}
 
 -- ---- what is pushed

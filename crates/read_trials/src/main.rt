@@ -4,8 +4,9 @@
 
 ghost use Rattle.std.specs.Prelude.{◌≤◌, length};
 
-use libc::{STDIN_FILENO, STDOUT_FILENO};
 use read_steps::Reading;
+use std::io;
+use std::io::{Read, Write};
 
 fn lesser(a: usize, b: usize) -> usize
     ensures upper_bound { result ≤ a }
@@ -52,55 +53,52 @@ fn number(digits: &[u8]) -> usize {
     value
 }
 
-fn told(a: usize, b: usize) {
-    io::write_all(STDOUT_FILENO, b" ");
-    io::print_decimal(STDOUT_FILENO, a as u64);
-    io::write_all(STDOUT_FILENO, b" ");
-    io::print_decimal(STDOUT_FILENO, b as u64);
-    io::write_all(STDOUT_FILENO, b"\n");
+fn told<W: Write>(output: &mut W, a: usize, b: usize) -> io::Result<()> {
+    writeln!(output, " {a} {b}")
 }
 
 // What reading says of one text.
-fn answer(text: &[u8]) {
+fn answer<W: Write>(output: &mut W, text: &[u8]) -> io::Result<()> {
     let mut tape = [0; 32768];
     let none = [0; 1];
     let r = read::read(text, &text[0..0], &none[0..0], 64, &mut tape);
     match r {
-        Reading::Done(p) => told(0, p.entries),
-        Reading::Refused { number, place } => told(wide(number), place),
+        Reading::Done(p) => told(output, 0, p.entries),
+        Reading::Refused { number, place } => told(output, wide(number), place),
     }
 }
 
 // The case whose line starts at `at`. The place behind its text.
-fn run_case(input: &[u8], at: usize) -> usize {
+fn run_case<W: Write>(output: &mut W, input: &[u8], at: usize) -> io::Result<usize> {
     let line = find(input, at, b'\n');
     if line < input.len() {
         let space = find(input, at, b' ');
-        io::write_all(STDOUT_FILENO, part(input, at, space));
+        output.write_all(part(input, at, space))?;
         let start = line + 1;
         let size = lesser(number(part(input, space, line)), input.len() - start);
         let end = start + size;
-        answer(part(input, start, end));
-        return end;
+        answer(output, part(input, start, end))?;
+        return Ok(end);
     }
-    input.len()
+    Ok(input.len())
 }
 
 // Every case. There are fewer than there are bytes.
-fn run(input: &[u8]) {
+fn run<W: Write>(output: &mut W, input: &[u8]) -> io::Result<()> {
     let mut at = 0;
     let mut left = input.len();
     while 0 < left {
         if input.len() <= at {
-            return;
+            return Ok(());
         }
-        at = run_case(input, at);
+        at = run_case(output, input, at)?;
         left -= 1;
     }
+    Ok(())
 }
 
-fn main() {
-    let mut input = [0; 262144];
-    let n = io::read_full(STDIN_FILENO, &mut input);
-    run(&input[..n]);
+fn main(rt: HostRuntime) -> io::Result<()> {
+    let mut input = Vec::new(rt.alloc());
+    rt.stdin().take(262144).read_to_end(&mut input)?;
+    run(&mut rt.stdout(), input.as_slice())
 }

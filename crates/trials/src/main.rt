@@ -5,7 +5,9 @@
 
 ghost use Rattle.std.specs.Prelude.{◌≤◌, length};
 
-use libc::{STDIN_FILENO, STDOUT_FILENO};
+use std::alloc::Global;
+use std::io;
+use std::io::{Read, Write};
 
 fn lesser(a: usize, b: usize) -> usize
     ensures upper_bound { result ≤ a }
@@ -64,18 +66,16 @@ fn first_difference(a: &[u8], b: &[u8]) -> usize {
 }
 
 // Is what was printed what must be? Prints what comes of the case, behind its name.
-fn compared(printed: &[u8], wanted: &[u8]) -> bool {
+fn compared<W: Write>(output: &mut W, printed: &[u8], wanted: &[u8]) -> io::Result<bool> {
     let place = first_difference(printed, wanted);
     if printed.len() == wanted.len() {
         if place == wanted.len() {
-            io::write_all(STDOUT_FILENO, b" ok\n");
-            return true;
+            output.write_all(b" ok\n")?;
+            return Ok(true);
         }
     }
-    io::write_all(STDOUT_FILENO, b" differs at ");
-    io::print_decimal(STDOUT_FILENO, place as u64);
-    io::write_all(STDOUT_FILENO, b"\n");
-    false
+    writeln!(output, " differs at {place}")?;
+    Ok(false)
 }
 
 // The response to the input, where the case's line says what is lent.
@@ -120,7 +120,14 @@ struct Ran {
 }
 
 // The case whose line starts at `at`.
-fn run_case(cases: &[u8], at: usize, work: &mut [u32], out: &mut [u8], page: &mut [u8]) -> Ran {
+fn run_case<W: Write>(
+    output: &mut W,
+    cases: &[u8],
+    at: usize,
+    work: &mut [u32],
+    out: &mut [u8],
+    page: &mut [u8],
+) -> io::Result<Ran> {
     let end = line_end(cases, at);
     let line = part(cases, at, end);
     let p = places_of(cases, line, end);
@@ -128,9 +135,9 @@ fn run_case(cases: &[u8], at: usize, work: &mut [u32], out: &mut [u8], page: &mu
     let printed = p.printed;
     let next = p.next;
     let size = respond(line, part(cases, input, printed), work, out, page);
-    io::write_all(STDOUT_FILENO, part(line, 32, line.len()));
-    let well = compared(part(page, 0, size), part(cases, printed, next));
-    Ran { well, next }
+    output.write_all(part(line, 32, line.len()))?;
+    let well = compared(output, part(page, 0, size), part(cases, printed, next))?;
+    Ok(Ran { well, next })
 }
 
 fn one_if(b: bool) -> usize
@@ -139,49 +146,52 @@ fn one_if(b: bool) -> usize
     if b { 1 } else { 0 }
 }
 
-fn told(good: usize, all: usize) {
-    io::print_decimal(STDOUT_FILENO, good as u64);
-    io::write_all(STDOUT_FILENO, b" of ");
-    io::print_decimal(STDOUT_FILENO, all as u64);
-    io::write_all(STDOUT_FILENO, b"\n");
+fn told<W: Write>(output: &mut W, good: usize, all: usize) -> io::Result<()> {
+    writeln!(output, "{good} of {all}")
 }
 
 // Every case. There are fewer than there are bytes.
-fn run(cases: &[u8], work: &mut [u32], out: &mut [u8], page: &mut [u8]) {
+fn run<W: Write>(
+    output: &mut W,
+    cases: &[u8],
+    work: &mut [u32],
+    out: &mut [u8],
+    page: &mut [u8],
+) -> io::Result<()> {
     let mut at = 0;
     let mut good = 0;
     let mut all = 0;
     while all < cases.len() {
         if cases.len() <= at {
-            told(good, all);
-            return;
+            return told(output, good, all);
         }
-        let ran = run_case(cases, at, work, out, page);
+        let ran = run_case(output, cases, at, work, out, page)?;
         let well = ran.well;
         at = ran.next;
         good += one_if(well);
         all += 1;
     }
-    told(good, all);
+    told(output, good, all)
 }
 
-fn run_with(cases: &[u8], work: &mut [u32; 1048576]) {
+fn run_with<W: Write>(output: &mut W, cases: &[u8], work: &mut [u32]) -> io::Result<()> {
     let mut out = [0; 65536];
     let mut page = [0; 65743];
-    run(cases, work, &mut out, &mut page);
+    run(output, cases, work, &mut out, &mut page)
 }
 
-fn run_all(cases: &[u8]) {
-    let mut work = [0; 1048576];
-    run_with(cases, &mut work);
+// The working memory is too large for the stack.
+fn run_all<W: Write>(alloc: Global, output: &mut W, cases: &[u8]) -> io::Result<()> {
+    let mut work = vec![in alloc; 0; 1048576]?;
+    run_with(output, cases, work.as_mut_slice())
 }
 
-fn run_read(cases: &mut [u8; 1048576]) {
-    let n = io::read_full(STDIN_FILENO, cases);
-    run_all(part(cases, 0, n));
+fn run_read<R: Read + Drop, W: Write>(alloc: Global, input: R, output: &mut W) -> io::Result<()> {
+    let mut cases = Vec::new(alloc);
+    input.take(1048576).read_to_end(&mut cases)?;
+    run_all(alloc, output, cases.as_slice())
 }
 
-fn main() {
-    let mut cases = [0; 1048576];
-    run_read(&mut cases);
+fn main(rt: HostRuntime) -> io::Result<()> {
+    run_read(rt.alloc(), rt.stdin(), &mut rt.stdout())
 }

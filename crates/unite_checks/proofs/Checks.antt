@@ -1,20 +1,17 @@
 -- The checks after a clause or a union, way by way.
 use mathlib.Core.Path.{◌≡◌, refl, sym, ap, ◌∙◌}
 use mathlib.Core.Bool.{Bool, true, false}
-use mathlib.Core.List.{List}
 use Prim.Native.Nat.{ℕ, ◌+◌}
 use borrow.Author.Rules.{rules}
-use lib.ListN.{length}
 use Rattle.meaning.specs.Lists.{pick}
 use Rattle.meaning.specs.Numbers.{parameter_room, item_room, equation_room, no_room}
 use Rattle.form.specs.declared.Form.{Form}
-use Rattle.form.specs.declared.Block.{Block}
 use Rattle.form.specs.declared.Culprit.{Culprit}
 use Rattle.form.specs.declared.Made.{Made}
 use Rattle.form.specs.declared.Made.TheVariants.{Done, Refused}
 use Rattle.form.specs.declared.Verdict.{Verdict}
 use Rattle.form.specs.declared.Verdict.TheVariants.{Fine, Stop}
-use Rattle.unite_checks.specs.Consistent.{nobody, within, Laid, Checked}
+use Rattle.unite_checks.specs.Consistent.{nobody, within}
 use Rattle.unite_checks.specs.Checked.{CheckRoom, enough, fitting, CheckedForm, order_laid, checked_stop, checked_fine}
 
 -- the form's verdict

@@ -1,6 +1,6 @@
 -- What comes of what is made: read back from `Makes`, and from one outcome to the next.
 use Rattle.std.specs.Prelude.{◌≡◌, refl, ℕ, List}
-use Rattle.std.proofs.Common.{sym, ap, ◌∙◌, subst}
+use Rattle.std.proofs.Common.{sym, subst}
 use Rattle.meaning.specs.Normal.{Normal}
 use Rattle.meaning.specs.Checks as Meaning
 use Rattle.meaning.specs.Checks.{Outcome, fine, stop, ◌>>=◌, ◌>>◌, Check}

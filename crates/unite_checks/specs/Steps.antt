@@ -1,5 +1,5 @@
 -- What a renaming, a binding and a union ask of places, and what comes of each (meaning/specs/Clauses.antt, Evaluate.antt).
-use Rattle.std.specs.Prelude.{◌≡◌, ℕ, ◌+◌, ◌≤◌, List}
+use Rattle.std.specs.Prelude.{ℕ, ◌+◌, ◌≤◌, List}
 use Rattle.meaning.specs.Normal.{Normal, unite, move}
 use Rattle.meaning.specs.Checks.{checked}
 use Rattle.meaning.specs.Clauses.{renaming, rename, bind}

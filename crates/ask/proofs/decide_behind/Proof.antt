@@ -1,6 +1,6 @@
 -- `ask::decide_behind` meets its contract. Assumes nothing.
 use Rattle.ask.specs.Lying.{second_refused}
-use Rattle.ask.proofs.Cases.{reading-second}
+use Rattle.ask.proofs.Cases.{reading_second}
 use borrow.Author.Rules.{rules}
 use Rattle.ask.proofs.decide_behind.Statement.{statement}
 use Rattle.ask.proofs.decide_behind.Tie as tie
@@ -15,20 +15,20 @@ decide-behind-spec =
     (λ c. search rules)  -- mul-read-both
     (λ c. search rules)  -- sub-read-both
     (λ c. search rules)  -- part-read-both-start
-    (λ c. search reading-second)  -- part-read-both-end
-    (λ c κs. search reading-second)  -- read-both-requires
+    (λ c. search reading_second)  -- part-read-both-end
+    (λ c κs. search reading_second)  -- read-both-requires
     (λ c. search rules)  -- enum-known-in-library
     (λ c κs. search rules)  -- nameless-requires
     (λ c. search rules)  -- enum-known-n
     (λ c. search rules)  -- sub-decide-read
     (λ c. search rules)  -- part-decide-read-start
-    (λ c. search reading-second)  -- part-decide-read-end
-    (λ c. search reading-second)  -- add-decide-read
+    (λ c. search reading_second)  -- part-decide-read-end
+    (λ c. search reading_second)  -- add-decide-read
     (λ c. search rules)  -- mul-decide-read
     (λ c. search rules)  -- sub-decide-read-2
     (λ c. search rules)  -- part-decide-read-start-2
-    (λ c. search reading-second)  -- part-decide-read-end-2
-    (λ c κs. search reading-second)  -- decide-read-requires
+    (λ c. search reading_second)  -- part-decide-read-end-2
+    (λ c κs. search reading_second)  -- decide-read-requires
     (λ c. search rules)  -- same-length
     (λ c.
     let told = c.before.before.before.before.before.before in

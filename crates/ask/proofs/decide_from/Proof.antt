@@ -1,5 +1,5 @@
 -- `ask::decide_from` meets its contract. Assumes nothing.
-use Rattle.ask.proofs.Cases.{comparing-texts}
+use Rattle.ask.proofs.Cases.{comparing_texts}
 use borrow.Author.Rules.{rules}
 use Rattle.ask.proofs.decide_from.Statement.{statement}
 use Rattle.ask.proofs.decide_from.Tie as tie
@@ -11,11 +11,11 @@ decide-from-spec =
     (λ c κs. search rules)  -- same-texts-requires
     (λ c. search rules)  -- sub-decide-read
     (λ c. search rules)  -- part-decide-read-start
-    (λ c. search comparing-texts)  -- part-decide-read-end
+    (λ c. search comparing_texts)  -- part-decide-read-end
     (λ c. search rules)  -- sub-decide-read-2
     (λ c. search rules)  -- part-decide-read-start-2
-    (λ c. search comparing-texts)  -- part-decide-read-end-2
-    (λ c κs. search comparing-texts)  -- decide-read-requires
+    (λ c. search comparing_texts)  -- part-decide-read-end-2
+    (λ c κs. search comparing_texts)  -- decide-read-requires
     (λ c. search rules)  -- same-length
     (λ c. search rules)  -- returns
     (λ c κs. search rules)  -- decide-behind-requires

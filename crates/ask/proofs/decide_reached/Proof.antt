@@ -1,5 +1,5 @@
 -- `ask::decide_reached` meets its contract. Assumes nothing.
-use Rattle.ask.proofs.Cases.{deciding-sets}
+use Rattle.ask.proofs.Cases.{deciding_sets}
 use borrow.Author.Rules.{rules}
 use Rattle.ask.proofs.decide_reached.Statement.{statement}
 use Rattle.ask.proofs.decide_reached.Tie as tie
@@ -11,5 +11,5 @@ decide-reached-spec =
     (λ c κs. search rules)  -- reached-requires
     (λ c κs. search rules)  -- reached-requires-2
     (λ c κs. search rules)  -- decide-sets-requires
-    (λ c. search deciding-sets)  -- returns
+    (λ c. search deciding_sets)  -- returns
     )

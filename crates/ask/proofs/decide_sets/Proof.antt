@@ -1,5 +1,5 @@
 -- `ask::decide_sets` meets its contract. Assumes nothing.
-use Rattle.ask.proofs.Cases.{deciding-sets}
+use Rattle.ask.proofs.Cases.{deciding_sets}
 use borrow.Author.Rules.{rules}
 use Rattle.ask.proofs.decide_sets.Statement.{statement}
 use Rattle.ask.proofs.decide_sets.Tie as tie
@@ -14,6 +14,6 @@ decide-sets-spec =
     (λ c. search rules)  -- enum-told
     (λ c κs. search rules)  -- changed-set-requires
     (λ c κs. search rules)  -- nameless-requires
-    (λ c. search deciding-sets)  -- returns
-    (λ c. search deciding-sets)  -- returns-2
+    (λ c. search deciding_sets)  -- returns
+    (λ c. search deciding_sets)  -- returns-2
     )

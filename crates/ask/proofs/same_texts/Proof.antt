@@ -1,5 +1,5 @@
 -- `ask::same_texts` meets its contract. Assumes nothing.
-use Rattle.ask.proofs.Cases.{comparing-texts}
+use Rattle.ask.proofs.Cases.{comparing_texts}
 use borrow.Author.Rules.{rules}
 use Rattle.ask.proofs.same_texts.Statement.{statement}
 use Rattle.ask.proofs.same_texts.Tie as tie
@@ -10,6 +10,6 @@ same-texts-spec =
     (tie.spec
     (λ c κs. search rules)  -- same-bytes-requires
     (λ c κs. search rules)  -- same-bytes-requires-2
-    (λ c. search comparing-texts)  -- returns
-    (λ c. search comparing-texts)  -- returns-2
+    (λ c. search comparing_texts)  -- returns
+    (λ c. search comparing_texts)  -- returns-2
     )

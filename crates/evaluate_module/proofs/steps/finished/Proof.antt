@@ -1,4 +1,4 @@
-use Rattle.evaluate_module.proofs.Cases.{last-cases}
+use Rattle.evaluate_module.proofs.Cases.{last_cases}
 use borrow.Author.Rules.{rules}
 use Rattle.evaluate_module.proofs.steps.finished.Statement.{statement}
 use Rattle.evaluate_module.proofs.steps.finished.Tie as tie
@@ -14,9 +14,9 @@ finished-spec =
     (λ c κs. search rules)  -- place-at-requires
     (λ c. search rules)  -- add-place-at
     (λ c κs. search rules)  -- place-at-requires-2
-    (λ c κs. search last-cases)  -- join-equations-requires
-    (λ c. search last-cases)  -- returns
-    (λ c. search last-cases)  -- returns-2
+    (λ c κs. search last_cases)  -- join-equations-requires
+    (λ c. search last_cases)  -- returns
+    (λ c. search last_cases)  -- returns-2
     (λ c. search rules)  -- same-length
-    (λ c. search last-cases)  -- returns-3
+    (λ c. search last_cases)  -- returns-3
     )

@@ -1,7 +1,6 @@
 -- `own_declarations::checks::lacks` meets its contract.
 -- Assumes nothing.
 use Rattle.own_declarations.proofs.Told.{checking}
-use borrow.Author.Rules.{rules}
 use Rattle.own_declarations.proofs.checks.lacks.Goals as goal
 
 pub returns-then-is_inside : goal.returns-then-is_inside

@@ -1,13 +1,11 @@
 -- `own_declarations::checks::lacks_one` meets its contract.
 -- Assumes nothing.
-use borrow.Author.Rules.{rules}
 use mathlib.Core.Path.{◌≡◌}
 use Prim.Native.Nat.{◌-◌}
 use Rattle.text_names.specs.Joint.{joint}
 use Rattle.form.specs.Memory.{part}
 use Rattle.own_repeats.specs.Scans.{found}
 use Rattle.own_declarations.specs.Checked.{lacks}
-use Rattle.own_declarations.proofs.Told.{checking}
 use Rattle.own_declarations.proofs.checks.lacks_one.Given as goal
 
 abbrev pub invariant-loop-j : goal.invariant-loop-j

@@ -1,7 +1,6 @@
 -- `own_declarations::checks::lacks_sort` meets its contract.
 -- Assumes nothing.
 use Rattle.own_declarations.proofs.Told.{checking}
-use borrow.Author.Rules.{rules}
 use Rattle.own_declarations.proofs.checks.lacks_sort.Goals as goal
 
 pub returns-then-is_function_role : goal.returns-then-is_function_role

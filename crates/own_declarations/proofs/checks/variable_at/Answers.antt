@@ -1,7 +1,6 @@
 -- `own_declarations::checks::variable_at` meets its contract.
 -- Assumes nothing.
 use Rattle.own_declarations.proofs.Told.{checking}
-use borrow.Author.Rules.{rules}
 use Rattle.own_declarations.proofs.checks.variable_at.Goals as goal
 
 pub returns-then-wrong_at : goal.returns-then-wrong_at

@@ -1,12 +1,5 @@
 -- `own_declarations::checks::variables_right` meets its contract.
 -- Assumes nothing.
-use borrow.Author.Rules.{rules}
-use mathlib.Core.Path.{◌≡◌}
-use Prim.Native.Nat.{◌-◌}
-use Rattle.text_names.specs.Joint.{joint}
-use Rattle.form.specs.Memory.{part}
-use Rattle.own_repeats.specs.Scans.{walked}
-use Rattle.own_declarations.specs.Checked.{variable_at}
 use Rattle.own_declarations.proofs.Told.{checking}
 use Rattle.own_declarations.proofs.checks.variables_right.Goals as goal
 

@@ -1,7 +1,6 @@
 -- `own_declarations::checks::wrong_at` meets its contract.
 -- Assumes nothing.
 use Rattle.own_declarations.proofs.Told.{checking}
-use borrow.Author.Rules.{rules}
 use Rattle.own_declarations.proofs.checks.wrong_at.Goals as goal
 
 pub returns-then-first_named-i : goal.returns-then-first_named-i

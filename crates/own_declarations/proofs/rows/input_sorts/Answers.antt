@@ -1,9 +1,6 @@
 -- `own_declarations::rows::input_sorts` meets its contract.
 -- Assumes nothing.
-use Prim.Native.Nat.{◌-◌}
-use Rattle.text_names.specs.Joint.{joint}
-use Rattle.form.specs.Memory.{part}
-use Rattle.own_declarations.proofs.Made.{making, Gathering}
+use Rattle.own_declarations.proofs.Made.{making}
 use Rattle.own_declarations.proofs.rows.input_sorts.Goals as goal
 
 pub loop-i-init : goal.loop-i-init

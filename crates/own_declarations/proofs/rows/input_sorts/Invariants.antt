@@ -3,7 +3,7 @@
 use Prim.Native.Nat.{◌-◌}
 use Rattle.text_names.specs.Joint.{joint}
 use Rattle.form.specs.Memory.{part}
-use Rattle.own_declarations.proofs.Made.{making, Gathering}
+use Rattle.own_declarations.proofs.Made.{Gathering}
 use Rattle.own_declarations.proofs.rows.input_sorts.Given as goal
 
 abbrev pub invariant-loop-i : goal.invariant-loop-i

@@ -2,7 +2,6 @@
 -- Assumes nothing.
 use Rattle.own_declarations.specs.Items.{own_role, is_own}
 use Rattle.laws_choices.specs.Choices.{choices}
-use borrow.Author.Rules.{rules}
 use Rattle.own_declarations.proofs.rows.is_own.Goals as goal
 
 pub returns-then-role-eq-VARIABLE : goal.returns-then-role-eq-VARIABLE

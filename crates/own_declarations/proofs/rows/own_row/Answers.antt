@@ -1,7 +1,6 @@
 -- `own_declarations::rows::own_row` meets its contract.
 -- Assumes nothing.
 use Rattle.own_declarations.proofs.Made.{making}
-use borrow.Author.Rules.{rules}
 use Rattle.own_declarations.proofs.rows.own_row.Goals as goal
 
 pub own_sorts-sorts-requires : goal.own_sorts-sorts-requires

@@ -1,9 +1,7 @@
 -- `own_declarations::rows::own_rows` meets its contract.
 -- Assumes nothing.
 use borrow.Author.Rules.{rules}
-use Prim.Native.Nat.{◌-◌}
-use Rattle.text_names.specs.Joint.{joint}
-use Rattle.own_declarations.proofs.Made.{making, Appending, append_put}
+use Rattle.own_declarations.proofs.Made.{making, append_put}
 use Rattle.own_declarations.proofs.rows.own_rows.Goals as goal
 
 pub loop-i-init : goal.loop-i-init

@@ -1,9 +1,8 @@
 -- `own_declarations::rows::own_rows` meets its contract.
 -- Assumes nothing.
-use borrow.Author.Rules.{rules}
 use Prim.Native.Nat.{◌-◌}
 use Rattle.text_names.specs.Joint.{joint}
-use Rattle.own_declarations.proofs.Made.{making, Appending, append_put}
+use Rattle.own_declarations.proofs.Made.{Appending}
 use Rattle.own_declarations.proofs.rows.own_rows.Given as goal
 
 abbrev pub invariant-loop-i : goal.invariant-loop-i

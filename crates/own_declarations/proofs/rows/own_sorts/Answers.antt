@@ -1,7 +1,6 @@
 -- `own_declarations::rows::own_sorts` meets its contract.
 -- Assumes nothing.
 use Rattle.own_declarations.proofs.Made.{making}
-use borrow.Author.Rules.{rules}
 use Rattle.own_declarations.proofs.rows.own_sorts.Goals as goal
 
 pub returns-then-kind-gt-VARIABLE : goal.returns-then-kind-gt-VARIABLE

@@ -2,7 +2,6 @@
 -- Assumes nothing.
 use Rattle.own_declarations.specs.Sorts.{declares_at}
 use Rattle.laws_choices.specs.Choices.{choices}
-use borrow.Author.Rules.{rules}
 use Rattle.own_declarations.proofs.sorts.declares_at.Goals as goal
 
 pub returns-then-is_named : goal.returns-then-is_named

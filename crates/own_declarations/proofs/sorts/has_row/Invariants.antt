@@ -1,13 +1,11 @@
 -- `own_declarations::sorts::has_row` meets its contract.
 -- Assumes nothing.
-use borrow.Author.Rules.{rules}
 use mathlib.Core.Path.{◌≡◌}
 use Prim.Native.Nat.{◌-◌}
 use Rattle.text_names.specs.Word.{name_of}
 use Rattle.text_names.specs.Joint.{joint}
 use Rattle.own_repeats.specs.Scans.{found}
 use Rattle.own_declarations.specs.Sorts.{is_row}
-use Rattle.own_declarations.proofs.Cases.{cases}
 use Rattle.own_declarations.proofs.sorts.has_row.Given as goal
 
 abbrev pub invariant-loop-i : goal.invariant-loop-i

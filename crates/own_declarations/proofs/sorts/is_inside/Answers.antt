@@ -1,7 +1,6 @@
 -- `own_declarations::sorts::is_inside` meets its contract.
 -- Assumes nothing.
 use Rattle.own_declarations.proofs.Cases.{cases}
-use borrow.Author.Rules.{rules}
 use Rattle.own_declarations.proofs.sorts.is_inside.Goals as goal
 
 pub returns-then-hidden_place-end : goal.returns-then-hidden_place-end

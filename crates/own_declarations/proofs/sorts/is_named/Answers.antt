@@ -1,7 +1,6 @@
 -- `own_declarations::sorts::is_named` meets its contract.
 -- Assumes nothing.
 use Rattle.own_declarations.proofs.Cases.{cases}
-use borrow.Author.Rules.{rules}
 use Rattle.own_declarations.proofs.sorts.is_named.Goals as goal
 
 pub returns-then-role_at-role : goal.returns-then-role_at-role

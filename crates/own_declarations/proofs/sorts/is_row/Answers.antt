@@ -1,7 +1,6 @@
 -- `own_declarations::sorts::is_row` meets its contract.
 -- Assumes nothing.
 use Rattle.own_declarations.proofs.Cases.{cases}
-use borrow.Author.Rules.{rules}
 use Rattle.own_declarations.proofs.sorts.is_row.Goals as goal
 
 pub returns-then-row_word-kind : goal.returns-then-row_word-kind

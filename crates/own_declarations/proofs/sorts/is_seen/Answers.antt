@@ -2,7 +2,6 @@
 -- Assumes nothing.
 use Rattle.own_declarations.specs.Sorts.{is_seen}
 use Rattle.laws_choices.specs.Choices.{choices}
-use borrow.Author.Rules.{rules}
 use Rattle.own_declarations.proofs.sorts.is_seen.Goals as goal
 
 pub returns-then-has_row : goal.returns-then-has_row

@@ -1,7 +1,6 @@
 -- `own_declarations::sorts::sort_word` meets its contract.
 -- Assumes nothing.
 use Rattle.own_declarations.proofs.Cases.{cases}
-use borrow.Author.Rules.{rules}
 use Rattle.own_declarations.proofs.sorts.sort_word.Goals as goal
 
 pub returns-then-is_seen : goal.returns-then-is_seen

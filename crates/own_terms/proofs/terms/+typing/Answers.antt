@@ -102,9 +102,9 @@ type_back-returns-then-sort-eq0 t c = back_ill _ _ _ _ _ _ _ _ _ c.loop-row.inva
 
 pub type_back-ascend-requires : goal.type_back-ascend-requires
 type_back-ascend-requires t c = (
-      back_long _ _ _ _ _ _ _ _ _ c.loop-row.invariant c.loop-row-test.true _ c.step_back.ensures _ _ _ c.type_operator-sort.ensures c.if-sort-eq0.false,
-      back_rises _ _ _ _ _ _ _ _ _ c.loop-row.invariant c.loop-row-test.true _ c.step_back.ensures _ _ _ c.type_operator-sort.ensures c.if-sort-eq0.false,
-    )
+  back_long _ _ _ _ _ _ _ _ _ c.loop-row.invariant c.loop-row-test.true _ c.step_back.ensures _ _ _ c.type_operator-sort.ensures c.if-sort-eq0.false,
+  back_rises _ _ _ _ _ _ _ _ _ c.loop-row.invariant c.loop-row-test.true _ c.step_back.ensures _ _ _ c.type_operator-sort.ensures c.if-sort-eq0.false,
+)
 
 pub type_back-loop-row-smaller : goal.type_back-loop-row-smaller
 type_back-loop-row-smaller t c = back_fewer _ _ _ _ _ _ _ _ _ c.loop-row.invariant c.loop-row-test.true _ c.step_back.ensures _ _ _ c.type_operator-sort.ensures c.if-sort-eq0.false _
@@ -137,14 +137,14 @@ type_deep-returns-then-first-eq0 t c = deep_sunk _ _ _ _ _ _ c.operators_from-ro
 
 pub type_deep-type_back-requires : goal.type_deep-type_back-requires
 type_deep-type_back-requires t c = (
-      row_back_less _ _ _ _ _ _ _ c.operators_from-row.ensures _ _ _ _ _ c.type_primary-first.ensures c.if-first-eq0.false _ c.decreases,
-      (
-        reached_room _ _ _ _ _ _ _ c.type_primary-first.ensures c.if-first-eq0.false _ refl (search rules) (row_room _ _ _ _ _ _ _ c.operators_from-row.ensures c.requires),
-        c.if-first-eq0.false,
-        reached_fits _ _ _ _ _ _ _ c.type_primary-first.ensures,
-        row_backed _ _ _ _ _ _ _ c.operators_from-row.ensures _ _ _ _ _ c.type_primary-first.ensures c.if-first-eq0.false c.requires,
-      ),
-    )
+  row_back_less _ _ _ _ _ _ _ c.operators_from-row.ensures _ _ _ _ _ c.type_primary-first.ensures c.if-first-eq0.false _ c.decreases,
+  (
+    reached_room _ _ _ _ _ _ _ c.type_primary-first.ensures c.if-first-eq0.false _ refl (search rules) (row_room _ _ _ _ _ _ _ c.operators_from-row.ensures c.requires),
+    c.if-first-eq0.false,
+    reached_fits _ _ _ _ _ _ _ c.type_primary-first.ensures,
+    row_backed _ _ _ _ _ _ _ c.operators_from-row.ensures _ _ _ _ _ c.type_primary-first.ensures c.if-first-eq0.false c.requires,
+  ),
+)
 
 pub type_deep-returns : goal.type_deep-returns
 type_deep-returns t c = deep_row _ _ _ _ _ _ c.operators_from-row.ensures _ _ _ c.type_primary-first.ensures _ _ _ c.if-first-eq0.false c.type_back.ensures

@@ -3,7 +3,6 @@
 use Rattle.own_terms.specs.Typing.{is_opening}
 use Rattle.own_typing.specs.Equations.{begins_at}
 use Rattle.laws_choices.specs.Choices.{choices}
-use borrow.Author.Rules.{rules}
 use Rattle.own_typing.proofs.equations.begins_at.Goals as goal
 
 pub returns-then-role-eq-ALONE : goal.returns-then-role-eq-ALONE

@@ -1,7 +1,6 @@
 -- `own_typing::equations::equation_row` meets its contract.
 -- Assumes nothing.
 use Rattle.own_typing.proofs.Passes.{passes}
-use borrow.Author.Rules.{rules}
 use Rattle.own_typing.proofs.equations.equation_row.Goals as goal
 
 pub returns : goal.returns

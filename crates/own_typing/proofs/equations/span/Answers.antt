@@ -1,7 +1,6 @@
 -- `own_typing::equations::span` meets its contract.
 -- Assumes nothing.
 use Rattle.own_typing.proofs.Passes.{passes}
-use borrow.Author.Rules.{rules}
 use Rattle.own_typing.proofs.equations.span.Goals as goal
 
 pub returns-then-a-b : goal.returns-then-a-b

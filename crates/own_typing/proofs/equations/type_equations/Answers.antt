@@ -1,7 +1,6 @@
 -- `own_typing::equations::type_equations` meets its contract.
 -- Assumes nothing.
-use Rattle.text_names.specs.Joint.{joint}
-use Rattle.own_typing.proofs.Passes.{Onward, onward}
+use Rattle.own_typing.proofs.Passes.{onward}
 use Rattle.own_typing.proofs.equations.type_equations.Goals as goal
 
 pub loop-left-init : goal.loop-left-init

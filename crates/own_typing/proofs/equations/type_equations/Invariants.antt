@@ -1,7 +1,7 @@
 -- `own_typing::equations::type_equations` meets its contract.
 -- Assumes nothing.
 use Rattle.text_names.specs.Joint.{joint}
-use Rattle.own_typing.proofs.Passes.{Onward, onward}
+use Rattle.own_typing.proofs.Passes.{Onward}
 use Rattle.own_typing.proofs.equations.type_equations.Given as goal
 
 abbrev pub invariant-loop-left : goal.invariant-loop-left

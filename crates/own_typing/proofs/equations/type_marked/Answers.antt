@@ -1,8 +1,7 @@
 -- `own_typing::equations::type_marked` meets its contract.
 -- Assumes nothing.
 use borrow.Author.Rules.{rules}
-use Rattle.text_names.specs.Joint.{joint}
-use Rattle.own_typing.proofs.Passes.{Passing, pass_dropped, passing}
+use Rattle.own_typing.proofs.Passes.{pass_dropped, passing}
 use Rattle.own_typing.proofs.equations.type_marked.Goals as goal
 
 pub loop-rest-init : goal.loop-rest-init
@@ -73,7 +72,7 @@ loop-rest-smaller c = search passing
 
 pub loop-rest-preserved : goal.loop-rest-preserved
 loop-rest-preserved c = pass_dropped _ _ _ _ _ _ _ _ _ _ _ _ _ _ c.loop-rest.invariant c.loop-rest-test.true _ c.begins_at.ensures c.if-begins_at.true _ _ c.type_sides-a.ensures _ _ _
-    c.a-1.given.1 c.if-t-next.false _ c.role_at-mark.ensures (search rules) c.if-mark-role.false
+    c.in-Sorted.is c.if-t-next.false _ c.role_at-mark.ensures (search rules) c.if-mark-role.false
 
 pub shape_of-work-else-begins_at : goal.shape_of-work-else-begins_at
 shape_of-work-else-begins_at c = search passing

@@ -1,8 +1,7 @@
 -- `own_typing::equations::type_marked` meets its contract.
 -- Assumes nothing.
-use borrow.Author.Rules.{rules}
 use Rattle.text_names.specs.Joint.{joint}
-use Rattle.own_typing.proofs.Passes.{Passing, pass_dropped, passing}
+use Rattle.own_typing.proofs.Passes.{Passing}
 use Rattle.own_typing.proofs.equations.type_marked.Given as goal
 
 abbrev pub invariant-loop-rest : goal.invariant-loop-rest

@@ -1,7 +1,6 @@
 -- `own_typing::equations::type_next` meets its contract.
 -- Assumes nothing.
 use Rattle.own_typing.proofs.Passes.{passes}
-use borrow.Author.Rules.{rules}
 use Rattle.own_typing.proofs.equations.type_next.Goals as goal
 
 pub returns-in-Wrong : goal.returns-in-Wrong

@@ -1,7 +1,6 @@
 -- `own_typing::equations::type_right` meets its contract.
 -- Assumes nothing.
 use Rattle.own_typing.proofs.Passes.{passes}
-use borrow.Author.Rules.{rules}
 use Rattle.own_typing.proofs.equations.type_right.Goals as goal
 
 pub returns-then-same_sort : goal.returns-then-same_sort

@@ -35,15 +35,15 @@ read_deep-returns t c = search (term_read, rules)
 
 pub read_named-returns-then-follows : goal.read_named-returns-then-follows
 read_named-returns-then-follows t c = search (
-      named_applied,
-      c.end_arguments.ensures,
-      c.read_arguments.ensures,
-      c.pass_token.ensures,
-      c.if-follows.true,
-      c.follows.ensures,
-      c.pass_name.ensures,
-      rules,
-    )
+  named_applied,
+  c.end_arguments.ensures,
+  c.read_arguments.ensures,
+  c.pass_token.ensures,
+  c.if-follows.true,
+  c.follows.ensures,
+  c.pass_name.ensures,
+  rules,
+)
 
 pub read_named-returns : goal.read_named-returns
 read_named-returns t c = search (named_alone, rules)

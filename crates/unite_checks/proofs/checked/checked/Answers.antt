@@ -1,5 +1,4 @@
 use Rattle.unite_checks.proofs.Checks.{checks}
-use borrow.Author.Rules.{rules}
 use Rattle.unite_checks.proofs.checked.checked.Goals as goal
 
 pub consistent-requires : goal.consistent-requires

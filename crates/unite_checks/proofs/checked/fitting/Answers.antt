@@ -1,5 +1,4 @@
 use Rattle.unite_checks.proofs.Checks.{checks}
-use borrow.Author.Rules.{rules}
 use Rattle.unite_checks.proofs.checked.fitting.Goals as goal
 
 pub returns-in-Stop : goal.returns-in-Stop

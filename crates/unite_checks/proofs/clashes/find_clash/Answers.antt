@@ -1,11 +1,9 @@
 -- `unite_checks::clashes::find_clash` meets its contract. Assumes nothing.
-use Prim.Native.Nat.{◌-◌}
-use mathlib.Core.Logic.{⊎_elim}
 use native.Mathlib.Omega.{arith}
-use Rattle.text_names.specs.Joint.{joint}
-use Rattle.unite_checks.proofs.SearchCases.{Inner, Outer, outer_start, rival_start, next_fits, inner_again, inner_other, outer_again, outer_found, outer_none}
+use Rattle.unite_checks.proofs.SearchCases.{outer_start, rival_start, next_fits, inner_again, inner_other, outer_again, outer_found, outer_none}
 use borrow.Author.Rules.{rules}
 use Rattle.unite_checks.proofs.clashes.find_clash.Goals as goal
+use Rattle.unite_checks.proofs.clashes.find_clash.Goals.{else-outer-test, then-outer-test+then-loop-j-test+then-same_called+then-at_odds}
 
 pub outer-init : goal.outer-init
 outer-init c = search (outer_start, rules)
@@ -35,9 +33,12 @@ outer-preserved c = outer_again _ _ _ _ _ _ _ c.requires _ _ c.outer-test.true
     c.loop-j.invariant c.loop-j-test.false
 
 pub returns-then-i-n : goal.returns-then-i-n
-returns-then-i-n c = ⊎_elim (λ w. absurd (omega arith)) (λ w.
-    outer_found _ _ _ _ _ _ _ c.requires _ _ w.0.taken w.1.ensures c.outer.invariant _ w.3.inv _ _ w.4.taken
-    w.5.ensures w.6.ensures _ w.8.ensures w.7.taken _ w.9.taken c.row_by-x-then-i-n.ensures) c.outer-test.branch
+returns-then-i-n c = elim c.outer-test.branch [
+    else-outer-test w ↦ absurd (omega arith)
+  | then-outer-test+then-loop-j-test+then-same_called+then-at_odds w ↦
+    outer_found _ _ _ _ _ _ _ c.requires _ _ w.outer-test.true w.row_by-x.ensures c.outer.invariant _ w.loop-j.invariant _ _ w.loop-j-test.true
+    w.row_by-y.ensures w.same_called.ensures _ w.at_odds.ensures w.if-same_called.true _ w.if-at_odds.true c.row_by-x-then-i-n.ensures
+  ]
 
 pub returns : goal.returns
 returns c = search (outer_none, rules)

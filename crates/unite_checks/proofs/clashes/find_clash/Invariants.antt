@@ -1,10 +1,7 @@
 -- `unite_checks::clashes::find_clash` meets its contract. Assumes nothing.
 use Prim.Native.Nat.{◌-◌}
-use mathlib.Core.Logic.{⊎_elim}
-use native.Mathlib.Omega.{arith}
 use Rattle.text_names.specs.Joint.{joint}
-use Rattle.unite_checks.proofs.SearchCases.{Inner, Outer, outer_start, rival_start, next_fits, inner_again, inner_other, outer_again, outer_found, outer_none}
-use borrow.Author.Rules.{rules}
+use Rattle.unite_checks.proofs.SearchCases.{Inner, Outer}
 use Rattle.unite_checks.proofs.clashes.find_clash.Given as goal
 
 abbrev pub invariant-loop-j : goal.invariant-loop-j

@@ -1,7 +1,5 @@
 -- `unite_checks::clashes::find_repeated` meets its contract. Assumes nothing.
-use Prim.Native.Nat.{◌-◌}
-use Rattle.text_names.specs.Joint.{joint}
-use Rattle.unite_checks.proofs.SearchCases.{Neighbours, neighbours_start, neighbours_again, neighbours_found, neighbours_end}
+use Rattle.unite_checks.proofs.SearchCases.{neighbours_start, neighbours_again, neighbours_found, neighbours_end}
 use borrow.Author.Rules.{rules}
 use Rattle.unite_checks.proofs.clashes.find_repeated.Goals as goal
 

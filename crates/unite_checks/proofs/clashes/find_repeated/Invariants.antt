@@ -1,8 +1,7 @@
 -- `unite_checks::clashes::find_repeated` meets its contract. Assumes nothing.
 use Prim.Native.Nat.{◌-◌}
 use Rattle.text_names.specs.Joint.{joint}
-use Rattle.unite_checks.proofs.SearchCases.{Neighbours, neighbours_start, neighbours_again, neighbours_found, neighbours_end}
-use borrow.Author.Rules.{rules}
+use Rattle.unite_checks.proofs.SearchCases.{Neighbours}
 use Rattle.unite_checks.proofs.clashes.find_repeated.Given as goal
 
 abbrev pub invariant-loop-i : goal.invariant-loop-i

@@ -1,6 +1,5 @@
 -- `unite_checks::clashes::first_rival` meets its contract. Assumes nothing.
 use Rattle.unite_checks.proofs.SearchCases.{cases}
-use borrow.Author.Rules.{rules}
 use Rattle.unite_checks.proofs.clashes.first_rival.Goals as goal
 
 pub returns-then-kind-eq-SORT : goal.returns-then-kind-eq-SORT

@@ -1,6 +1,5 @@
 -- `unite_checks::clashes::row_by` meets its contract. Assumes nothing.
 use Rattle.unite_checks.proofs.SearchCases.{cases}
-use borrow.Author.Rules.{rules}
 use Rattle.unite_checks.proofs.clashes.row_by.Goals as goal
 
 pub returns : goal.returns

@@ -1,6 +1,5 @@
 -- `unite_checks::consistency::check_functions` meets its contract. Assumes nothing.
 use Rattle.unite_checks.proofs.VerdictCases.{cases}
-use borrow.Author.Rules.{rules}
 use Rattle.unite_checks.proofs.consistency.check_functions.Goals as goal
 
 pub returns-in-At : goal.returns-in-At

@@ -1,6 +1,5 @@
 -- `unite_checks::consistency::check_rows` meets its contract. Assumes nothing.
 use Rattle.unite_checks.proofs.VerdictCases.{cases}
-use borrow.Author.Rules.{rules}
 use Rattle.unite_checks.proofs.consistency.check_rows.Goals as goal
 
 pub order_names-requires : goal.order_names-requires

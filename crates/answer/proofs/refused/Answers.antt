@@ -1,0 +1,6 @@
+-- `answer::refused` meets its contract. Assumes nothing.
+use Rattle.answer.proofs.Cases.{cases}
+use Rattle.answer.proofs.refused.Goals as goal
+
+pub returns : goal.returns
+returns c = search cases

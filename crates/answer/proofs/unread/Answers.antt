@@ -1,0 +1,6 @@
+-- `answer::unread` meets its contract. Assumes nothing.
+use Rattle.answer.proofs.Cases.{cases}
+use Rattle.answer.proofs.unread.Goals as goal
+
+pub returns : goal.returns
+returns c = search cases

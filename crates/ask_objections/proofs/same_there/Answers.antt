@@ -1,0 +1,8 @@
+-- `ask_objections::same_there` meets its contract.
+-- Assumes nothing.
+use Rattle.ask_objections.proofs.Cases.{cases}
+use borrow.Author.Rules.{rules}
+use Rattle.ask_objections.proofs.same_there.Goals as goal
+
+pub returns : goal.returns
+returns c = search cases

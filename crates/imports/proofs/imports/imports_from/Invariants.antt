@@ -1,0 +1,14 @@
+-- `imports::imports::imports_from` meets its contract. Assumes nothing.
+use borrow.Author.Rules.{rules}
+use Rattle.text_names.specs.Joint.{joint}
+use Rattle.imports.specs.Expressions.{ImportsGoing, imports_start, imports_ended, imports_none, imports_stop, imports_again}
+use Rattle.imports.specs.Expressions.{imports_tape, import_room, union_room}
+use Rattle.modules.specs.Modules.{heads_in}
+use Rattle.imports.proofs.imports.imports_from.Given as goal
+
+abbrev pub invariant-loop-n : goal.invariant-loop-n
+invariant-loop-n l =
+    ImportsGoing (joint l.library l.text) l.t l.initial.work (heads_in l.h) l.left l.i l.initial.made l.n l.at l.made l.work
+
+abbrev pub decreases-loop-n : goal.decreases-loop-n
+decreases-loop-n l = l.n

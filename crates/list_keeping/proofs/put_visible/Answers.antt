@@ -1,0 +1,6 @@
+-- `list_keeping::put_visible` meets its contract. Assumes nothing.
+use Rattle.list_keeping.proofs.Cases.{cases}
+use Rattle.list_keeping.proofs.put_visible.Goals as goal
+
+pub returns : goal.returns
+returns c = search cases

@@ -1,0 +1,17 @@
+use Rattle.own_completing.proofs.Stages.{items_stage}
+use Rattle.own_completing.specs.ItemLaws.{items_fine}
+use borrow.Author.Rules.{rules}
+use Rattle.own_completing.proofs.complete.join_items.Goals as goal
+
+pub own_items-counts-requires : goal.own_items-counts-requires
+own_items-counts-requires c = search items_stage
+
+pub own_checks-requires : goal.own_checks-requires
+own_checks-requires c = search items_stage
+
+pub returns-in-Stop : goal.returns-in-Stop
+returns-in-Stop c = search items_stage
+
+pub returns-in-Fine : goal.returns-in-Fine
+returns-in-Fine c = items_fine _ _ _ _ _ _ c.own_of-own.ensures c.joining_block-b.ensures _ _ c.requires _ _
+    c.own_items-counts.ensures _ _ c.own_checks.ensures (search rules)
