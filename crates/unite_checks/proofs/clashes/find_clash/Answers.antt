@@ -34,11 +34,11 @@ outer-preserved c = outer_again _ _ _ _ _ _ _ c.requires _ _ c.outer-test.true
 
 pub returns-then-i-n : goal.returns-then-i-n
 returns-then-i-n c = elim c.outer-test.branch [
-    else-outer-test w ↦ absurd (omega arith)
+  | else-outer-test w ↦ absurd (omega arith)
   | then-outer-test+then-loop-j-test+then-same_called+then-at_odds w ↦
-    outer_found _ _ _ _ _ _ _ c.requires _ _ w.outer-test.true w.row_by-x.ensures c.outer.invariant _ w.loop-j.invariant _ _ w.loop-j-test.true
-    w.row_by-y.ensures w.same_called.ensures _ w.at_odds.ensures w.if-same_called.true _ w.if-at_odds.true c.row_by-x-then-i-n.ensures
-  ]
+      outer_found _ _ _ _ _ _ _ c.requires _ _ w.outer-test.true w.row_by-x.ensures c.outer.invariant _ w.loop-j.invariant _ _ w.loop-j-test.true
+      w.row_by-y.ensures w.same_called.ensures _ w.at_odds.ensures w.if-same_called.true _ w.if-at_odds.true c.row_by-x-then-i-n.ensures
+]
 
 pub returns : goal.returns
 returns c = search (outer_none, rules)
