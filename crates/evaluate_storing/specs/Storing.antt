@@ -20,7 +20,8 @@ use Rattle.list_keeping.specs.Kept.{order_place}
 use Rattle.list_keeping.specs.Nodes.{Distinct}
 use Rattle.list_keeping.specs.Keeps.{Keeps}
 use Rattle.form_keeping.specs.Environment.{Between, below_outside, kept_form, TableBelow, number_of, EnvStands}
-use Rattle.form_keeping.specs.Growing.{Grown, RowThere, table_end, table_more, env_more}
+use Rattle.form_keeping.specs.Growing.{Grown, RowThere, table_end}
+use Rattle.form_keeping.proofs.Growing.{table_more, env_more}
 use Rattle.evaluate_storing.specs.Places.{form_space, place_form, placed_form, placed_between, scratch_start, scratch_room, scratch_behind, StoreRoom, tape_below}
 
 -- the form f was stored as module k's, from the cursor c up to r: but for that, for the module's row and for what is behind the table all stays,
