@@ -3,7 +3,7 @@
 # (library_tests.sh [SEEDS [FIRST]]); on a third as many it must answer the same however the modules are divided between library and customer's
 # text, and on a tenth as many pairs of texts the same in whatever order imports stand, some of them twice. Over a tenth as many chains of
 # editions it must decide as the reference does what is asked again, and no part that the store keeps may be stale. At the end it measures the
-# stack: no call may take more than 4,096 bytes, but asf_normalise, which takes 4,848 as today's kit compiles it (docs/PORT.md).
+# stack: no call may take more than 4,096 bytes.
 set -euo pipefail
 cd "$(dirname "$0")/.."
 seeds=${1:-5000} first=${2:-0}
@@ -58,4 +58,4 @@ rust/target/release/compare divided $((seeds / 3)) "$first" "${RUN[@]}" build/dr
 rust/target/release/compare imports $((seeds / 10)) "$first" "${RUN[@]}" build/driver
 rust/target/release/compare decide $((seeds / 10)) "$first" "${RUN[@]}" build/driver
 rust/target/release/compare chains $((seeds / 10)) "$first" | rust run --quiet --example chains
-tools/stack.sh --limit 4096 --normalise 4848
+tools/stack.sh --limit 4096

@@ -1,18 +1,16 @@
 #!/usr/bin/env bash
 # Tells the most stack that a call of the library takes, over every vector, the texts that are timed and deep ones; c/stack.c says what counts.
-# stack.sh [native|all] [--limit BYTES] [--normalise BYTES] measures the archive in build/library or, with `native`, the one that
-# tools/native_library.sh makes for aarch64, and fails where a call takes more than the limit, or asf_normalise more than one of its own. Under an
-# emulator texts that take long are left out, but not with `all`.
+# stack.sh [native|all] [--limit BYTES] measures the archive in build/library or, with `native`, the one that tools/native_library.sh makes for
+# aarch64, and fails where a call takes more than the limit. Under an emulator texts that take long are left out, but not with `all`.
 set -euo pipefail
 cd "$(dirname "$0")/.."
-library=build/library limit= normalise= long=
+library=build/library limit= long=
 while [ $# -gt 0 ]; do
     case $1 in
     native) library=build/native ;;
     all) long=too ;;
     --limit) limit=$2 && shift ;;
-    --normalise) normalise=$2 && shift ;;
-    *) echo "usage: tools/stack.sh [native|all] [--limit BYTES] [--normalise BYTES]" >&2 && exit 2 ;;
+    *) echo "usage: tools/stack.sh [native|all] [--limit BYTES]" >&2 && exit 2 ;;
     esac
     shift
 done
@@ -36,7 +34,7 @@ echo "bytes of stack that a call in $library takes, the most of ${#inputs[@]} in
 grep asf_normalise $library/stack.txt | sed -n 1,5p
 for other in asf_fetch asf_decide asf_module_name asf_line asf_visible; do grep -m 1 $other $library/stack.txt; done
 [ -n "$limit" ] || exit 0
-over=$(awk -v limit="$limit" -v own="${normalise:-$limit}" '$1 > ($2 == "asf_normalise" ? own : limit) + 0' $library/stack.txt)
+over=$(awk -v limit="$limit" '$1 > limit + 0' $library/stack.txt)
 [ -z "$over" ] && exit 0
-echo "tools/stack.sh: $(wc -l <<<"$over") calls take more stack than they may, the most of them $(head -n 1 <<<"$over")" >&2
+echo "tools/stack.sh: $(wc -l <<<"$over") calls take more than $limit bytes of stack, the most of them $(head -n 1 <<<"$over")" >&2
 exit 1

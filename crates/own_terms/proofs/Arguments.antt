@@ -13,7 +13,7 @@ use Rattle.own_finding.specs.declared.Known.{Known}
 use Rattle.own_finding.specs.Arguments.{ends_at}
 use Rattle.own_terms.specs.declared.Answer.{Answer}
 use Rattle.own_terms.specs.declared.Answer.TheVariants.{Ill}
-use Rattle.own_terms.specs.Typing.{Out, out, settled, variable_at, no_sorts, alone_at, applied_at, term_at, args_at, known_of, At, Room, answered, Told, Typed, Lent, Reached, Read, item_at}
+use Rattle.own_terms.specs.Typing.{Out, out, settled, variable_at, no_sorts, alone_at, applied_at, term_at, args_at, known_of, At, Pointed, Room, answered, Told, Typed, Lent, Reached, Read, item_at}
 use Rattle.own_terms.proofs.Cases.{stays_on, end_fits, Arguing, args_start, args_again, args_end, args_done, args_many, args_ill}
 use Rattle.own_terms.proofs.Words.{room_on, room_at, typed_as, reached_ill, reached_as, reached_on, reached_out, reached_at, reached_long, reached_rises, answered_sorted, answered_ill, worded}
 
@@ -35,17 +35,21 @@ module _ (text p₀ : List ℕ) (i q n : ℕ) (sorts : List ℕ) (next free : �
 pub leaf_nine : (sorts : List ℕ) → sorts ≡ no_sorts → length sorts ≡ 9
 leaf_nine sorts e = rw e refl
 
-pub leaf_told : (text : List ℕ) (k : Known) (i q d : ℕ) (sorts p₁ : List ℕ) (w : Lent) (r : ℕ) (p : List ℕ) (u : Lent) → sorts ≡ no_sorts
-    → At k (i + 1) (q + 1) d p₁
-    → Reached (item_at text (known_of p₁) true i q 0 sorts (get_or p₁ 5 0) (get_or p₁ 6 0) w.now) (known_of p₁) (get_or p₁ 7 0) w r p u
+pub leaf_told : (text : List ℕ) (k : Known) (i q d : ℕ) (sorts p₁ p₂ : List ℕ) (w : Lent) (r : ℕ) (p : List ℕ) (u : Lent) → sorts ≡ no_sorts
+    → At k (i + 1) (q + 1) d p₁ → Pointed p₁ i q p₂
+    → Reached (item_at text (known_of p₂) true (get_or p₂ 8 0) (get_or p₂ 9 0) 0 sorts (get_or p₂ 5 0) (get_or p₂ 6 0) w.now) (known_of p₂) (get_or p₂ 7 0) w r p u
     → Reached (alone_at text k i q w.now) k d w r p u
 unfolding item_at variable_at alone_at pick
-leaf_told text k i q d sorts p₁ w r p u e t h = rw (e, t.known, t.next_at, t.free_at, t.deep) at h
+leaf_told text k i q d sorts p₁ p₂ w r p u e t m h =
+    rw (e, m.entry, m.place, m.left.known ∙ t.known, m.left.next_at ∙ t.next_at, m.left.free_at ∙ t.free_at, m.left.deep ∙ t.deep) at h
 
-pub named_told : (text : List ℕ) (k : Known) (i q n : ℕ) (sorts : List ℕ) (next free d : ℕ) (w : Lent) (r : ℕ) (p : List ℕ) (u : Lent)
-    → Reached (item_at text k false i q n sorts next free w.now) k d w r p u → Reached (applied_at text k i q n sorts next free w.now) k d w r p u
+pub named_told : (text p₀ : List ℕ) (i q n : ℕ) (sorts p₁ : List ℕ) (w : Lent) (r : ℕ) (p : List ℕ) (u : Lent) → Pointed p₀ i q p₁
+    → Reached (item_at text (known_of p₁) false (get_or p₁ 8 0) (get_or p₁ 9 0) n sorts (get_or p₁ 5 0) (get_or p₁ 6 0) w.now) (known_of p₁) (get_or p₁ 7 0) w r p u
+    → Reached (applied_at text (known_of p₀) i q n sorts (get_or p₀ 5 0) (get_or p₀ 6 0) w.now) (known_of p₀) (get_or p₀ 7 0) w r p u
 unfolding item_at variable_at pick
-named_told text k i q n sorts next free d w r p u h = rw (le-ltb k.count k.count (omega arith)) at h
+named_told text p₀ i q n sorts p₁ w r p u m h =
+    let k = known_of p₀ in
+    rw (m.entry, m.place, m.left.known, m.left.next_at, m.left.free_at, m.left.deep, le-ltb k.count k.count (omega arith)) at h
 
 -- ---- the arguments, n of which are there; what reads where they end leaves the memory as it is
 
@@ -92,7 +96,7 @@ module _ (text p₀ : List ℕ) (head place : ℕ) (w₀ : Lent) where
     pub deep_few : n ≤ 9
     deep_few = omega (arith, arguing.few)
 
-    pub deep_whole : length p ≡ 8
+    pub deep_whole : length p ≡ 10
     deep_whole = inv.left.long
 
     pub deep_falls : (p₁ : List ℕ) (t : ℕ) → At (known_of p) i q (get_or p 7 0 - 1) p₁ → (d ≡ 0 → ⊥) → d * 3 ≡ t → get_or p₁ 7 0 * 3 + 2 < t
@@ -157,7 +161,7 @@ module _ (text p₀ : List ℕ) (head place : ℕ) (w₀ : Lent) where
               (answered_ill r (get_or p₂ 5 0) (get_or p₂ 6 0) x)))
 
           module _ (x : r ≡ 0 → ⊥) where
-            pub deep_long : length p₂ ≡ 8
+            pub deep_long : length p₂ ≡ 10
             deep_long = reached_long _ k (d - 1) w r p₂ u further_on x
 
             pub deep_rises : Room p₀ w₀.now → (d ≡ 0 → ⊥) → get_or p₂ 7 0 + 1 < 2 ^ 64

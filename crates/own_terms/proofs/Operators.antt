@@ -192,7 +192,7 @@ module _ (p₀ : List ℕ) (i q : ℕ) (w : List ℕ) (n word : ℕ) (p : List �
   pub row_place : q + n < 2 ^ 64
   row_place = v.row.place
 
-  pub row_long : length p ≡ 8
+  pub row_long : length p ≡ 10
   row_long = v.left.long
 
   pub row_more : n + 1 < 2 ^ 64

@@ -180,7 +180,7 @@ module _ (text p₀ row₀ : List ℕ) (first : ℕ) (w₀ : Lent) where
   abbrev regained : Out
   regained = returned text kb (get_or p₀ 7 0) row₀ (out (answered first (get_or p₀ 5 0) (get_or p₀ 6 0)) w₀.now)
 
-  pub back_open : (first ≡ 0 → ⊥) → first ≤ 4294967296 → length p₀ ≡ 8 → Backed (get_or p₀ 7 0) row₀ → Returning text p₀ row₀ first w₀ row₀ first p₀ w₀
+  pub back_open : (first ≡ 0 → ⊥) → first ≤ 4294967296 → length p₀ ≡ 10 → Backed (get_or p₀ 7 0) row₀ → Returning text p₀ row₀ first w₀ row₀ first p₀ w₀
   back_open y h l b =
       let n = counted text kb (get_or p₀ 7 0) row₀ b.left b.few b.low b.bits in
       record {
@@ -275,7 +275,7 @@ module _ (text p₀ row₀ : List ℕ) (first : ℕ) (w₀ : Lent) where
             ∙ row_ill text kb _ _ _ (left - 1) (get_or row 2 0 / 2) u.now))
 
         module _ (y : r ≡ 0 → ⊥) where
-          pub back_long : length p' ≡ 8
+          pub back_long : length p' ≡ 10
           back_long = reached_long _ kb (get_or p 7 0) w r p' u typed y
 
           pub back_rises : get_or p' 7 0 + 1 < 2 ^ 64

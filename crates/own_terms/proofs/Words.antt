@@ -11,7 +11,7 @@ use denote.Ref.{at_last}
 use Rattle.own_finding.specs.declared.Known.{Known}
 use Rattle.own_terms.specs.declared.Answer.{Answer}
 use Rattle.own_terms.specs.declared.Answer.TheVariants.{Sorted, Ill}
-use Rattle.own_terms.specs.Typing.{Out, out, operators_in, known_of, Words, At, Room, answered, Told, Typed, Lent, Stays, Reached}
+use Rattle.own_terms.specs.Typing.{Out, out, operators_in, known_of, Words, At, Pointed, Room, answered, Told, Typed, Lent, Stays, Reached}
 use Rattle.own_terms.proofs.Cases.{stays_on}
 
 -- ---- what is known
@@ -20,7 +20,7 @@ pub known_told : (k : List ℕ) → ◌≡◌ {A = Known} (record { tape = get_o
 unfolding known_of
 known_told k = refl
 
-pub known_at : (k : Known) (i q d : ℕ) → At k i q d (k.tape ∷ k.base ∷ k.count ∷ k.visible ∷ k.hidden ∷ i ∷ q ∷ d ∷ [])
+pub known_at : (k : Known) (i q d : ℕ) → At k i q d (k.tape ∷ k.base ∷ k.count ∷ k.visible ∷ k.hidden ∷ i ∷ q ∷ d ∷ 0 ∷ 0 ∷ [])
 unfolding known_of
 known_at k i q d = record { long = refl; known = refl; next_at = refl; free_at = refl; deep = refl }
 
@@ -72,7 +72,7 @@ known_same p j v h =
       hidden = other 4 (omega arith) z;
     }
 
-module _ (p : List ℕ) (l : length p ≡ 8) where
+module _ (p : List ℕ) (l : length p ≡ 10) where
   pub moved : (next free : ℕ) (p' : List ℕ) → p' ≡ set (set p 5 next) 6 free → At (known_of p) next free (get_or p 7 0) p'
   moved next free p' e =
       let first = set p 5 next in
@@ -97,13 +97,31 @@ module _ (p : List ℕ) (l : length p ≡ 8) where
         deep = get_or-set_same p 7 d 0 (omega arith);
       })
 
+  pub pointed : (i q : ℕ) (p' : List ℕ) → p' ≡ set (set p 8 i) 9 q → Pointed p i q p'
+  pointed i q p' e =
+      let first = set p 8 i in
+      let size = length-set p 8 i in
+      let other : (j : ℕ) → j < 8 → get_or (set first 9 q) j 0 ≡ get_or p j 0 = λ j h. get_or-set_other first 9 j q 0 (λ e. omega arith) ∙ get_or-set_other p 8 j i 0 (λ e. omega arith) in
+      rw e
+      (record {
+        left = record {
+          long = length-set first 9 q ∙ size ∙ l;
+          known = known_same first 9 q (omega arith) ∙ known_same p 8 i (omega arith);
+          next_at = other 5 (omega arith);
+          free_at = other 6 (omega arith);
+          deep = other 7 (omega arith);
+        };
+        entry = get_or-set_other first 9 8 q 0 (λ e. omega arith) ∙ get_or-set_same p 8 i 0 (omega arith);
+        place = get_or-set_same first 9 q 0 (omega (arith, size));
+      })
+
 -- ---- the room in the memory
 
 pub room_on : (p : List ℕ) (w u : Lent) → Stays w u → Room p w.now → Room p u.now
 room_on p w u s h = record { words = h.words; tape = omega (arith, h.tape, s.size); fits = omega (arith, h.fits, s.size) }
 
 -- of other words of what is known
-pub room_as : (p p' w : List ℕ) → length p' ≡ 8 → known_of p' ≡ known_of p → get_or p' 7 0 < 2 ^ 64 → Room p w → Room p' w
+pub room_as : (p p' w : List ℕ) → length p' ≡ 10 → known_of p' ≡ known_of p → get_or p' 7 0 < 2 ^ 64 → Room p w → Room p' w
 unfolding known_of
 room_as p p' w l e d h = record {
   words = record {
@@ -121,10 +139,16 @@ room_as p p' w l e d h = record {
 pub room_at : (p w : List ℕ) (i q d : ℕ) (p' : List ℕ) → At (known_of p) i q d p' → d ≤ get_or p 7 0 → Room p w → Room p' w
 room_at p w i q d p' e m h = room_as p p' w e.long e.known (rw e.deep (omega (arith, h.words.small))) h
 
+pub room_pointed : (p w : List ℕ) (i q : ℕ) (p' : List ℕ) → Pointed p i q p' → Room p w → Room p' w
+room_pointed p w i q p' e h = room_at p w (get_or p 5 0) (get_or p 6 0) (get_or p 7 0) p' e.left (omega arith) h
+
+pub at_long : (k : Known) (i q d : ℕ) (p : List ℕ) → At k i q d p → length p ≡ 10
+at_long k i q d p e = e.long
+
 pub room_tape : (p w : List ℕ) → Room p w → get_or p 0 0 ≤ length w
 room_tape p w h = h.tape
 
-pub room_long : (p w : List ℕ) → Room p w → length p ≡ 8
+pub room_long : (p w : List ℕ) → Room p w → length p ≡ 10
 room_long p w h = h.words.long
 
 module _ (k : Known) (i q d : ℕ) (p : List ℕ) (e : At k i q d p) where
@@ -177,7 +201,7 @@ module _ (o : Out) (k : Known) (d : ℕ) (w : Lent) (r : ℕ) (p : List ℕ) (u 
     pub reached_at : At k (get_or p 5 0) (get_or p 6 0) d p
     reached_at = h.typed.told.stands y
 
-    pub reached_long : length p ≡ 8
+    pub reached_long : length p ≡ 10
     reached_long = reached_at.long
 
     pub reached_rises : d + 1 < 2 ^ 64 → get_or p 7 0 + 1 < 2 ^ 64
@@ -196,4 +220,4 @@ unfolding answered
 answered_ill r next free e = rw e
 
 -- what the words of a level hand to `search`
-pub ruleset worded = (known_told, known_at, known_tape, known_count, known_row, known_hidden, room_known, moved, deepened, room_at, room_tape, room_long, at_some, at_less, tell_ill, tell_sorted, reached_lent, reached_fits, reached_word, reached_long, reached_rises, reached_room, rules)
+pub ruleset worded = (known_told, known_at, known_tape, known_count, known_row, known_hidden, room_known, moved, deepened, pointed, room_at, room_pointed, at_long, room_tape, room_long, at_some, at_less, tell_ill, tell_sorted, reached_lent, reached_fits, reached_word, reached_long, reached_rises, reached_room, rules)

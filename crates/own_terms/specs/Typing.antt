@@ -96,12 +96,12 @@ args_at text k depth head place closers left i q n sorts w = args_by k (term_at 
 
 -- ---- the words that a level of a term is lent
 
--- what is known, of five words, of which four are no longer than a word of memory; behind them are two places and a depth
+-- what is known, of five words, of which four are no longer than a word of memory; behind them are two places and a depth, and the places of a name
 unfoldable pub known_of : List ℕ → Known
 known_of p = record { tape = get_or p 0 0; base = get_or p 1 0; count = get_or p 2 0; visible = get_or p 3 0; hidden = get_or p 4 0 }
 
 pub record Words (p : List ℕ) : Type 0 where
-  pub long : length p ≡ 8
+  pub long : length p ≡ 10
   pub base : get_or p 1 0 < 4294967296
   pub count : get_or p 2 0 ≤ 65536
   pub visible : get_or p 3 0 < 4294967296
@@ -110,11 +110,17 @@ pub record Words (p : List ℕ) : Type 0 where
 
 -- the words are those of what is known, the places and the depth
 pub record At (k : Known) (next free depth : ℕ) (p : List ℕ) : Type 0 where
-  pub long : length p ≡ 8
+  pub long : length p ≡ 10
   pub known : known_of p ≡ k
   pub next_at : get_or p 5 0 ≡ next
   pub free_at : get_or p 6 0 ≡ free
   pub deep : get_or p 7 0 ≡ depth
+
+-- the words, but that they point at a name: its entry, and the place of its node
+pub record Pointed (p : List ℕ) (i q : ℕ) (p' : List ℕ) : Type 0 where
+  pub left : At (known_of p) (get_or p 5 0) (get_or p 6 0) (get_or p 7 0) p'
+  pub entry : get_or p' 8 0 ≡ i
+  pub place : get_or p' 9 0 ≡ q
 
 -- the tape is in the memory, whose places are words
 pub record Room (p w : List ℕ) : Type 0 where

@@ -1,11 +1,12 @@
 // The typer of terms: a term and its arguments call each other, with the depth falling. The memory goes down by one reference, which takes a register:
-// a slice is handed over as a copy in memory, of which each level would keep one. What is known, the places and the depth go down by another.
+// a slice is handed over as a copy in memory, of which each level would keep one. The texts go down by another, and what is known, the places and the
+// depth by a third; so what a level calls is handed so little that next to nothing of it is on the stack.
 ghost use Rattle.std.specs.Prelude.{◌≡◌, ◌+◌, ◌-◌, ◌^◌, ◌≤◌, ◌<◌, length, get_or};
 ghost use Rattle.text_names.specs.Joint.{joint};
 ghost use Rattle.form_rows.specs.Entries.{role_at};
 ghost use Rattle.form.specs.Memory.{part};
 ghost use Rattle.own_finding.specs.Arguments.{ends_at};
-ghost use Rattle.own_terms.specs.Typing.{out, settled, variable_at, function_row, alone_at, applied_at, no_sorts, args_at, term_at, operated, returned, Backed, stepped, shortened, operators_in, operands_at, Operators, Ended, known_of, Words, At, Room, answered, Told, Typed, Reached, Read, item_at};
+ghost use Rattle.own_terms.specs.Typing.{out, settled, variable_at, function_row, alone_at, applied_at, no_sorts, args_at, term_at, operated, returned, Backed, stepped, shortened, operators_in, operands_at, Operators, Ended, known_of, Words, At, Pointed, Room, answered, Told, Typed, Reached, Read, item_at};
 
 use super::Answer;
 use form_rows::ROW_STEP;
@@ -17,6 +18,13 @@ use tape::roles;
 
 // So many operators are gone over at once at the most: behind its highest bit a word tells of each whether it is infix, and a term of 64 nodes has no more.
 const ROW: usize = 63;
+
+// The texts that the names are in.
+#[derive(Clone, Copy)]
+struct Texts<'a> {
+    library: &'a [u8],
+    text: &'a [u8],
+}
 
 // The node at q is of the item of a row, with n arguments.
 fn settle(
@@ -97,9 +105,9 @@ fn type_applied(
     Answer::Ill
 }
 
-// The words that a level is lent: what is known, which is the tape, base, count, visible and hidden, then the two places and the depth. They are in
-// one array, so that one reference goes down, and no level keeps any of them.
-fn known_words(k: Known, i: usize, q: usize, depth: usize) -> [usize; 8]
+// The words that a level is lent: what is known, which is the tape, base, count, visible and hidden, then the two places and the depth, and the two
+// places of a name that is typed. They are in one array, so that one reference goes down, and no level keeps any of them.
+fn known_words(k: Known, i: usize, q: usize, depth: usize) -> [usize; 10]
     ensures { At k i q depth result }
 {
     let tape = k.tape;
@@ -116,11 +124,13 @@ fn known_words(k: Known, i: usize, q: usize, depth: usize) -> [usize; 8]
         i,
         q,
         depth,
+        0,
+        0,
     ]
 }
 
 // What is known, of its words.
-fn known_of(k: &[usize; 8]) -> Known
+fn known_of(k: &[usize; 10]) -> Known
     requires { Words k.now }
     ensures { result ≡ known_of k.now }
 {
@@ -134,33 +144,42 @@ fn known_of(k: &[usize; 8]) -> Known
 }
 
 // The words at other places.
-fn move_to(words: &mut [usize; 8], next: usize, free: usize)
-    requires { length words.old ≡ 8 }
+fn move_to(words: &mut [usize; 10], next: usize, free: usize)
+    requires { length words.old ≡ 10 }
     ensures { At (known_of words.old) next free (get_or words.old 7 0) words.new }
 {
     words[5] = next;
     words[6] = free;
 }
 
+// The words at a name, whose places are the row's.
+fn point_at(words: &mut [usize; 10], row: &[usize; 3])
+    requires { length words.old ≡ 10 }
+    ensures { Pointed words.old (get_or row.now 0 0) (get_or row.now 1 0) words.new }
+{
+    words[8] = row[0];
+    words[9] = row[1];
+}
+
 // The words a level deeper.
-fn descend(words: &mut [usize; 8])
-    requires { (length words.old ≡ 8) × (0 < get_or words.old 7 0) }
+fn descend(words: &mut [usize; 10])
+    requires { (length words.old ≡ 10) × (0 < get_or words.old 7 0) }
     ensures { At (known_of words.old) (get_or words.old 5 0) (get_or words.old 6 0) (get_or words.old 7 0 - 1) words.new }
 {
     words[7] -= 1;
 }
 
 // The words a level back.
-fn ascend(words: &mut [usize; 8])
-    requires { (length words.old ≡ 8) × (get_or words.old 7 0 + 1 < 2 ^ 64) }
+fn ascend(words: &mut [usize; 10])
+    requires { (length words.old ≡ 10) × (get_or words.old 7 0 + 1 < 2 ^ 64) }
     ensures { At (known_of words.old) (get_or words.old 5 0) (get_or words.old 6 0) (get_or words.old 7 0 + 1) words.new }
 {
     words[7] += 1;
 }
 
 // The answer as a number, one more than the sort, with its places; 0 where the term is ill typed.
-fn tell(a: Answer, words: &mut [usize; 8]) -> usize
-    requires { length words.old ≡ 8 }
+fn tell(a: Answer, words: &mut [usize; 10]) -> usize
+    requires { length words.old ≡ 10 }
     ensures { Told a (known_of words.old) (get_or words.old 7 0) result words.new }
 {
     let Answer::Sorted { sort, next, free } = a else {
@@ -170,25 +189,24 @@ fn tell(a: Answer, words: &mut [usize; 8]) -> usize
     sort as usize + 1
 }
 
-// The name at the row: a variable if it stands alone, or else a function of the first n sorts; its node is written at the row's place. The one call
+// The name that the words point at: a variable if it stands alone, or else a function of the first n sorts; its node is written at its place. The one call
 // of `type_applied` is compiled into it, so that it is too large to be compiled into a level, whatever `alone` is there.
 fn item_in(
     library: &[u8],
     text: &[u8],
     work: &mut [u32],
-    words: &mut [usize; 8],
-    row: &[usize; 3],
+    words: &mut [usize; 10],
     alone: bool,
     sorts: &[u32; 9],
     n: usize,
 ) -> usize
     requires { Room words.old work.old × (n ≤ 9) × (length sorts.now ≡ 9) }
-    ensures { Typed (item_at (joint library.now text.now) (known_of words.old) alone (get_or row.now 0 0) (get_or row.now 1 0) n sorts.now (get_or words.old 5 0) (get_or words.old 6 0) work.old) (known_of words.old) (get_or words.old 7 0) result words.new work.new }
+    ensures { Typed (item_at (joint library.now text.now) (known_of words.old) alone (get_or words.old 8 0) (get_or words.old 9 0) n sorts.now (get_or words.old 5 0) (get_or words.old 6 0) work.old) (known_of words.old) (get_or words.old 7 0) result words.new work.new }
 {
     let known = known_of(words);
     let count = known.count;
-    let i = row[0];
-    let q = row[1];
+    let i = words[8];
+    let q = words[9];
     let next = words[5];
     let free = words[6];
     let v = variable_row(library, text, work, known, i, alone);
@@ -202,53 +220,51 @@ fn item_in(
 
 // The same by the reference to the memory.
 fn type_item(
-    library: &&[u8],
-    text: &&[u8],
+    texts: &Texts,
     work: &mut &mut [u32],
-    words: &mut [usize; 8],
-    row: &[usize; 3],
+    words: &mut [usize; 10],
     alone: bool,
     sorts: &[u32; 9],
     n: usize,
 ) -> usize
     requires { Room words.old work.old.now × (n ≤ 9) × (length sorts.now ≡ 9) }
-    ensures { Reached (item_at (joint library.now.now text.now.now) (known_of words.old) alone (get_or row.now 0 0) (get_or row.now 1 0) n sorts.now (get_or words.old 5 0) (get_or words.old 6 0) work.old.now) (known_of words.old) (get_or words.old 7 0) work.old result words.new work.new }
+    ensures { Reached (item_at (joint texts.now.library.now texts.now.text.now) (known_of words.old) alone (get_or words.old 8 0) (get_or words.old 9 0) n sorts.now (get_or words.old 5 0) (get_or words.old 6 0) work.old.now) (known_of words.old) (get_or words.old 7 0) work.old result words.new work.new }
 {
-    item_in(*library, *text, *work, words, row, alone, sorts, n)
+    item_in(texts.library, texts.text, *work, words, alone, sorts, n)
 }
 
 // The name at the row, alone.
 fn type_leaf(
-    library: &&[u8],
-    text: &&[u8],
+    texts: &Texts,
     work: &mut &mut [u32],
-    words: &mut [usize; 8],
+    words: &mut [usize; 10],
     row: &[usize; 3],
     sorts: &[u32; 9],
 ) -> usize
     requires { Room words.old work.old.now × (get_or row.now 0 0 < get_or words.old 0 0) × (get_or row.now 1 0 < length work.old.now) × (sorts.now ≡ no_sorts) }
-    ensures { Reached (alone_at (joint library.now.now text.now.now) (known_of words.old) (get_or row.now 0 0) (get_or row.now 1 0) work.old.now) (known_of words.old) (get_or words.old 7 0) work.old result words.new work.new }
+    ensures { Reached (alone_at (joint texts.now.library.now texts.now.text.now) (known_of words.old) (get_or row.now 0 0) (get_or row.now 1 0) work.old.now) (known_of words.old) (get_or words.old 7 0) work.old result words.new work.new }
 {
     let i = row[0];
     let q = row[1];
     move_to(words, i + 1, q + 1);
-    type_item(library, text, work, words, row, true, sorts, 0)
+    point_at(words, row);
+    type_item(texts, work, words, true, sorts, 0)
 }
 
 // The name at the row with arguments of the first n sorts.
 fn type_named(
-    library: &&[u8],
-    text: &&[u8],
+    texts: &Texts,
     work: &mut &mut [u32],
-    words: &mut [usize; 8],
+    words: &mut [usize; 10],
     row: &[usize; 3],
     sorts: &[u32; 9],
     n: usize,
 ) -> usize
     requires { Room words.old work.old.now × (n ≤ 9) × (length sorts.now ≡ 9) }
-    ensures { Reached (applied_at (joint library.now.now text.now.now) (known_of words.old) (get_or row.now 0 0) (get_or row.now 1 0) n sorts.now (get_or words.old 5 0) (get_or words.old 6 0) work.old.now) (known_of words.old) (get_or words.old 7 0) work.old result words.new work.new }
+    ensures { Reached (applied_at (joint texts.now.library.now texts.now.text.now) (known_of words.old) (get_or row.now 0 0) (get_or row.now 1 0) n sorts.now (get_or words.old 5 0) (get_or words.old 6 0) work.old.now) (known_of words.old) (get_or words.old 7 0) work.old result words.new work.new }
 {
-    type_item(library, text, work, words, row, false, sorts, n)
+    point_at(words, row);
+    type_item(texts, work, words, false, sorts, n)
 }
 
 // How many operands the operator at i has, if there is room for its node at q; 0 where none stands there.
@@ -272,7 +288,7 @@ fn operands_at(work: &[u32], t: usize, i: usize, q: usize) -> usize
 // The operators that stand one behind the other from i on, as far as the depth, the room and a word go: the entry and the place behind them, and
 // a word that tells which are infix, of the last one in its lowest bit. It is kept, as the tape is not read again: nodes may have been written there. All
 // that a level keeps of its row is in this one array, which is lent, so that no frame has any of it twice; the depth there is left in the words.
-fn operators_from(work: &mut [u32], words: &mut [usize; 8], i: usize, q: usize) -> [usize; 3]
+fn operators_from(work: &mut [u32], words: &mut [usize; 10], i: usize, q: usize) -> [usize; 3]
     requires { Room words.old work.old }
     ensures { Operators words.old i q work.old result words.new work.new }
 {
@@ -297,28 +313,27 @@ fn operators_from(work: &mut [u32], words: &mut [usize; 8], i: usize, q: usize) 
 // The operator at the row, whose first operand is typed, and whose second follows if it is infix.
 #[cycle(typing)]
 fn type_operator(
-    library: &&[u8],
-    text: &&[u8],
+    texts: &Texts,
     work: &mut &mut [u32],
-    words: &mut [usize; 8],
+    words: &mut [usize; 10],
     row: &[usize; 3],
     sorts: &mut [u32; 9],
     first: usize,
 ) -> usize
     requires { Room words.old work.old.now × (first ≡ 0 → ⊥) × (first ≤ 4294967296) }
-    ensures { Reached (operated (joint library.now.now text.now.now) (known_of words.old) (get_or words.old 7 0) (get_or row.now 2 0) (get_or row.now 0 0) (get_or row.now 1 0) (out (answered first (get_or words.old 5 0) (get_or words.old 6 0)) work.old.now)) (known_of words.old) (get_or words.old 7 0) work.old result words.new work.new }
+    ensures { Reached (operated (joint texts.now.library.now texts.now.text.now) (known_of words.old) (get_or words.old 7 0) (get_or row.now 2 0) (get_or row.now 0 0) (get_or row.now 1 0) (out (answered first (get_or words.old 5 0) (get_or words.old 6 0)) work.old.now)) (known_of words.old) (get_or words.old 7 0) work.old result words.new work.new }
 {
     *sorts = [0; 9];
     sorts[0] = (first - 1) as u32;
     if row[2] % 2 == 0 {
-        return type_named(library, text, work, words, row, sorts, 1);
+        return type_named(texts, work, words, row, sorts, 1);
     }
-    let second = type_deep(library, text, work, words);
+    let second = type_deep(texts, work, words);
     if second == 0 {
         return 0;
     }
     sorts[1] = (second - 1) as u32;
-    type_named(library, text, work, words, row, sorts, 2)
+    type_named(texts, work, words, row, sorts, 2)
 }
 
 // The row at its last operator.
@@ -345,21 +360,20 @@ fn shorten(row: &mut [usize; 3])
 // The operators of the row, from the last one to the first; the term behind them is typed.
 #[cycle(typing)]
 fn type_back(
-    library: &&[u8],
-    text: &&[u8],
+    texts: &Texts,
     work: &mut &mut [u32],
-    words: &mut [usize; 8],
+    words: &mut [usize; 10],
     row: &mut [usize; 3],
     sorts: &mut [u32; 9],
     first: usize,
 ) -> usize
     requires { Room words.old work.old.now × (first ≡ 0 → ⊥) × (first ≤ 4294967296) × Backed (get_or words.old 7 0) row.old }
-    ensures { Reached (returned (joint library.now.now text.now.now) (known_of words.old) (get_or words.old 7 0) row.old (out (answered first (get_or words.old 5 0) (get_or words.old 6 0)) work.old.now)) (known_of words.old) (get_or words.old 7 0 + operators_in row.old) work.old result words.new work.new }
+    ensures { Reached (returned (joint texts.now.library.now texts.now.text.now) (known_of words.old) (get_or words.old 7 0) row.old (out (answered first (get_or words.old 5 0) (get_or words.old 6 0)) work.old.now)) (known_of words.old) (get_or words.old 7 0 + operators_in row.old) work.old result words.new work.new }
 {
     let mut sort = first;
     while 1 < row[2] {
         step_back(row);
-        sort = type_operator(library, text, work, words, row, sorts, sort);
+        sort = type_operator(texts, work, words, row, sorts, sort);
         if sort == 0 {
             return 0;
         }
@@ -389,15 +403,14 @@ fn role_in(work: &mut [u32], t: usize, i: usize) -> u32
 // The name at the row with the arguments in its brackets, which are from the places on. Where the tape ends is read at each turn: no level keeps it.
 #[cycle(typing)]
 fn type_args(
-    library: &&[u8],
-    text: &&[u8],
+    texts: &Texts,
     work: &mut &mut [u32],
-    words: &mut [usize; 8],
+    words: &mut [usize; 10],
     row: &[usize; 3],
     sorts: &mut [u32; 9],
 ) -> usize
     requires { Room words.old work.old.now × (get_or words.old 7 0 ≡ 0 → ⊥) × (sorts.old ≡ no_sorts) }
-    ensures { Reached (args_at (joint library.now.now text.now.now) (known_of words.old) (get_or words.old 7 0 - 1) (get_or row.now 0 0) (get_or row.now 1 0) 1 9 (get_or words.old 5 0) (get_or words.old 6 0) 0 no_sorts work.old.now) (known_of words.old) (get_or words.old 7 0) work.old result words.new work.new }
+    ensures { Reached (args_at (joint texts.now.library.now texts.now.text.now) (known_of words.old) (get_or words.old 7 0 - 1) (get_or row.now 0 0) (get_or row.now 1 0) 1 9 (get_or words.old 5 0) (get_or words.old 6 0) 0 no_sorts work.old.now) (known_of words.old) (get_or words.old 7 0) work.old result words.new work.new }
 {
     let mut count = 0;
     loop {
@@ -406,13 +419,13 @@ fn type_args(
         if ends_in(*work, t, 9 - count, at) {
             let free = words[6];
             move_to(words, behind(at, 1), free);
-            return type_named(library, text, work, words, row, sorts, count);
+            return type_named(texts, work, words, row, sorts, count);
         }
         if count == 9 {
             return 0;
         }
         descend(words);
-        let sort = type_deep(library, text, work, words);
+        let sort = type_deep(texts, work, words);
         if sort == 0 {
             return 0;
         }
@@ -424,30 +437,24 @@ fn type_args(
 
 // The term behind as many operators as a word tells of. Apart, so that what its call is lent is not kept beside what the others are.
 #[cycle(typing)]
-fn type_onward(
-    library: &&[u8],
-    text: &&[u8],
-    work: &mut &mut [u32],
-    words: &mut [usize; 8],
-) -> usize
+fn type_onward(texts: &Texts, work: &mut &mut [u32], words: &mut [usize; 10]) -> usize
     requires { Room words.old work.old.now }
-    ensures { Reached (term_at (joint library.now.now text.now.now) (known_of words.old) (get_or words.old 7 0) (get_or words.old 5 0) (get_or words.old 6 0) work.old.now) (known_of words.old) (get_or words.old 7 0) work.old result words.new work.new }
+    ensures { Reached (term_at (joint texts.now.library.now texts.now.text.now) (known_of words.old) (get_or words.old 7 0) (get_or words.old 5 0) (get_or words.old 6 0) work.old.now) (known_of words.old) (get_or words.old 7 0) work.old result words.new work.new }
 {
-    type_deep(library, text, work, words)
+    type_deep(texts, work, words)
 }
 
 // The term behind the row. One with an operator in front may be there only if the row has some: all that a word tells of.
 #[cycle(typing)]
 fn type_primary(
-    library: &&[u8],
-    text: &&[u8],
+    texts: &Texts,
     work: &mut &mut [u32],
-    words: &mut [usize; 8],
+    words: &mut [usize; 10],
     row: &[usize; 3],
     sorts: &mut [u32; 9],
 ) -> usize
     requires { Room words.old work.old.now × (sorts.old ≡ no_sorts) × Ended (known_of words.old) (get_or words.old 7 0) row.now work.old.now }
-    ensures { Reached (term_at (joint library.now.now text.now.now) (known_of words.old) (get_or words.old 7 0) (get_or row.now 0 0) (get_or row.now 1 0) work.old.now) (known_of words.old) (get_or words.old 7 0) work.old result words.new work.new }
+    ensures { Reached (term_at (joint texts.now.library.now texts.now.text.now) (known_of words.old) (get_or words.old 7 0) (get_or row.now 0 0) (get_or row.now 1 0) work.old.now) (known_of words.old) (get_or words.old 7 0) work.old result words.new work.new }
 {
     if words[7] == 0 {
         return 0;
@@ -459,15 +466,15 @@ fn type_primary(
         if q < work.len() {
             let role = role_in(*work, t, i);
             if role == roles::ALONE {
-                return type_leaf(library, text, work, words, row, sorts);
+                return type_leaf(texts, work, words, row, sorts);
             }
             if role == roles::HEAD {
                 move_to(words, i + 1, q + 1);
-                return type_args(library, text, work, words, row, sorts);
+                return type_args(texts, work, words, row, sorts);
             }
             if 1 < row[2] {
                 move_to(words, i, q);
-                return type_onward(library, text, work, words);
+                return type_onward(texts, work, words);
             }
             return 0;
         }
@@ -479,19 +486,19 @@ fn type_primary(
 // The term at the place, down to a depth; its nodes are written from the second place on. An operator stands before its first operand, so a loop
 // goes over a row of them and another one back: a level is a pair of brackets or a second operand. The sorts are lent to both, so that it has them once.
 #[cycle(typing)]
-fn type_deep(library: &&[u8], text: &&[u8], work: &mut &mut [u32], words: &mut [usize; 8]) -> usize
+fn type_deep(texts: &Texts, work: &mut &mut [u32], words: &mut [usize; 10]) -> usize
     requires { Room words.old work.old.now }
-    ensures { Reached (term_at (joint library.now.now text.now.now) (known_of words.old) (get_or words.old 7 0) (get_or words.old 5 0) (get_or words.old 6 0) work.old.now) (known_of words.old) (get_or words.old 7 0) work.old result words.new work.new }
+    ensures { Reached (term_at (joint texts.now.library.now texts.now.text.now) (known_of words.old) (get_or words.old 7 0) (get_or words.old 5 0) (get_or words.old 6 0) work.old.now) (known_of words.old) (get_or words.old 7 0) work.old result words.new work.new }
 {
     let i = words[5];
     let q = words[6];
     let mut row = operators_from(*work, words, i, q);
     let mut sorts = [0; 9];
-    let first = type_primary(library, text, work, words, &row, &mut sorts);
+    let first = type_primary(texts, work, words, &row, &mut sorts);
     if first == 0 {
         return 0;
     }
-    type_back(library, text, work, words, &mut row, &mut sorts, first)
+    type_back(texts, work, words, &mut row, &mut sorts, first)
 }
 
 // The same for the slice itself, which is lent on by one reference. The borrow checker covers that where the slice is moved, so it is moved, and handed
@@ -500,14 +507,15 @@ fn type_lent<'a>(
     library: &[u8],
     text: &[u8],
     work: &'a mut [u32],
-    words: &mut [usize; 8],
+    words: &mut [usize; 10],
     sort: &mut usize,
 ) -> &'a mut [u32]
     requires { Room words.old work.old }
     ensures { Reached (term_at (joint library.now text.now) (known_of words.old) (get_or words.old 7 0) (get_or words.old 5 0) (get_or words.old 6 0) work.old) (known_of words.old) (get_or words.old 7 0) work.entry sort.new words.new result }
 {
+    let texts = Texts { library, text };
     let mut lent = work;
-    *sort = type_deep(&library, &text, &mut lent, words);
+    *sort = type_deep(&texts, &mut lent, words);
     let back = lent;
     back
 }

@@ -30,7 +30,7 @@ decreases-type_primary l = (get_or l.words.now 7 0 + operators_in l.row.now) * 3
 
 abbrev pub invariant-type_args-loop-free : goal.invariant-type_args-loop-free
 invariant-type_args-loop-free l =
-    Deep (joint l.library.now l.text.now) l.initial.words (get_or l.row 0 0) (get_or l.row 1 0) l.initial.work l.count l.sorts l.words l.work
+    Deep (joint l.texts.library.now l.texts.text.now) l.initial.words (get_or l.row 0 0) (get_or l.row 1 0) l.initial.work l.count l.sorts l.words l.work
 
 abbrev pub decreases-type_args-loop-free : goal.decreases-type_args-loop-free
 decreases-type_args-loop-free l =
@@ -38,7 +38,7 @@ decreases-type_args-loop-free l =
 
 abbrev pub invariant-type_back-loop-row : goal.invariant-type_back-loop-row
 invariant-type_back-loop-row l =
-    Returning (joint l.library.now l.text.now) l.initial.words l.initial.row l.first l.initial.work l.row l.sort l.words l.work
+    Returning (joint l.texts.library.now l.texts.text.now) l.initial.words l.initial.row l.first l.initial.work l.row l.sort l.words l.work
 
 abbrev pub decreases-type_back-loop-row : goal.decreases-type_back-loop-row
 decreases-type_back-loop-row l =

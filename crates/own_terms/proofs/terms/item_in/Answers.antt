@@ -6,11 +6,11 @@ use Rattle.own_terms.proofs.terms.item_in.Goals as goal
 pub known_of-known-requires : goal.known_of-known-requires
 known_of-known-requires c = search argued
 
-pub bounds-row-0 : goal.bounds-row-0
-bounds-row-0 c = search argued
+pub bounds-words-8 : goal.bounds-words-8
+bounds-words-8 c = search argued
 
-pub bounds-row-1 : goal.bounds-row-1
-bounds-row-1 c = search argued
+pub bounds-words-9 : goal.bounds-words-9
+bounds-words-9 c = search argued
 
 pub bounds-words-5 : goal.bounds-words-5
 bounds-words-5 c = search argued
