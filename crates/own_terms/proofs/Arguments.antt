@@ -13,7 +13,7 @@ use Rattle.own_finding.specs.declared.Known.{Known}
 use Rattle.own_finding.specs.Arguments.{ends_at}
 use Rattle.own_terms.specs.declared.Answer.{Answer}
 use Rattle.own_terms.specs.declared.Answer.TheVariants.{Ill}
-use Rattle.own_terms.specs.Typing.{Out, out, settled, variable_at, no_sorts, alone_at, applied_at, term_at, args_at, known_of, At, Pointed, Room, answered, Told, Typed, Lent, Reached, Read, item_at}
+use Rattle.own_terms.specs.Typing.{Out, out, settled, variable_at, no_sorts, alone_at, applied_at, term_at, args_at, known_of, At, AtName, Room, answered, Told, Typed, Lent, Reached, Read, item_at}
 use Rattle.own_terms.proofs.Cases.{stays_on, end_fits, Arguing, args_start, args_again, args_end, args_done, args_many, args_ill}
 use Rattle.own_terms.proofs.Words.{room_on, room_at, typed_as, reached_ill, reached_as, reached_on, reached_out, reached_at, reached_long, reached_rises, answered_sorted, answered_ill, worded}
 
@@ -36,14 +36,14 @@ pub leaf_nine : (sorts : List ℕ) → sorts ≡ no_sorts → length sorts ≡ 9
 leaf_nine sorts e = rw e refl
 
 pub leaf_told : (text : List ℕ) (k : Known) (i q d : ℕ) (sorts p₁ p₂ : List ℕ) (w : Lent) (r : ℕ) (p : List ℕ) (u : Lent) → sorts ≡ no_sorts
-    → At k (i + 1) (q + 1) d p₁ → Pointed p₁ i q p₂
+    → At k (i + 1) (q + 1) d p₁ → AtName p₁ i q p₂
     → Reached (item_at text (known_of p₂) true (get_or p₂ 8 0) (get_or p₂ 9 0) 0 sorts (get_or p₂ 5 0) (get_or p₂ 6 0) w.now) (known_of p₂) (get_or p₂ 7 0) w r p u
     → Reached (alone_at text k i q w.now) k d w r p u
 unfolding item_at variable_at alone_at pick
 leaf_told text k i q d sorts p₁ p₂ w r p u e t m h =
     rw (e, m.entry, m.place, m.left.known ∙ t.known, m.left.next_at ∙ t.next_at, m.left.free_at ∙ t.free_at, m.left.deep ∙ t.deep) at h
 
-pub named_told : (text p₀ : List ℕ) (i q n : ℕ) (sorts p₁ : List ℕ) (w : Lent) (r : ℕ) (p : List ℕ) (u : Lent) → Pointed p₀ i q p₁
+pub named_told : (text p₀ : List ℕ) (i q n : ℕ) (sorts p₁ : List ℕ) (w : Lent) (r : ℕ) (p : List ℕ) (u : Lent) → AtName p₀ i q p₁
     → Reached (item_at text (known_of p₁) false (get_or p₁ 8 0) (get_or p₁ 9 0) n sorts (get_or p₁ 5 0) (get_or p₁ 6 0) w.now) (known_of p₁) (get_or p₁ 7 0) w r p u
     → Reached (applied_at text (known_of p₀) i q n sorts (get_or p₀ 5 0) (get_or p₀ 6 0) w.now) (known_of p₀) (get_or p₀ 7 0) w r p u
 unfolding item_at variable_at pick

@@ -11,7 +11,7 @@ use denote.Ref.{at_last}
 use Rattle.own_finding.specs.declared.Known.{Known}
 use Rattle.own_terms.specs.declared.Answer.{Answer}
 use Rattle.own_terms.specs.declared.Answer.TheVariants.{Sorted, Ill}
-use Rattle.own_terms.specs.Typing.{Out, out, operators_in, known_of, Words, At, Pointed, Room, answered, Told, Typed, Lent, Stays, Reached}
+use Rattle.own_terms.specs.Typing.{Out, out, operators_in, known_of, Words, At, AtName, Room, answered, Told, Typed, Lent, Stays, Reached}
 use Rattle.own_terms.proofs.Cases.{stays_on}
 
 -- ---- what is known
@@ -97,7 +97,7 @@ module _ (p : List ℕ) (l : length p ≡ 10) where
         deep = get_or-set_same p 7 d 0 (omega arith);
       })
 
-  pub pointed : (i q : ℕ) (p' : List ℕ) → p' ≡ set (set p 8 i) 9 q → Pointed p i q p'
+  pub pointed : (i q : ℕ) (p' : List ℕ) → p' ≡ set (set p 8 i) 9 q → AtName p i q p'
   pointed i q p' e =
       let first = set p 8 i in
       let size = length-set p 8 i in
@@ -139,11 +139,8 @@ room_as p p' w l e d h = record {
 pub room_at : (p w : List ℕ) (i q d : ℕ) (p' : List ℕ) → At (known_of p) i q d p' → d ≤ get_or p 7 0 → Room p w → Room p' w
 room_at p w i q d p' e m h = room_as p p' w e.long e.known (rw e.deep (omega (arith, h.words.small))) h
 
-pub room_pointed : (p w : List ℕ) (i q : ℕ) (p' : List ℕ) → Pointed p i q p' → Room p w → Room p' w
+pub room_pointed : (p w : List ℕ) (i q : ℕ) (p' : List ℕ) → AtName p i q p' → Room p w → Room p' w
 room_pointed p w i q p' e h = room_at p w (get_or p 5 0) (get_or p 6 0) (get_or p 7 0) p' e.left (omega arith) h
-
-pub at_long : (k : Known) (i q d : ℕ) (p : List ℕ) → At k i q d p → length p ≡ 10
-at_long k i q d p e = e.long
 
 pub room_tape : (p w : List ℕ) → Room p w → get_or p 0 0 ≤ length w
 room_tape p w h = h.tape
@@ -220,4 +217,4 @@ unfolding answered
 answered_ill r next free e = rw e
 
 -- what the words of a level hand to `search`
-pub ruleset worded = (known_told, known_at, known_tape, known_count, known_row, known_hidden, room_known, moved, deepened, pointed, room_at, room_pointed, at_long, room_tape, room_long, at_some, at_less, tell_ill, tell_sorted, reached_lent, reached_fits, reached_word, reached_long, reached_rises, reached_room, rules)
+pub ruleset worded = (known_told, known_at, known_tape, known_count, known_row, known_hidden, room_known, moved, deepened, pointed, room_at, room_pointed, room_tape, room_long, at_some, at_less, tell_ill, tell_sorted, reached_lent, reached_fits, reached_word, reached_long, reached_rises, reached_room, rules)

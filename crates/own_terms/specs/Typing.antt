@@ -117,7 +117,7 @@ pub record At (k : Known) (next free depth : ℕ) (p : List ℕ) : Type 0 where
   pub deep : get_or p 7 0 ≡ depth
 
 -- the words, but that they point at a name: its entry, and the place of its node
-pub record Pointed (p : List ℕ) (i q : ℕ) (p' : List ℕ) : Type 0 where
+pub record AtName (p : List ℕ) (i q : ℕ) (p' : List ℕ) : Type 0 where
   pub left : At (known_of p) (get_or p 5 0) (get_or p 6 0) (get_or p 7 0) p'
   pub entry : get_or p' 8 0 ≡ i
   pub place : get_or p' 9 0 ≡ q

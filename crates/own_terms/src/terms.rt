@@ -6,7 +6,7 @@ ghost use Rattle.text_names.specs.Joint.{joint};
 ghost use Rattle.form_rows.specs.Entries.{role_at};
 ghost use Rattle.form.specs.Memory.{part};
 ghost use Rattle.own_finding.specs.Arguments.{ends_at};
-ghost use Rattle.own_terms.specs.Typing.{out, settled, variable_at, function_row, alone_at, applied_at, no_sorts, args_at, term_at, operated, returned, Backed, stepped, shortened, operators_in, operands_at, Operators, Ended, known_of, Words, At, Pointed, Room, answered, Told, Typed, Reached, Read, item_at};
+ghost use Rattle.own_terms.specs.Typing.{out, settled, variable_at, function_row, alone_at, applied_at, no_sorts, args_at, term_at, operated, returned, Backed, stepped, shortened, operators_in, operands_at, Operators, Ended, known_of, Words, At, AtName, Room, answered, Told, Typed, Reached, Read, item_at};
 
 use super::Answer;
 use form_rows::ROW_STEP;
@@ -155,7 +155,7 @@ fn move_to(words: &mut [usize; 10], next: usize, free: usize)
 // The words at a name, whose places are the row's.
 fn point_at(words: &mut [usize; 10], row: &[usize; 3])
     requires { length words.old ≡ 10 }
-    ensures { Pointed words.old (get_or row.now 0 0) (get_or row.now 1 0) words.new }
+    ensures { AtName words.old (get_or row.now 0 0) (get_or row.now 1 0) words.new }
 {
     words[8] = row[0];
     words[9] = row[1];
