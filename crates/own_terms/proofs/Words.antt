@@ -1,4 +1,4 @@
--- What a level of a term is lent, in words: what is known, the two places and the depth, the room in the memory, and an answer as a number.
+-- What a level of a term is lent, in words: what is known, the two places, the depth and a name's places, the room in the memory, and an answer as a number.
 use mathlib.Core.Path.{◌≡◌, refl, sym, ap, ◌∙◌}
 use mathlib.Core.List.{List, [], ◌∷◌}
 use Prim.Native.Nat.{ℕ, zero, suc, ◌+◌, ◌-◌, ◌*◌, ◌^◌, ◌<◌, ◌≤◌}
@@ -58,7 +58,7 @@ room_known known i q d p w e t f m b c v h =
       fits = f;
     }
 
--- ---- the words at other places, and at another depth
+-- ---- the words at other places, at another depth, and at a name
 
 known_same : (p : List ℕ) (j v : ℕ) → 4 < j → known_of (set p j v) ≡ known_of p
 unfolding known_of

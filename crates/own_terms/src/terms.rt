@@ -1,6 +1,6 @@
 // The typer of terms: a term and its arguments call each other, with the depth falling. The memory goes down by one reference, which takes a register:
-// a slice is handed over as a copy in memory, of which each level would keep one. The texts go down by another, and what is known, the places and the
-// depth by a third; so what a level calls is handed so little that next to nothing of it is on the stack.
+// a slice is handed over as a copy in memory, of which each level would keep one. The texts go down by another, and by a third what is known, the places
+// and the depth, so that what a level hands on is in registers, but for a word.
 ghost use Rattle.std.specs.Prelude.{◌≡◌, ◌+◌, ◌-◌, ◌^◌, ◌≤◌, ◌<◌, length, get_or};
 ghost use Rattle.text_names.specs.Joint.{joint};
 ghost use Rattle.form_rows.specs.Entries.{role_at};
@@ -106,7 +106,7 @@ fn type_applied(
 }
 
 // The words that a level is lent: what is known, which is the tape, base, count, visible and hidden, then the two places and the depth, and the two
-// places of a name that is typed. They are in one array, so that one reference goes down, and no level keeps any of them.
+// places of a name that is typed. They are in one array, so that one reference goes down.
 fn known_words(k: Known, i: usize, q: usize, depth: usize) -> [usize; 10]
     ensures { At k i q depth result }
 {
@@ -218,7 +218,7 @@ fn item_in(
     tell(a, words)
 }
 
-// The same by the reference to the memory.
+// The same by the references that go down.
 fn type_item(
     texts: &Texts,
     work: &mut &mut [u32],
