@@ -1,6 +1,6 @@
 // Terms, written as `f(a,b)`. Their nodes stand in prefix order in the memory, and the visible items' rows from `visible` on.
-// A level of a term takes little stack: what goes down is lent, in four places and the output by one reference, and what only a node
-// needs is out of its way.
+// A level of a term takes little stack: what goes down is lent, in four places, the output by one reference and what is read by another,
+// and what only a node needs is out of its way.
 ghost use Rattle.std.specs.Prelude.{◌≡◌, ◌+◌, ◌-◌, ◌*◌, ◌%◌, ◌<◌, get_or};
 ghost use Rattle.text_names.specs.Joint.{joint};
 ghost use Rattle.list_pen.specs.Pen.{pen, written};
@@ -10,6 +10,14 @@ ghost use Rattle.list_terms.specs.Terms.{node_text, item_at, alone, opened, clos
 use super::Printed;
 use form_rows::ROW_STEP;
 use form_rows::entries::word_at;
+
+// What a term is written from: the texts that the names are in, and the memory that has the nodes and the rows.
+#[derive(Clone, Copy)]
+struct Source<'a> {
+    library: &'a [u8],
+    text: &'a [u8],
+    work: &'a [u32],
+}
 
 // The word of the name of a visible item's row; 0 where no rows are.
 fn name_word(work: &[u32], visible: usize, row: u32) -> u32
@@ -66,20 +74,23 @@ fn put_single(
 }
 
 // The same at four places, which are those of the output, the node, the limit and the visible rows.
-fn put_node(
-    out: &mut &mut [u8],
-    library: &&[u8],
-    text: &&[u8],
-    work: &&[u32],
-    places: &mut [usize; 4],
-)
-    ensures { Placed (item_at (joint library.now.now text.now.now) work.now.now (get_or places.old 3 0) (get_or places.old 1 0)) places.old out.old places.new out.new }
+fn put_node(out: &mut &mut [u8], source: &Source, places: &mut [usize; 4])
+    ensures { Placed (item_at (joint source.now.library.now source.now.text.now) source.now.work.now (get_or places.old 3 0) (get_or places.old 1 0)) places.old out.old places.new out.new }
 {
     let at = places[0];
     let i = places[1];
     let limit = places[2];
     let visible = places[3];
-    let p = put_single(*out, at, limit, *library, *text, *work, visible, i);
+    let p = put_single(
+        *out,
+        at,
+        limit,
+        source.library,
+        source.text,
+        source.work,
+        visible,
+        i,
+    );
     let to = p.at;
     let next = p.next;
     *places = [to, next, limit, visible];
@@ -114,39 +125,26 @@ fn others_at(work: &[u32], i: usize, n: usize) -> usize
 }
 
 // An item that has arguments, and the bracket before them.
-fn put_opened(
-    out: &mut &mut [u8],
-    library: &&[u8],
-    text: &&[u8],
-    work: &&[u32],
-    places: &mut [usize; 4],
-)
-    ensures { Placed (opened (item_at (joint library.now.now text.now.now) work.now.now (get_or places.old 3 0) (get_or places.old 1 0))) places.old out.old places.new out.new }
+fn put_opened(out: &mut &mut [u8], source: &Source, places: &mut [usize; 4])
+    ensures { Placed (opened (item_at (joint source.now.library.now source.now.text.now) source.now.work.now (get_or places.old 3 0) (get_or places.old 1 0))) places.old out.old places.new out.new }
 {
-    put_node(out, library, text, work, places);
+    put_node(out, source, places);
     put_mark(out, places, b'(');
 }
 
 // The items from the node on, each with its bracket, and the first that has no arguments, unless the depth ends before it; how many
 // brackets are open.
-fn put_heads(
-    out: &mut &mut [u8],
-    library: &&[u8],
-    text: &&[u8],
-    work: &&[u32],
-    places: &mut [usize; 4],
-    depth: usize,
-) -> usize
-    ensures { Headed (joint library.now.now text.now.now) work.now.now depth result places.old out.old places.new out.new }
+fn put_heads(out: &mut &mut [u8], source: &Source, places: &mut [usize; 4], depth: usize) -> usize
+    ensures { Headed (joint source.now.library.now source.now.text.now) source.now.work.now depth result places.old out.old places.new out.new }
 {
     let mut n = 0;
     while n < depth {
         let i = places[1];
-        if arguments_at(*work, i) == 0 {
-            put_node(out, library, text, work, places);
+        if arguments_at(source.work, i) == 0 {
+            put_node(out, source, places);
             return n;
         }
-        put_opened(out, library, text, work, places);
+        put_opened(out, source, places);
         n += 1;
     }
     n
@@ -156,19 +154,17 @@ fn put_heads(
 #[cycle(writing)]
 fn put_more(
     out: &mut &mut [u8],
-    library: &&[u8],
-    text: &&[u8],
-    work: &&[u32],
+    source: &Source,
     places: &mut [usize; 4],
     depth: usize,
     left: usize,
 )
-    ensures { Placed (closed (term_at (joint library.now.now text.now.now) work.now.now (get_or places.old 3 0) depth) left (get_or places.old 1 0)) places.old out.old places.new out.new }
+    ensures { Placed (closed (term_at (joint source.now.library.now source.now.text.now) source.now.work.now (get_or places.old 3 0) depth) left (get_or places.old 1 0)) places.old out.old places.new out.new }
 {
     let mut more = left;
     while 0 < more {
         put_mark(out, places, b',');
-        put_deep(out, library, text, work, places, depth);
+        put_deep(out, source, places, depth);
         more -= 1;
     }
     put_mark(out, places, b')');
@@ -177,22 +173,15 @@ fn put_more(
 // The term at the node, down to a depth. First arguments stand straight behind their items, so a loop goes down them and one goes back:
 // only the other arguments take a level.
 #[cycle(writing)]
-fn put_deep(
-    out: &mut &mut [u8],
-    library: &&[u8],
-    text: &&[u8],
-    work: &&[u32],
-    places: &mut [usize; 4],
-    depth: usize,
-)
-    ensures { Placed (term_at (joint library.now.now text.now.now) work.now.now (get_or places.old 3 0) depth (get_or places.old 1 0)) places.old out.old places.new out.new }
+fn put_deep(out: &mut &mut [u8], source: &Source, places: &mut [usize; 4], depth: usize)
+    ensures { Placed (term_at (joint source.now.library.now source.now.text.now) source.now.work.now (get_or places.old 3 0) depth (get_or places.old 1 0)) places.old out.old places.new out.new }
 {
     let i = places[1];
-    let mut n = put_heads(out, library, text, work, places, depth);
+    let mut n = put_heads(out, source, places, depth);
     while 0 < n {
         n -= 1;
-        let left = others_at(*work, i, n);
-        put_more(out, library, text, work, places, depth - n - 1, left);
+        let left = others_at(source.work, i, n);
+        put_more(out, source, places, depth - n - 1, left);
     }
 }
 
@@ -208,8 +197,13 @@ fn put_lent<'a>(
 ) -> &'a mut [u8]
     ensures { Placed (term_at (joint library.now text.now) work.now (get_or places.old 3 0) depth (get_or places.old 1 0)) places.old out.entry places.new result }
 {
+    let source = Source {
+        library,
+        text,
+        work,
+    };
     let mut lent = out;
-    put_deep(&mut lent, &library, &text, &work, places, depth);
+    put_deep(&mut lent, &source, places, depth);
     let back = lent;
     back
 }

@@ -20,7 +20,9 @@ fn note_same(work: &mut [u32], base: u32, n: u32)
     }
 }
 
-// The hidden items and the equations of g into f, which has its parameters and its visible rows: no more than 1,024 hidden items.
+// The hidden items and the equations of g into f, which has its parameters and its visible rows: no more than 1,024 hidden items. Out of line, so that
+// what it needs has no room in the frame below which terms are typed.
+#[inline(never)]
 pub fn join_hidden(
     library: &[u8],
     text: &[u8],
