@@ -9,10 +9,12 @@ pub fn deep_loads() -> Vec<Load> {
         load("deep terms", "Top", deep_terms()),
         load("deep operators", "Top", deep_operators()),
         load("deep operands", "Top", deep_operands()),
+        load("deep twins", "Top", deep_twins()),
         load("deep imports", "Top", deep_imports()),
         divided("deep terms, divided", "Top", deep_terms()),
         divided("deep operators, divided", "Top", deep_operators()),
         divided("deep operands, divided", "Top", deep_operands()),
+        divided("deep twins, divided", "Top", deep_twins()),
         divided("deep imports, divided", "Top", deep_imports()),
     ]
 }
@@ -67,6 +69,15 @@ fn deep_operators() -> String {
 fn deep_operands() -> String {
     let nested = format!("{}x+x{}=x", "x+(".repeat(15), ")".repeat(15));
     by_operators(&nested, &nested)
+}
+
+/// As deep, in an equation that comes to the last module twice and differs in its innermost name alone: to be ordered it is written to its end.
+fn deep_twins() -> String {
+    let nested = format!("{}c+b{}", "c+(".repeat(15), ")".repeat(15));
+    let exported = "sorts A functions _+_: A#A->A c: ->A b: ->A";
+    let deep =
+        format!("module Deep begin exports begin {exported} end equations [d] {nested}=c end Deep");
+    last_of_64(&[deep], "Deep,Deep {renamed by [b->e]}")
 }
 
 /// Two equations, one as a condition. They come to the last module under two names, as above.
