@@ -1,6 +1,6 @@
 // Terms, written as `f(a,b)`. Their nodes stand in prefix order in the memory, and the visible items' rows from `visible` on.
-// A level of a term takes little stack: what goes down is lent, in four places, the output by one reference and what is read by another,
-// and what only a node needs is out of its way.
+// A level of a term takes little stack: it is lent four places, the output and what is read, each by one reference, and what only a node
+// needs is out of its way.
 ghost use Rattle.std.specs.Prelude.{◌≡◌, ◌+◌, ◌-◌, ◌*◌, ◌%◌, ◌<◌, get_or};
 ghost use Rattle.text_names.specs.Joint.{joint};
 ghost use Rattle.list_pen.specs.Pen.{pen, written};

@@ -101,7 +101,8 @@ module _ (p : List ℕ) (l : length p ≡ 10) where
   pointed i q p' e =
       let first = set p 8 i in
       let size = length-set p 8 i in
-      let other : (j : ℕ) → j < 8 → get_or (set first 9 q) j 0 ≡ get_or p j 0 = λ j h. get_or-set_other first 9 j q 0 (λ e. omega arith) ∙ get_or-set_other p 8 j i 0 (λ e. omega arith) in
+      let other : (j : ℕ) → j < 8 → get_or (set first 9 q) j 0 ≡ get_or p j 0
+      = λ j h. get_or-set_other first 9 j q 0 (λ e. omega arith) ∙ get_or-set_other p 8 j i 0 (λ e. omega arith) in
       rw e
       (record {
         left = record {
