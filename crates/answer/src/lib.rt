@@ -14,7 +14,7 @@ ghost use Rattle.answer.specs.Answers.{held, told, told_listed};
 use form::Culprit;
 use meaning::numbers;
 
-// A name of at most 42 bytes, as many as an operator has with its underlines, and zeros behind it.
+// A name of at most 42 bytes, as many as an operator has with its underlines, and zeros behind it. All 42 and the length are what C is handed.
 #[derive(Clone, Copy)]
 pub struct Name {
     pub bytes: [u8; 42],
@@ -24,6 +24,7 @@ pub struct Name {
 // The number; how many modules were evaluated, the refused one included; the module evaluated when refused; the culprit, and where a binding's pair
 // is wrong the actual name, else a blank one; its place, and whether that is in the library; and how long the listing is. For 6 and 19 the module is
 // the asked one, or blank where the asked name has more than 40 bytes: the caller has it.
+// No enum of the ways to answer: C is handed the number and all values beside it, told or not.
 #[derive(Clone, Copy)]
 pub struct Answer {
     pub number: u32,

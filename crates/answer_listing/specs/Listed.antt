@@ -1,5 +1,5 @@
 -- The listing that is written of the form kept for the asked module is that of the answer, or it is too long for the lent output.
-use Rattle.std.specs.Prelude.{◌≡◌, ℕ, ◌+◌, ◌*◌, ◌<◌, ◌≤◌, Bool, true, false, List, [], ◌++◌, drop}
+use Rattle.std.specs.Prelude.{◌≡◌, ℕ, Option, Some, None, ◌+◌, ◌*◌, ◌<◌, ◌≤◌, Bool, true, false, List, [], ◌++◌, drop}
 use Rattle.std.proofs.Math.Path.{sym, ap}
 use Rattle.std.proofs.Common.{◌∙◌, arith}
 use Rattle.std.proofs.Math.ListN.{length}
@@ -18,8 +18,6 @@ use Rattle.form.specs.Memory.{part}
 use Rattle.form_layout.specs.Layout.{table_start}
 use Rattle.form_keeping.specs.Keeping.{form_at}
 use Rattle.form_keeping.specs.Environment.{kept_form}
-use Rattle.list.specs.declared.Written.{Written}
-use Rattle.list.specs.declared.Written.TheVariants.{Fits, TooLong}
 use Rattle.list.specs.Lines.{listing_text}
 use Rattle.list.specs.Meant.{listing_meant}
 use Rattle.list.specs.Fit.{result_of, fitted}
@@ -46,10 +44,10 @@ listing_told asked count n = λ i. record {
 }
 
 fits_size : (b : Bool) (n : ℕ) (bs o o' : List ℕ)
-    → result_of (Fits n) o' ≡ pick b (result_of (Fits (length bs)) (bs ++ drop (length bs) o)) (result_of TooLong o) → n ≡ length bs
+    → result_of (Some n) o' ≡ pick b (result_of (Some (length bs)) (bs ++ drop (length bs) o)) (result_of None o) → n ≡ length bs
 unfolding pick
-fits_size true n bs o o' e = let f : Fits n ≡ Fits (length bs) = ap (λ (x : Fit.Result). x.ended) e in cc
-fits_size false n bs o o' e = let f : Fits n ≡ TooLong = ap (λ (x : Fit.Result). x.ended) e in cc
+fits_size true n bs o o' e = let f : Some n ≡ Some (length bs) = ap (λ (x : Fit.Result). x.ended) e in cc
+fits_size false n bs o o' e = let f : Some n ≡ None = ap (λ (x : Fit.Result). x.ended) e in cc
 
 module _ (asked : List ℕ) (x : Reading) (text : List ℕ) (t : ℕ) (w : List ℕ) (name count last : ℕ) (evaluated : Evaluated asked x text t w name count last) where
   pub listed_within : t ≤ length w
@@ -75,7 +73,7 @@ module _ (asked : List ℕ) (x : Reading) (text : List ℕ) (t : ℕ) (w : List 
         ∙ listing_meant text (part w 0 t) w (kept_form w last) evaluated.normal name evaluated.stands.stands evaluated.sound
         ∙ ap (λ (m : Name). lines_text (listing_lines m evaluated.normal)) evaluated.called
 
-    module _ (o : List ℕ) (v : Written) (o' : List ℕ) (e : result_of v o' ≡ fitted (listing_text text (part w 0 t) w name f) o) where
+    module _ (o : List ℕ) (v : Option ℕ) (o' : List ℕ) (e : result_of v o' ≡ fitted (listing_text text (part w 0 t) w name f) o) where
       written : result_of v o' ≡ fitted (Meaning.listing whole) o
       written = e ∙ ap (λ (bs : List ℕ). fitted bs o) bytes_so
 
@@ -88,7 +86,7 @@ module _ (asked : List ℕ) (x : Reading) (text : List ℕ) (t : ℕ) (w : List 
       answer_lent : within (length o) asked (of_read asked x) ≡ answer_when asked whole v
       answer_lent = ap (within (length o) asked) evaluated.ended ∙ lent.answer
 
-      pub listed_answered : (n : ℕ) (r : Answer) → v ≡ Fits n → r ≡ told_listed count n → Answered asked x o r o'
+      pub listed_answered : (n : ℕ) (r : Answer) → v ≡ Some n → r ≡ told_listed count n → Answered asked x o r o'
       unfolding answer_when fitted
       listed_answered n r d q =
           let size : n ≡ length (Meaning.listing whole) = fits_size _ n (Meaning.listing whole) o o' (rw d at written) in
@@ -101,7 +99,7 @@ module _ (asked : List ℕ) (x : Reading) (text : List ℕ) (t : ℕ) (w : List 
             output = output_so;
           }
 
-      pub long_answered : (r : Answer) → v ≡ TooLong → r ≡ told (refusal lent_short count asked (lone []) 0) → Answered asked x o r o'
+      pub long_answered : (r : Answer) → v ≡ None → r ≡ told (refusal lent_short count asked (lone []) 0) → Answered asked x o r o'
       unfolding answer_when of_ended
       long_answered r d q =
           record { answer = q ∙ ap told (sym (answer_lent ∙ ap (answer_when asked whole) d)); output = output_so }

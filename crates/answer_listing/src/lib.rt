@@ -8,7 +8,7 @@ ghost use Rattle.answer_listing.specs.Answered.{Answered, Evaluated};
 use answer::{Answer, lent_short, listed};
 use form_keeping::read_form;
 use form_layout::table_start;
-use list::{Written, write_listing};
+use list::write_listing;
 
 // The listing of the form kept for module number `last`, under the name, after `count` modules were evaluated; 19 where it is longer than the
 // lent output.
@@ -29,7 +29,7 @@ pub fn list_module(
     let table = table_start();
     let f = read_form(work, table, last);
     match write_listing(library, text, work, t, name, f, out) {
-        Written::Fits(n) => listed(count, n),
-        Written::TooLong => lent_short(asked, count),
+        Some(n) => listed(count, n),
+        None => lent_short(asked, count),
     }
 }

@@ -1,4 +1,5 @@
 -- One law for each way through the code.
+use Rattle.std.specs.Prelude.{Result, Ok, Err}
 use mathlib.Core.Path.{◌≡◌, sym, ap, subst, ◌∙◌}
 use Prim.Native.Nat.{ℕ, ◌<◌, ◌≤◌}
 use native.Mathlib.Omega.{arith}
@@ -21,7 +22,8 @@ use Rattle.meaning.specs.Contract.{call}
 use Rattle.text_names.specs.Word.{name_of}
 use Rattle.text_names.specs.Joint.{joint}
 use Rattle.memory.proofs.Cases.{same_zeros}
-use Rattle.form.specs.declared.Culprit.{Culprit}
+use Rattle.read_both.specs.declared.NotRead.{NotRead}
+use Rattle.evaluate_turns.specs.declared.RefusedAt.{RefusedAt}
 use Rattle.form.specs.Verdicts.{culprit_of}
 use Rattle.evaluate_turns.specs.Turns.{Given}
 use Rattle.form_layout.specs.Layout.{tape_end}
@@ -31,7 +33,8 @@ use Rattle.answer.specs.Answers.{told, returned, told_call}
 use Rattle.answer.specs.Told.{refusal_within, refusal_leaves, unread_within, unread_leaves}
 use Rattle.answer_listing.specs.Answered.{Answered, Evaluated}
 use Rattle.asf.specs.declared.Sought.{Sought}
-use Rattle.asf.specs.declared.Sought.TheVariants.{Short, Unread, Absent, Refused, Normalised}
+use Rattle.asf.specs.declared.Unlisted.{Unlisted}
+use Rattle.asf.specs.declared.Unlisted.TheVariants.{Short, Unread, Absent, Refused}
 use Rattle.asf.specs.Steps.{Spoken, Refusing, Holding, SoughtAs}
 use Rattle.asf.specs.Meant.{tape_small}
 
@@ -71,28 +74,27 @@ module _ (asked : Name) (t : Texts) (w o : List ℕ) (r : Answer) where
       call_answered o s.size
       (record { answer = q ∙ ap told (sym whole); output = sym (ap (λ (b : Meaning.Answer). output_after b o) whole ∙ leaves) })
 
-module _ (asked : Name) (library text w : List ℕ) (what : Sought) (so : SoughtAs asked (read_texts (two_texts library text)) (joint library text) w what) where
+module _ (asked : Name) (library text w : List ℕ) (what : Result Sought Unlisted) (so : SoughtAs asked (read_texts (two_texts library text)) (joint library text) w what) where
   abbrev x : Reading
   x = read_texts (two_texts library text)
 
-  abbrev As : Sought → Type 0
+  abbrev As : Result Sought Unlisted → Type 0
   As = SoughtAs asked x (joint library text) w
 
-  pub form_held : (t name count last : ℕ) → what ≡ Normalised t name count last → Evaluated asked x (joint library text) t w name count last
-  form_held t name count last d = let held : Holding asked x (joint library text) w t name count last = subst As d so in held.form
+  pub form_held : (s : Sought) → what ≡ Ok s → Evaluated asked x (joint library text) s.t w s.name s.count s.last
+  form_held s d = let held : Holding asked x (joint library text) w s.t s.name s.count s.last = subst As d so in held.form
 
   module _ (o : List ℕ) (r : Answer) where
     abbrev Gives : List ℕ → Type 0
     Gives o' = returned r o' (memory_after w) ≡ told_call (call w o asked (two_texts library text))
 
-    pub short_answered : what ≡ Short → r ≡ told (refusal lent_short 0 asked (lone []) 0) → Gives o
+    pub short_answered : what ≡ Err Short → r ≡ told (refusal lent_short 0 asked (lone []) 0) → Gives o
     short_answered d q = memory_short asked (two_texts library text) w o r (subst As d so) q
 
-    pub unread_answered : (in_library : Bool) (number place : ℕ) → what ≡ Unread in_library number place → r ≡ told (unread in_library number place)
-        → Gives o
-    unread_answered in_library number place d q =
-        refusal_answered asked (two_texts library text) w o r (unread in_library number place) (unread_within (length o) asked in_library number place)
-        (unread_leaves in_library number place o) (subst As d so) q
+    pub unread_answered : (e : NotRead) → what ≡ Err (Unread e) → r ≡ told (unread e.in_library e.number e.place) → Gives o
+    unread_answered e d q =
+        refusal_answered asked (two_texts library text) w o r (unread e.in_library e.number e.place)
+        (unread_within (length o) asked e.in_library e.number e.place) (unread_leaves e.in_library e.number e.place o) (subst As d so) q
 
     refusal_given : (number count : ℕ) (m : Name) (c : Checks.Culprit) → Refusing asked x w (refusal number count m c 0)
         → r ≡ told (refusal number count m c 0) → Gives o
@@ -100,16 +102,18 @@ module _ (asked : Name) (library text w : List ℕ) (what : Sought) (so : Sought
         refusal_answered asked (two_texts library text) w o r (refusal number count m c 0) (refusal_within (length o) asked number count m c 0)
         (refusal_leaves number count m c 0 o)
 
-    pub absent_answered : what ≡ Absent → r ≡ told (refusal asked_absent 0 asked (lone (short_or_blank asked)) 0) → Gives o
+    pub absent_answered : what ≡ Err Absent → r ≡ told (refusal asked_absent 0 asked (lone (short_or_blank asked)) 0) → Gives o
     absent_answered d = refusal_given asked_absent 0 asked (lone (short_or_blank asked)) (subst As d so)
 
-    pub refused_answered : (number count m : ℕ) (c : Culprit) → what ≡ Refused number count m c
-        → r ≡ told (refusal number count (name_of (joint library text) m) (culprit_of (joint library text) c) 0) → Gives o
-    refused_answered number count m c d = refusal_given number count (name_of (joint library text) m) (culprit_of (joint library text) c) (subst As d so)
+    pub refused_answered : (e : RefusedAt) → what ≡ Err (Refused e)
+        → r ≡ told (refusal e.refusal.number e.count (name_of (joint library text) e.name) (culprit_of (joint library text) e.refusal.culprit) 0)
+        → Gives o
+    refused_answered e d =
+        refusal_given e.refusal.number e.count (name_of (joint library text) e.name) (culprit_of (joint library text) e.refusal.culprit) (subst As d so)
 
-    pub form_answered : (o' : List ℕ) (t name count last : ℕ) → what ≡ Normalised t name count last → Answered asked x o r o' → Gives o'
-    form_answered o' t name count last d a =
-        let held : Holding asked x (joint library text) w t name count last = subst As d so in
+    pub form_answered : (o' : List ℕ) (s : Sought) → what ≡ Ok s → Answered asked x o r o' → Gives o'
+    form_answered o' s d a =
+        let held : Holding asked x (joint library text) w s.t s.name s.count s.last = subst As d so in
         call_answered asked (two_texts library text) w o r o' held.size a
 
 -- the memory was of the same length before

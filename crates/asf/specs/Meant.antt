@@ -1,5 +1,5 @@
 -- From one step of a call to the next: what is read, found and evaluated, and what is sought.
-use Rattle.std.specs.Prelude.{◌≡◌, ℕ, ◌+◌, ◌-◌, ◌<◌, ◌≤◌, Bool}
+use Rattle.std.specs.Prelude.{◌≡◌, ℕ, ◌+◌, ◌-◌, ◌<◌, ◌≤◌, Bool, Result, Ok, Err}
 use Rattle.std.proofs.Math.Path.{sym, ap, subst}
 use Rattle.std.proofs.Common.{◌∙◌}
 use native.Mathlib.Omega.{arith}
@@ -19,9 +19,8 @@ use Rattle.meaning.specs.Reached.{normalised, refused_at, in_turn, reached, modu
 use Rattle.meaning.specs.Answer.{refusal, of_ended, unread, of_read}
 use Rattle.text_names.specs.Word.{name_of}
 use Rattle.text_names.specs.Joint.{joint}
-use Rattle.read_both.specs.declared.Both.{Both}
-use Rattle.read_both.specs.declared.Both.TheVariants.{Done, Refused}
-use Rattle.read_both.specs.Both.{Said}
+use Rattle.read_both.specs.declared.NotRead.{NotRead}
+use Rattle.read_both.specs.Both.{Both, Said}
 use Rattle.tape.specs.Tape.{spelled, entries}
 use Rattle.invariants.specs.Limits.{modules_few}
 use Rattle.invariants.proofs.Limits.{limits_read}
@@ -29,7 +28,6 @@ use Rattle.form_rows.specs.Entries.{word_at, name_at}
 use Rattle.invariants.specs.HiddenItems.{HiddenSound}
 use Rattle.laws.specs.Outcomes.{Ends}
 use Rattle.invariants.specs.HiddenEvaluated.{normalise_sound}
-use Rattle.form.specs.declared.Culprit.{Culprit}
 use Rattle.form.specs.Memory.{part}
 use Rattle.form.specs.Verdicts.{culprit_of}
 use Rattle.form_layout.specs.Layout.{tape_end}
@@ -40,11 +38,13 @@ use Rattle.modules.specs.ReachedLaws.{found_name, names_number}
 use Rattle.modules.specs.Meant.{asked_number}
 use Rattle.form_keeping.specs.Environment.{LastStands}
 use Rattle.evaluate_module.specs.Sofar.{Told}
-use Rattle.evaluate_turns.specs.declared.Ended.{Ended}
-use Rattle.evaluate_turns.specs.Turns.{EndsAs, Given, AllTurned}
+use Rattle.evaluate_turns.specs.declared.Normalised.{Normalised}
+use Rattle.evaluate_turns.specs.declared.RefusedAt.{RefusedAt}
+use Rattle.evaluate_turns.specs.Turns.{Ended, EndsAs, Given, AllTurned}
 use Rattle.answer_listing.specs.Answered.{Evaluated}
 use Rattle.asf.specs.Steps.{Spoken, Found, Refusing, Holding, SoughtAs, ModuleSought}
 use Rattle.asf.specs.declared.Sought.{Sought}
+use Rattle.asf.specs.declared.Unlisted.{Unlisted}
 use Rattle.evaluate_turns.specs.ByNumber.{name_there}
 use Rattle.meaning.specs.Reached as Reached
 use Rattle.read_both.specs.Both as TwoTexts
@@ -67,11 +67,11 @@ module _ (library text w : List ℕ) (size : ℕ) (sized : size ≡ memory_size)
   tape_room = omega (arith, length-take-le (end - 0) w (omega (arith, end_within)), last)
 
   module _ (q : Both) (tape' : List ℕ) (e : TwoTexts.Told library text tape' q) where
-    pub unread_sought : (in_library : Bool) (number place : ℕ) (asked : Name) → length tape' ≡ length tape → q ≡ Refused in_library number place
-        → Refusing asked x (tape' ++ drop (end - 0) (drop 0 w)) (unread in_library number place)
+    pub unread_sought : (m : NotRead) (asked : Name) → length tape' ≡ length tape → q ≡ Err m
+        → Refusing asked x (tape' ++ drop (end - 0) (drop 0 w)) (unread m.in_library m.number m.place)
     unfolding of_read
-    unread_sought in_library number place asked same_size d =
-        let so : x ≡ refused_in in_library number place = subst (TwoTexts.Told library text tape') d e in
+    unread_sought m asked same_size d =
+        let so : x ≡ refused_in m.in_library m.number m.place = subst (TwoTexts.Told library text tape') d e in
         let rest = drop (end - 0) (drop 0 w) in
         let front = length-take-le (end - 0) w (omega (arith, end_within)) in
         record {
@@ -79,7 +79,7 @@ module _ (library text w : List ℕ) (size : ℕ) (sized : size ≡ memory_size)
           so = ap (of_read asked) so;
         }
 
-    pub read_spoken : (t : ℕ) → q ≡ Done t → Spoken x (joint library text) t (tape' ++ drop (end - 0) (drop 0 w))
+    pub read_spoken : (t : ℕ) → q ≡ Ok t → Spoken x (joint library text) t (tape' ++ drop (end - 0) (drop 0 w))
     unfolding entries tape_end
     read_spoken t d =
         let says : Said library text t tape' = subst (TwoTexts.Told library text tape') d e in
@@ -141,7 +141,7 @@ module _ (x : Reading) (text : List ℕ) (t : ℕ) (w : List ℕ) (spoken : Spok
       asked_found : (count : ℕ) → count ≡ h.count → k < count → Found asked x text t w h k
       asked_found count c l = record { spoken = spoken; heads = heads; number = number_so; there = omega (arith, c, l, count_so) }
 
-      pub asked_meant : (count : ℕ) → count ≡ h.count → k < count → (w' : List ℕ) (what : Sought) → ModuleSought text t w h k w' what
+      pub asked_meant : (count : ℕ) → count ≡ h.count → k < count → (w' : List ℕ) (what : Result Sought Unlisted) → ModuleSought text t w h k w' what
           → SoughtAs asked x text w' what
       asked_meant count c l w' what s = s.meant asked x (asked_found count c l)
 
@@ -156,10 +156,10 @@ module _ (x : Reading) (text : List ℕ) (t : ℕ) (w : List ℕ) (spoken : Spok
 -- ---- what is evaluated
 
 -- a refusal is that of the meaning
-refused_end : (text : List ℕ) (t : ℕ) (w : List ℕ) (number count m : ℕ) (c : Culprit) (e : Reached.Ended)
-    → EndsAs text t w (Ended.Refused number count m c) e → e ≡ refused_at number count (name_of text m) (culprit_of text c)
-refused_end text t w number count m c (normalised counted n) h = absurd h
-refused_end text t w number count m c (refused_at told counted evaluating meant) h =
+refused_end : (text : List ℕ) (t : ℕ) (w : List ℕ) (r : RefusedAt) (e : Reached.Ended)
+    → EndsAs text t w (Err r) e → e ≡ refused_at r.refusal.number r.count (name_of text r.name) (culprit_of text r.refusal.culprit)
+refused_end text t w r (normalised counted n) h = absurd h
+refused_end text t w r (refused_at told counted evaluating meant) h =
     λ i. refused_at (sym h.number_so i) (sym h.count_so i) (sym h.module_so i) (sym h.culprit_so i)
 
 -- the last form stands for the normal form of the meaning
@@ -169,11 +169,11 @@ record NormalEnd (text : List ℕ) (t : ℕ) (w : List ℕ) (count last : ℕ) (
   stands : LastStands text t w last normal
   sound : HiddenSound normal
 
-normal_end : (text : List ℕ) (t : ℕ) (w : List ℕ) (count last : ℕ) (e : Reached.Ended) → Ends HiddenSound e → EndsAs text t w (Ended.Normalised count last) e
-    → NormalEnd text t w count last e
-normal_end text t w count last (normalised counted n) s h =
+normal_end : (text : List ℕ) (t : ℕ) (w : List ℕ) (r : Normalised) (e : Reached.Ended) → Ends HiddenSound e → EndsAs text t w (Ok r) e
+    → NormalEnd text t w r.count r.last e
+normal_end text t w r (normalised counted n) s h =
     record { normal = n; ended = ap (λ (c : ℕ). normalised c n) (sym h.count_so); stands = h.last_so; sound = s }
-normal_end text t w count last (refused_at told counted evaluating meant) s h = absurd h
+normal_end text t w r (refused_at told counted evaluating meant) s h = absurd h
 
 module _ (asked : List ℕ) (x : Reading) (text : List ℕ) (t : ℕ) (w : List ℕ) (h : Heads) (k : ℕ) (found : Found asked x text t w h k) where
   abbrev ms : List Module
@@ -213,19 +213,19 @@ module _ (asked : List ℕ) (x : Reading) (text : List ℕ) (t : ℕ) (w : List 
         subst (EndsAs text t w' e) (sym ending)
         (turned.meant ms asked (spoken_told x text t w found.spoken h found.heads) found.number)
 
-    refused_found : (number count m : ℕ) (c : Culprit) → e ≡ Ended.Refused number count m c
-        → Refusing asked x w' (refusal number count (name_of text m) (culprit_of text c) 0)
+    refused_found : (r : RefusedAt) → e ≡ Err r
+        → Refusing asked x w' (refusal r.refusal.number r.count (name_of text r.name) (culprit_of text r.refusal.culprit) 0)
     unfolding of_ended
-    refused_found number count m c d =
-        let end = refused_end text t w' number count m c (normalise asked ms) (subst (λ (x : Ended). EndsAs text t w' x (normalise asked ms)) d ends) in
+    refused_found r d =
+        let end = refused_end text t w' r (normalise asked ms) (subst (λ (x : Ended). EndsAs text t w' x (normalise asked ms)) d ends) in
         record { size = enough; so = answering ∙ ap (of_ended asked) end }
 
-    form_found : (name count last : ℕ) → name ≡ word_at (part w 0 t) (get_or h.places k 0) → e ≡ Ended.Normalised count last
-        → Holding asked x text w' t name count last
-    form_found name count last n d =
-        let end = normal_end text t w' count last (normalise asked ms) (normalise_sound asked ms)
+    form_found : (name : ℕ) (r : Normalised) → name ≡ word_at (part w 0 t) (get_or h.places k 0) → e ≡ Ok r
+        → Holding asked x text w' t name r.count r.last
+    form_found name r n d =
+        let end = normal_end text t w' r (normalise asked ms) (normalise_sound asked ms)
         (subst (λ (x : Ended). EndsAs text t w' x (normalise asked ms)) d ends) in
-        let form : Evaluated asked x text t w' name count last = record {
+        let form : Evaluated asked x text t w' name r.count r.last = record {
           tape = omega (arith, size, found_within);
           normal = end.normal;
           stands = end.stands;
@@ -237,12 +237,12 @@ module _ (asked : List ℕ) (x : Reading) (text : List ℕ) (t : ℕ) (w : List 
 
 module _ (text : List ℕ) (t : ℕ) (w : List ℕ) (h : Heads) (k : ℕ) (e : Ended) (w' : List ℕ) (turned : AllTurned text t w h k e w')
     (size : length w' ≡ length w) where
-  pub refused_sought : (number count m : ℕ) (c : Culprit) → e ≡ Ended.Refused number count m c
-      → ModuleSought text t w h k w' (Sought.Refused number count m c)
-  refused_sought number count m c d =
-      record { meant = λ asked x found. refused_found asked x text t w h k found e w' turned size number count m c d }
+  pub refused_sought : (r : RefusedAt) → e ≡ Err r
+      → ModuleSought text t w h k w' (Err (Unlisted.Refused r))
+  refused_sought r d =
+      record { meant = λ asked x found. refused_found asked x text t w h k found e w' turned size r d }
 
-  pub form_sought : (name count last : ℕ) → name ≡ word_at (part w 0 t) (get_or h.places k 0) → e ≡ Ended.Normalised count last
-      → ModuleSought text t w h k w' (Sought.Normalised t name count last)
-  form_sought name count last n d =
-      record { meant = λ asked x found. form_found asked x text t w h k found e w' turned size name count last n d }
+  pub form_sought : (name : ℕ) (r : Normalised) → name ≡ word_at (part w 0 t) (get_or h.places k 0) → e ≡ Ok r
+      → ModuleSought text t w h k w' (Ok (record { t = t; name = name; count = r.count; last = r.last }))
+  form_sought name r n d =
+      record { meant = λ asked x found. form_found asked x text t w h k found e w' turned size name r n d }

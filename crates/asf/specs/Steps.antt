@@ -1,5 +1,5 @@
 -- What stands before each step of a call, and what the step gives: what is sought, as the meaning says.
-use Rattle.std.specs.Prelude.{◌≡◌, ℕ, ◌≤◌, ◌<◌, List, [], length}
+use Rattle.std.specs.Prelude.{◌≡◌, ℕ, ◌≤◌, ◌<◌, List, [], length, Result, Ok, Err}
 use Rattle.meaning.specs.Lists.{before}
 use Rattle.meaning.specs.Names.{Name, same}
 use Rattle.meaning.specs.Numbers.{memory_size, module_limit, asked_absent}
@@ -19,7 +19,8 @@ use Rattle.form_layout.specs.Layout.{tape_end}
 use Rattle.modules.specs.Modules.{HeadsOf, Heads}
 use Rattle.answer_listing.specs.Answered.{Evaluated}
 use Rattle.asf.specs.declared.Sought.{Sought}
-use Rattle.asf.specs.declared.Sought.TheVariants.{Short, Unread, Absent, Refused, Normalised}
+use Rattle.asf.specs.declared.Unlisted.{Unlisted}
+use Rattle.asf.specs.declared.Unlisted.TheVariants.{Short, Unread, Absent, Refused}
 
 -- the t entries in front of the memory say what was read, x; a place is one of both texts
 pub record Spoken (x : Reading) (text : List ℕ) (t : ℕ) (w : List ℕ) : Type 0 where
@@ -51,13 +52,14 @@ pub record Holding (asked : Name) (x : Reading) (text w : List ℕ) (t name coun
   pub form : Evaluated asked x text t w name count last
 
 -- what was sought came as the meaning says, and memory is w
-abbrev pub SoughtAs : Name → Reading → (text w : List ℕ) → Sought → Type 0
-SoughtAs asked x text w Short = length w < memory_size
-SoughtAs asked x text w (Unread in_library number place) = Refusing asked x w (unread in_library number place)
-SoughtAs asked x text w Absent = Refusing asked x w (refusal asked_absent 0 asked (lone (short_or_blank asked)) 0)
-SoughtAs asked x text w (Refused number count m c) = Refusing asked x w (refusal number count (name_of text m) (culprit_of text c) 0)
-SoughtAs asked x text w (Normalised t name count last) = Holding asked x text w t name count last
+abbrev pub SoughtAs : Name → Reading → (text w : List ℕ) → Result Sought Unlisted → Type 0
+SoughtAs asked x text w (Err Short) = length w < memory_size
+SoughtAs asked x text w (Err (Unread e)) = Refusing asked x w (unread e.in_library e.number e.place)
+SoughtAs asked x text w (Err Absent) = Refusing asked x w (refusal asked_absent 0 asked (lone (short_or_blank asked)) 0)
+SoughtAs asked x text w (Err (Refused e)) =
+    Refusing asked x w (refusal e.refusal.number e.count (name_of text e.name) (culprit_of text e.refusal.culprit) 0)
+SoughtAs asked x text w (Ok s) = Holding asked x text w s.t s.name s.count s.last
 
 -- the same of module k, whoever asked for it; memory w became w'
-pub record ModuleSought (text : List ℕ) (t : ℕ) (w : List ℕ) (h : Heads) (k : ℕ) (w' : List ℕ) (what : Sought) : Type 0 where
+pub record ModuleSought (text : List ℕ) (t : ℕ) (w : List ℕ) (h : Heads) (k : ℕ) (w' : List ℕ) (what : Result Sought Unlisted) : Type 0 where
   pub meant : (asked : Name) (x : Reading) → Found asked x text t w h k → SoughtAs asked x text w' what

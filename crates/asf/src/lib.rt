@@ -13,37 +13,30 @@ ghost use Rattle.asf.specs.Steps.{Spoken, SoughtAs, ModuleSought};
 
 use answer::{Answer, absent, lent_short, refused, unread};
 use answer_listing::list_module;
-use evaluate_turns::{Ended, evaluate_reached};
-use form::Culprit;
+use evaluate_turns::{RefusedAt, evaluate_reached};
 use form_layout::tape_end;
 pub use memory::memory_size;
 use module_heads::find_heads;
 use modules::{HEADS, Heads, find_asked, module_count, name_of_module};
-use read_both::{Both, read_both};
+use read_both::{NotRead, read_both};
 
-// What comes of a call before it is answered: too little memory is lent; a text is not read; no module is called as asked; a module is refused; or
-// `count` modules are normalised, the asked one, called `name`, among them, and its form is kept for number `last`, on a tape of t entries.
+// What is listed: the normal form kept for number `last`, on a tape of t entries, of the asked module, called `name`; `count` modules were
+// normalised.
 #[derive(Clone, Copy)]
-enum Sought {
+struct Sought {
+    t: usize,
+    name: u32,
+    count: u32,
+    last: u32,
+}
+
+// Why nothing is listed: too little memory is lent; a text is not read; no module is called as asked; or a module is refused.
+#[derive(Clone, Copy)]
+enum Unlisted {
     Short,
-    Unread {
-        in_library: bool,
-        number: u8,
-        place: usize,
-    },
+    Unread(NotRead),
     Absent,
-    Refused {
-        number: u32,
-        count: u32,
-        module: u32,
-        culprit: Culprit,
-    },
-    Normalised {
-        t: usize,
-        name: u32,
-        count: u32,
-        last: u32,
-    },
+    Refused(RefusedAt),
 }
 
 // What comes of module k of a tape of t entries.
@@ -54,34 +47,30 @@ fn module_sought(
     t: usize,
     h: &Heads,
     k: u32,
-) -> Sought
+) -> Result<Sought, Unlisted>
     requires { Given (joint library.now text.now) t work.old (heads_in h.now) }
     ensures { ModuleSought (joint library.now text.now) t work.old (heads_in h.now) k work.new result }
 {
     let name = name_of_module(&work[0..t], h, k);
     match evaluate_reached(library, text, work, t, h, k) {
-        Ended::Refused {
-            number,
-            count,
-            module,
-            culprit,
-        } => Sought::Refused {
-            number,
-            count,
-            module,
-            culprit,
-        },
-        Ended::Normalised { count, last } => Sought::Normalised {
+        Err(e) => Err(Unlisted::Refused(e)),
+        Ok(e) => Ok(Sought {
             t,
             name,
-            count,
-            last,
-        },
+            count: e.count,
+            last: e.last,
+        }),
     }
 }
 
 // What comes of a tape of t entries.
-fn asked_sought(asked: &[u8], library: &[u8], text: &[u8], work: &mut [u32], t: usize) -> Sought
+fn asked_sought(
+    asked: &[u8],
+    library: &[u8],
+    text: &[u8],
+    work: &mut [u32],
+    t: usize,
+) -> Result<Sought, Unlisted>
     requires { Spoken (read_texts (two_texts library.now text.now)) (joint library.now text.now) t work.old }
     ensures { SoughtAs asked.now (read_texts (two_texts library.now text.now)) (joint library.now text.now) work.new result }
 {
@@ -90,31 +79,28 @@ fn asked_sought(asked: &[u8], library: &[u8], text: &[u8], work: &mut [u32], t: 
     let k = find_asked(library, text, &work[0..t], &h, asked);
     let count = module_count(&h);
     if count <= k {
-        return Sought::Absent;
+        return Err(Unlisted::Absent);
     }
     module_sought(library, text, work, t, &h, k)
 }
 
 // What comes of the two texts. No room for an answer lies under what is evaluated here.
-fn text_sought(asked: &[u8], library: &[u8], text: &[u8], work: &mut [u32]) -> Sought
+fn text_sought(
+    asked: &[u8],
+    library: &[u8],
+    text: &[u8],
+    work: &mut [u32],
+) -> Result<Sought, Unlisted>
     ensures { SoughtAs asked.now (read_texts (two_texts library.now text.now)) (joint library.now text.now) work.new result }
 {
     let size = memory_size();
     if work.len() < size {
-        return Sought::Short;
+        return Err(Unlisted::Short);
     }
     let end = tape_end();
     match read_both(library, text, &mut work[0..end as usize]) {
-        Both::Refused {
-            in_library,
-            number,
-            place,
-        } => Sought::Unread {
-            in_library,
-            number,
-            place,
-        },
-        Both::Done(t) => asked_sought(asked, library, text, work, t),
+        Err(e) => Err(Unlisted::Unread(e)),
+        Ok(t) => asked_sought(asked, library, text, work, t),
     }
 }
 
@@ -124,32 +110,30 @@ fn sought_answer(
     library: &[u8],
     text: &[u8],
     work: &[u32],
-    what: Sought,
+    what: Result<Sought, Unlisted>,
     out: &mut [u8],
 ) -> Answer
     requires { SoughtAs asked.now (read_texts (two_texts library.now text.now)) (joint library.now text.now) work.now what }
     ensures { returned result out.new (memory_after work.now) ≡ told_call (call work.now out.old asked.now (two_texts library.now text.now)) }
 {
     match what {
-        Sought::Short => lent_short(asked, 0),
-        Sought::Unread {
-            in_library,
-            number,
-            place,
-        } => unread(in_library, number, place),
-        Sought::Absent => absent(asked),
-        Sought::Refused {
-            number,
-            count,
-            module,
-            culprit,
-        } => refused(library, text, number, count, module, culprit),
-        Sought::Normalised {
-            t,
-            name,
-            count,
-            last,
-        } => list_module(asked, library, text, work, t, name, count, last, out),
+        Err(Unlisted::Short) => lent_short(asked, 0),
+        Err(Unlisted::Unread(e)) => unread(e.in_library, e.number, e.place),
+        Err(Unlisted::Absent) => absent(asked),
+        Err(Unlisted::Refused(e)) => {
+            let refusal = e.refusal;
+            refused(
+                library,
+                text,
+                refusal.number,
+                e.count,
+                e.name,
+                refusal.culprit,
+            )
+        }
+        Ok(s) => list_module(
+            asked, library, text, work, s.t, s.name, s.count, s.last, out,
+        ),
     }
 }
 

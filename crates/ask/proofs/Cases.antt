@@ -22,8 +22,7 @@ use Rattle.module_set.specs.ModuleSet.{holds, nothing}
 use Rattle.modules.specs.Modules.{Heads}
 use Rattle.ask_decision.specs.Decide as Meaning
 use Rattle.ask_decision.specs.Decide.{Why, why, ask_again, unless_against, decide, deciding}
-use Rattle.ask_objections.specs.declared.Objection.{Objection}
-use Rattle.ask_objections.specs.declared.Objection.TheVariants.{Nothing, Against}
+use Rattle.std.specs.Prelude.{Option, Some, None}
 use Rattle.ask_objections.specs.declared.Why as Code
 use Rattle.ask_objections.specs.Objections as Objections
 use Rattle.ask_objections.specs.Objections.{why_of}
@@ -69,12 +68,12 @@ module _ (text tape : List ℕ) (h : Heads) (other new : List ℕ) (h' : Heads) 
   abbrev decided : Meaning.Decision
   decided = unless_against (against_at text tape h other new h' asked set set') (changed_at text tape h other new h' set set')
 
-  module _ (o : Objection) (e : Objections.told text other o ≡ against_at text tape h other new h' asked set set') (r : Decision) where
-    pub set_against : (w : Code.Why) → o ≡ Against w → Tells r (ask_again (why_of text other w)) → Tells r decided
+  module _ (o : Option Code.Why) (e : Objections.told text other o ≡ against_at text tape h other new h' asked set set') (r : Decision) where
+    pub set_against : (w : Code.Why) → o ≡ Some w → Tells r (ask_again (why_of text other w)) → Tells r decided
     unfolding Objections.told unless_against
     set_against w q t = rw (sym e ∙ ap (Objections.told text other) q) t
 
-    pub set_kept : (first : ℕ) → o ≡ Nothing → h'.count ≤ 64 → Fits w64 first → holds first ≡ with_all nothing (changed_at text tape h other new h' set set')
+    pub set_kept : (first : ℕ) → o ≡ None → h'.count ≤ 64 → Fits w64 first → holds first ≡ with_all nothing (changed_at text tape h other new h' set set')
         → r ≡ nameless_struct 0 first false false 0 0 → Tells r decided
     unfolding Objections.told unless_against told changed_at
     set_kept first q few f g z =

@@ -1,5 +1,5 @@
 -- Two tapes in one memory: what is read into a part of it, and what that leaves of the rest.
-use Rattle.std.specs.Prelude.{◌≡◌, ℕ, ◌+◌, ◌-◌, ◌^◌, ◌<◌, ◌≤◌, Bool, ◌&&◌, List, ◌++◌, take, drop}
+use Rattle.std.specs.Prelude.{◌≡◌, ℕ, Ok, Err, ◌+◌, ◌-◌, ◌^◌, ◌<◌, ◌≤◌, Bool, ◌&&◌, List, ◌++◌, take, drop}
 use Rattle.std.proofs.Common.{sym, ap, subst₂, ◌∙◌, drop_at}
 use Rattle.std.proofs.Math.Path.{subst}
 use native.Mathlib.Omega.{arith}
@@ -14,10 +14,9 @@ use Rattle.laws.specs.Decides.{both_true}
 use Rattle.text_names.specs.Joint.{joint}
 use Rattle.form.specs.Memory.{part}
 use Rattle.form_layout.specs.Layout.{tape_end}
-use Rattle.read_both.specs.declared.Both.{Both}
-use Rattle.read_both.specs.declared.Both.TheVariants.{Done, Refused}
+use Rattle.read_both.specs.declared.NotRead.{NotRead}
 use Rattle.read_both.specs.Both as TwoTexts
-use Rattle.read_both.specs.Both.{Said}
+use Rattle.read_both.specs.Both.{Both, Said}
 use Rattle.ask_decision.specs.Decide.{of_readings, decide, not_read}
 use Rattle.ask_names.specs.Steps.{Spoken}
 use Rattle.ask_names.specs.Lying.{said_spoken, refused_so, first_end}
@@ -31,17 +30,17 @@ unfolding told
 unread_tells r in_new in_library number place e = record { so = e; first = tt }
 
 module _ (library text : List ℕ) (q : Both) (read : List ℕ) (e : TwoTexts.Told library text read q) where
-  pub first_refused : (asked : Name) (new : Texts) (r : Decision) (in_library : Bool) (number place : ℕ) → q ≡ Refused in_library number place
-      → r ≡ nameless_struct 2 0 false in_library number place → Tells r (decide asked (two_texts library text) new)
+  pub first_refused : (asked : Name) (new : Texts) (r : Decision) (m : NotRead) → q ≡ Err m
+      → r ≡ nameless_struct 2 0 false m.in_library m.number m.place → Tells r (decide asked (two_texts library text) new)
   unfolding decide of_readings
-  first_refused asked new r in_library number place d z =
-      rw (refused_so library text q read e in_library number place d) (unread_tells r false in_library number place z)
+  first_refused asked new r m d z =
+      rw (refused_so library text q read e m d) (unread_tells r false m.in_library m.number m.place z)
 
-  pub second_refused : (asked : Name) (x : Texts) (old tape : List ℕ) (r : Decision) (in_library : Bool) (number place : ℕ) → Spoken (read_texts x) old tape
-      → q ≡ Refused in_library number place → r ≡ nameless_struct 2 0 true in_library number place → Tells r (decide asked x (two_texts library text))
+  pub second_refused : (asked : Name) (x : Texts) (old tape : List ℕ) (r : Decision) (m : NotRead) → Spoken (read_texts x) old tape
+      → q ≡ Err m → r ≡ nameless_struct 2 0 true m.in_library m.number m.place → Tells r (decide asked x (two_texts library text))
   unfolding decide of_readings
-  second_refused asked x old tape r in_library number place spoken d z =
-      rw (spoken.read_so, refused_so library text q read e in_library number place d) (unread_tells r true in_library number place z)
+  second_refused asked x old tape r m spoken d z =
+      rw (spoken.read_so, refused_so library text q read e m d) (unread_tells r true m.in_library m.number m.place z)
 
 -- the same texts say the same
 pub same_spoken : (library text behind other tape : List ℕ) (q : Bool) → q ≡ (same library behind && same text other) → q ≡ true
@@ -69,7 +68,7 @@ module _ (w : List ℕ) (end : ℕ) (there : memory_size ≤ length w) (last : e
 
   module _ (x : Texts) (text : List ℕ) (t : ℕ) (early : t ≤ tape_end) (spoken : Spoken (read_texts x) text (part w 0 t))
       (library new : List ℕ) (q : Both) (read : List ℕ) (e : TwoTexts.Told library new read q) where
-    module _ (n : ℕ) (d : q ≡ Done n) where
+    module _ (n : ℕ) (d : q ≡ Ok n) where
       says_new : Said library new n read
       says_new = subst (TwoTexts.Told library new read) d e
 

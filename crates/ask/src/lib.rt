@@ -23,19 +23,20 @@ ghost use Rattle.ask.specs.Decided.{nameless_struct, ask_struct, Tells, Decided}
 use answer::{Name, blank, name_in, short_or_blank};
 use ask_decision::reasons;
 pub use ask_names::module_name;
-use ask_objections::{Objection, Why};
+use ask_objections::Why;
 use ask_walk::{against, changed_set};
 use form_layout::tape_end;
 use meaning::numbers;
 use memory::memory_size;
 use module_heads::find_heads;
 use modules::{HEADS, Heads, find_asked, module_count, reached};
-use read_both::{Both, read_both};
+use read_both::read_both;
 use text_names::same_bytes;
 
 // What to do before the stored part of the asked module is shown. `answer` is 0: keep it once the modules of `set`, by their numbers in the new
 // specification, are answered 0; 1: ask the module itself, for the reason, with the module concerned and another name; 2: one of the two is not
 // read, the new one where `in_new` says so, with the refusal's number and place; 19: too little working memory is lent. What is not told is 0.
+// No enum of these ways: C is handed the number and all values beside it, told or not.
 #[derive(Clone, Copy)]
 pub struct Decision {
     pub answer: u32,
@@ -138,8 +139,8 @@ fn decide_sets(
     match against(
         asked, library, text, tape, h, behind, other, more, g, set, new_set,
     ) {
-        Objection::Against(w) => objected(library, text, behind, other, w),
-        Objection::Nothing => {
+        Some(w) => objected(library, text, behind, other, w),
+        None => {
             let first = changed_set(library, text, tape, h, behind, other, more, g, set, new_set);
             nameless(0, first, false, false, 0, 0)
         }
@@ -220,12 +221,8 @@ fn decide_behind(
 {
     let end = tape_end() as usize;
     match read_both(behind, other, &mut work[end..end + end]) {
-        Both::Refused {
-            in_library,
-            number,
-            place,
-        } => nameless(2, 0, true, in_library, number, place),
-        Both::Done(n) => decide_read(
+        Err(e) => nameless(2, 0, true, e.in_library, e.number, e.place),
+        Ok(n) => decide_read(
             asked,
             library,
             text,
@@ -291,12 +288,8 @@ fn decide_texts(
 {
     let end = tape_end() as usize;
     match read_both(library, text, &mut work[0..end]) {
-        Both::Refused {
-            in_library,
-            number,
-            place,
-        } => nameless(2, 0, false, in_library, number, place),
-        Both::Done(t) => decide_from(asked, library, text, behind, other, work, t),
+        Err(e) => nameless(2, 0, false, e.in_library, e.number, e.place),
+        Ok(t) => decide_from(asked, library, text, behind, other, work, t),
     }
 }
 

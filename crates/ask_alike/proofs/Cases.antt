@@ -53,9 +53,11 @@ module _ (text tape other more : List ℕ) where
           let s : left ≡ suc (left - 1) = omega arith in
           ap (λ (k : ℕ). Alike p k q k) s ∙ rw (← t, add-one p, add-one q)
 
-      pub compare_on : r ≡ true → Comparing i j n (p + 1) (q + 1) (left - 1)
+      pub compare_on : (fewer : ℕ) → left ≡ suc fewer → r ≡ true → Comparing i j n (p + 1) (q + 1) fewer
       unfolding pick
-      compare_on u = record { first_end = omega (arith, h.first_end); second_end = omega (arith, h.second_end); rest = h.rest ∙ one_more ∙ rw u }
+      compare_on fewer e u =
+          let m : left - 1 ≡ fewer = omega (arith, e) in
+          record { first_end = omega (arith, h.first_end, e); second_end = omega (arith, h.second_end, e); rest = h.rest ∙ one_more ∙ rw (u, m) }
 
       pub compare_off : r ≡ false → false ≡ Alike i n j n
       unfolding pick
@@ -82,18 +84,19 @@ module _ (text tape other more : List ℕ) where
 
 pub record Counted (s : ℕ) (tape : List ℕ) (i end j : ℕ) : Type 0 where
   pub from : i ≤ j
+  pub top : j - i ≤ end - i
   pub rest : run_size s tape i (end - i) ≡ j - i + run_size s tape j (end - j)
 
 pub count_none : (s : ℕ) (tape : List ℕ) (i end : ℕ) → Counted s tape i end i
-count_none s tape i end = record { from = omega arith; rest = omega arith }
+count_none s tape i end = record { from = omega arith; top = omega arith; rest = omega arith }
 
 module _ (s : ℕ) (tape : List ℕ) (i end j : ℕ) (h : Counted s tape i end j) where
-  pub count_end : end ≤ j → j - i ≡ run_size s tape i (end - i)
+  pub count_end : end ≤ j → (r : ℕ) → r ≡ end - i → r ≡ run_size s tape i (end - i)
   unfolding run_size
-  count_end l =
+  count_end l r e =
       let z : end - j ≡ 0 = omega arith in
       let none : run_size s tape j (end - j) ≡ 0 = rw z in
-      omega (arith, h.rest)
+      omega (arith, h.rest, h.top, e)
 
   module _ (r : ℕ) (b : Bool) (e : r ≡ role_at tape j) (f : b ≡ section_role s r) (l : j < end) where
     one_counted : run_size s tape j (end - j) ≡ pick b (suc (run_size s tape (j + 1) (end - (j + 1)))) 0
@@ -106,7 +109,7 @@ module _ (s : ℕ) (tape : List ℕ) (i end j : ℕ) (h : Counted s tape i end j
     unfolding pick
     count_on q =
         let more : run_size s tape j (end - j) ≡ suc (run_size s tape (j + 1) (end - (j + 1))) = one_counted ∙ rw q in
-        record { from = omega (arith, h.from); rest = omega (arith, h.from, h.rest) }
+        record { from = omega (arith, h.from); top = omega (arith, h.from, l); rest = omega (arith, h.from, h.rest) }
 
     pub count_stop : b ≡ false → j - i ≡ run_size s tape i (end - i)
     unfolding pick

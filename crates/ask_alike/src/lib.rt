@@ -50,15 +50,12 @@ pub fn same_entries(
 {
     let mut p = i as usize;
     let mut q = j as usize;
-    let mut left = n;
-    while 0 < left {
-        if same_entry(library, text, tape, p, behind, other, new_tape, q) {
-            p += 1;
-            q += 1;
-            left -= 1;
-        } else {
+    for _ in 0..n {
+        if !same_entry(library, text, tape, p, behind, other, new_tape, q) {
             return false;
         }
+        p += 1;
+        q += 1;
     }
     true
 }
@@ -86,16 +83,6 @@ fn same_runs(
 
 // ---- up to a place
 
-// How many places there are from i up to `end`.
-fn places(i: u32, end: u32) -> u32
-    ensures { result ≡ end - i }
-{
-    if i < end {
-        return end - i;
-    }
-    0
-}
-
 // Are the entries from i up to `end` those from j up to `new_end`?
 pub fn same_part(
     library: &[u8],
@@ -111,8 +98,8 @@ pub fn same_part(
 ) -> bool
     ensures { result ≡ agree same_entry (entries_from (joint library.now text.now) tape.now i (end - i)) (entries_from (joint behind.now other.now) new_tape.now j (new_end - j)) }
 {
-    let n = places(i, end);
-    let m = places(j, new_end);
+    let n = end.saturating_sub(i);
+    let m = new_end.saturating_sub(j);
     same_runs(library, text, tape, i, n, behind, other, new_tape, j, m)
 }
 
@@ -122,20 +109,14 @@ pub fn same_part(
 fn is_between(role: u32, first: u32, last: u32) -> bool
     ensures { result ≡ between first last role }
 {
-    if first <= role {
-        return role <= last;
-    }
-    false
+    first <= role && role <= last
 }
 
 // Or an input's or an output's?
 fn is_declaring(role: u32, first: u32, last: u32) -> bool
     ensures { result ≡ declaring first last role }
 {
-    if is_between(role, first, last) {
-        return true;
-    }
-    is_between(role, roles::INPUT, roles::OUTPUT)
+    is_between(role, first, last) || is_between(role, roles::INPUT, roles::OUTPUT)
 }
 
 // Has an entry of the section the role?
@@ -155,15 +136,12 @@ fn is_of_section(section: u32, role: u32) -> bool
 pub fn run_size(tape: &[u32], section: u32, i: u32, end: u32) -> u32
     ensures { result ≡ run_size section tape.now i (end - i) }
 {
-    let mut j = i;
-    while j < end {
-        if is_of_section(section, role_at(tape, j as usize)) {
-            j += 1;
-        } else {
+    for j in i..end {
+        if !is_of_section(section, role_at(tape, j as usize)) {
             return j - i;
         }
     }
-    j - i
+    end.saturating_sub(i)
 }
 
 // Are the entries of the section from i on, before `end`, those from j on, before `new_end`?

@@ -1,5 +1,5 @@
 -- A tape at the front of a memory, the first of two where another lies behind it: what is read there is a tape of its own.
-use Rattle.std.specs.Prelude.{◌≡◌, ℕ, ◌-◌, ◌≤◌, Bool, List, [], ◌++◌, map, length, take, drop}
+use Rattle.std.specs.Prelude.{◌≡◌, ℕ, Ok, Err, ◌-◌, ◌≤◌, List, [], ◌++◌, map, length, take, drop}
 use Rattle.std.proofs.Common.{ap, subst, ◌∙◌, arith, take-take}
 use Rattle.std.proofs.Math.ListN.{length-append, length-drop}
 use Rattle.std.proofs.Math.Seq.{length-take-le}
@@ -12,10 +12,9 @@ use Rattle.tape.specs.Tape.{spelled, entries}
 use Rattle.invariants.specs.Limits.{modules_few}
 use Rattle.form.specs.Memory.{part}
 use Rattle.form_layout.specs.Layout.{tape_end}
-use Rattle.read_both.specs.declared.Both.{Both}
-use Rattle.read_both.specs.declared.Both.TheVariants.{Done, Refused}
+use Rattle.read_both.specs.declared.NotRead.{NotRead}
 use Rattle.read_both.specs.Both as TwoTexts
-use Rattle.read_both.specs.Both.{Said}
+use Rattle.read_both.specs.Both.{Both, Said}
 use Rattle.answer.specs.declared.Name as Held
 use Rattle.answer.specs.Answers.{held}
 use Rattle.ask_decision.specs.Decide.{names_read, module_called}
@@ -39,15 +38,14 @@ said_spoken library text n read tape s e =
 
 -- what is refused is not read
 module _ (library text : List ℕ) (q : Both) (read : List ℕ) (e : TwoTexts.Told library text read q) where
-  pub refused_so : (in_library : Bool) (number place : ℕ) → q ≡ Refused in_library number place
-      → read_texts (two_texts library text) ≡ refused_in in_library number place
-  refused_so in_library number place d = subst (TwoTexts.Told library text read) d e
+  pub refused_so : (m : NotRead) → q ≡ Err m → read_texts (two_texts library text) ≡ refused_in m.in_library m.number m.place
+  refused_so m d = subst (TwoTexts.Told library text read) d e
 
-  pub name_unread : (k : ℕ) (r : Held.Name) (in_library : Bool) (number place : ℕ) → q ≡ Refused in_library number place → r ≡ held []
+  pub name_unread : (k : ℕ) (r : Held.Name) (m : NotRead) → q ≡ Err m → r ≡ held []
       → r ≡ held (module_called (two_texts library text) k)
   unfolding module_called names_read
-  name_unread k r in_library number place d z =
-      rw (refused_so in_library number place d) z
+  name_unread k r m d z =
+      rw (refused_so m d) z
 
 module _ (w : List ℕ) (end : ℕ) (there : memory_size ≤ length w) (last : end ≡ tape_end) where
   pub first_end : end ≤ length w
@@ -59,7 +57,7 @@ module _ (w : List ℕ) (end : ℕ) (there : memory_size ≤ length w) (last : e
   first_room = omega (arith, length-take-le (end - 0) w (omega (arith, first_end)), last)
 
   module _ (library text : List ℕ) (q : Both) (read : List ℕ) (e : TwoTexts.Told library text read q) where
-    module _ (t : ℕ) (d : q ≡ Done t) where
+    module _ (t : ℕ) (d : q ≡ Ok t) where
       says : Said library text t read
       says = subst (TwoTexts.Told library text read) d e
 

@@ -15,7 +15,7 @@ use form_layout::tape_end;
 use memory::memory_size;
 use module_heads::find_heads;
 use modules::{HEADS, module_count, name_of_module};
-use read_both::{Both, read_both};
+use read_both::read_both;
 
 // The name of module k of a tape; blank where there is none.
 fn name_read(library: &[u8], text: &[u8], tape: &[u32], k: u32) -> Name
@@ -38,8 +38,8 @@ fn name_in_texts(library: &[u8], text: &[u8], work: &mut [u32], k: u32) -> Name
 {
     let end = tape_end() as usize;
     match read_both(library, text, &mut work[0..end]) {
-        Both::Refused { .. } => blank(),
-        Both::Done(t) => name_read(library, text, &work[0..t], k),
+        Err(_) => blank(),
+        Ok(t) => name_read(library, text, &work[0..t], k),
     }
 }
 

@@ -16,8 +16,8 @@ use Rattle.ask_decision.specs.Decide.{objection}
 use Rattle.ask_alike.specs.Alike.{same_entry, entries_from, section_role, run_size}
 use Rattle.modules.specs.Modules.{names_module, declared, picked, named_in, Heads}
 use Rattle.modules.proofs.Cases.{picked_none, picked_other, picked_here}
-use Rattle.ask_objections.specs.declared.Objection.{Objection}
-use Rattle.ask_objections.specs.declared.Objection.TheVariants.{Nothing, Against}
+use Rattle.std.specs.Prelude.{Option, Some, None}
+use Rattle.ask_objections.specs.declared.Why.{Why}
 use Rattle.ask_objections.specs.Objections.{why_of, told, place, module_entries, otherwise_at, itself_at, body_start, section_from, section_start, section_entries, section_at, shown_at, standing, used_alike, name_objection, names_at, objection_at}
 
 -- ---- places of a module
@@ -91,56 +91,56 @@ module _ (count k p c : ℕ) (e : c ≡ count) where
 
 module _ (text tape : List ℕ) (h : Heads) (other new : List ℕ) (h' : Heads) (k k' : ℕ) where
   -- reasons that tell the module alone
-  changed_so : (reason w : ℕ) (r : Objection) → r ≡ Against (record { reason = reason; by = w; name = 0; new_name = false })
-      → told text other r ≡ objection false (record { reason = reason; by = name_of text w; name = [] })
+  changed_so : (reason w : ℕ) (r : Why) → r ≡ record { reason = reason; by = w; name = 0; new_name = false }
+      → told text other (Some r) ≡ objection false (record { reason = reason; by = name_of text w; name = [] })
   unfolding told why_of objection pick
   changed_so reason w r d = rw (d, no_name text)
 
   module _ (w : ℕ) (e : w ≡ word_at tape (place h k)) where
     module _ (v : ℕ) (f : v ≡ word_at new (place h' k')) (b : Bool) (g : b ≡ same (name_of text w) (name_of other v)) where
-      pub otherwise_none : b ≡ true → told text other Nothing ≡ otherwise_at text tape h other new h' k k'
+      pub otherwise_none : b ≡ true → told text other None ≡ otherwise_at text tape h other new h' k k'
       unfolding told otherwise_at objection pick
       otherwise_none q = rw (← e, ← f, ← g, q)
 
       pub otherwise_told : b ≡ false
-          → told text other (Against (record { reason = 3; by = w; name = v; new_name = true })) ≡ otherwise_at text tape h other new h' k k'
+          → told text other (Some (record { reason = 3; by = w; name = v; new_name = true })) ≡ otherwise_at text tape h other new h' k k'
       unfolding told why_of otherwise_at objection pick
       otherwise_told q = rw (← e, ← f, ← g, q)
 
     module _ (asked : Name) (b : Bool) (f : b ≡ same (name_of text w) asked) where
       module _ (q : b ≡ true) (c : Bool) (g : c ≡ agree same_entry (module_entries text tape h k) (module_entries other new h' k')) where
-        pub itself_none : c ≡ true → told text other Nothing ≡ itself_at text tape h other new h' asked k k'
+        pub itself_none : c ≡ true → told text other None ≡ itself_at text tape h other new h' asked k k'
         unfolding told itself_at objection pick
         itself_none d = rw (← e, ← f, q, ← g, d)
 
-        pub itself_told : c ≡ false → (r : Objection) → r ≡ Against (record { reason = 4; by = w; name = 0; new_name = false })
-            → told text other r ≡ itself_at text tape h other new h' asked k k'
+        pub itself_told : c ≡ false → (r : Why) → r ≡ record { reason = 4; by = w; name = 0; new_name = false }
+            → told text other (Some r) ≡ itself_at text tape h other new h' asked k k'
         unfolding itself_at pick
         itself_told d r u = rw (← e, ← f, q, ← g, d) (changed_so 4 w r u)
 
-      pub itself_other : b ≡ false → told text other Nothing ≡ itself_at text tape h other new h' asked k k'
+      pub itself_other : b ≡ false → told text other None ≡ itself_at text tape h other new h' asked k k'
       unfolding told itself_at objection pick
       itself_other q = rw (← e, ← f, q)
 
     module _ (b : Bool) (f : b ≡ agree same_entry (section_entries text tape h k 0) (section_entries other new h' k' 0)) where
-      pub parameters_told : b ≡ false → (r : Objection) → r ≡ Against (record { reason = 5; by = w; name = 0; new_name = false })
-          → told text other r ≡ shown_at text tape h other new h' k k'
+      pub parameters_told : b ≡ false → (r : Why) → r ≡ record { reason = 5; by = w; name = 0; new_name = false }
+          → told text other (Some r) ≡ shown_at text tape h other new h' k k'
       unfolding shown_at section_at objection or_else pick
       parameters_told q r u = rw (← e, ← f, q) (changed_so 5 w r u)
 
       module _ (q : b ≡ true) (c : Bool) (g : c ≡ agree same_entry (section_entries text tape h k 1) (section_entries other new h' k' 1)) where
-        pub exports_told : c ≡ false → (r : Objection) → r ≡ Against (record { reason = 6; by = w; name = 0; new_name = false })
-            → told text other r ≡ shown_at text tape h other new h' k k'
+        pub exports_told : c ≡ false → (r : Why) → r ≡ record { reason = 6; by = w; name = 0; new_name = false }
+            → told text other (Some r) ≡ shown_at text tape h other new h' k k'
         unfolding shown_at section_at objection or_else pick
         exports_told d r u = rw (← e, ← f, q, ← g, d) (changed_so 6 w r u)
 
         module _ (d : c ≡ true) (i : Bool) (j : i ≡ agree same_entry (section_entries text tape h k 2) (section_entries other new h' k' 2)) where
-          pub imports_told : i ≡ false → (r : Objection) → r ≡ Against (record { reason = 7; by = w; name = 0; new_name = false })
-              → told text other r ≡ shown_at text tape h other new h' k k'
+          pub imports_told : i ≡ false → (r : Why) → r ≡ record { reason = 7; by = w; name = 0; new_name = false }
+              → told text other (Some r) ≡ shown_at text tape h other new h' k k'
           unfolding shown_at section_at objection or_else pick
           imports_told l r u = rw (← e, ← f, q, ← g, d, ← j, l) (changed_so 7 w r u)
 
-          pub shown_none : i ≡ true → told text other Nothing ≡ shown_at text tape h other new h' k k'
+          pub shown_none : i ≡ true → told text other None ≡ shown_at text tape h other new h' k k'
           unfolding told shown_at section_at objection or_else pick
           shown_none l = rw (← e, ← f, q, ← g, d, ← j, l)
 
@@ -175,7 +175,7 @@ module _ (text tape : List ℕ) (h : Heads) (other new : List ℕ) (h' : Heads) 
   names_start j end e f = rw (e, f)
 
   module _ (j end : ℕ) (x : Rest j end) where
-    pub names_none : end ≤ j → told text other Nothing ≡ names_at text tape h other new h' k k'
+    pub names_none : end ≤ j → told text other None ≡ names_at text tape h other new h' k k'
     unfolding told first_some
     names_none l = sym (x ∙ rw (picked_none names_module text tape j end l))
 
@@ -190,13 +190,13 @@ module _ (text tape : List ℕ) (h : Heads) (other new : List ℕ) (h' : Heads) 
         names_on d = x ∙ rw (picked_here names_module text tape j end l r e b f q v g, ← u, d)
 
         pub names_told : c ≡ false → (w : ℕ) → w ≡ word_at tape (place h k)
-            → told text other (Against (record { reason = 8; by = w; name = v; new_name = false })) ≡ names_at text tape h other new h' k k'
+            → told text other (Some (record { reason = 8; by = w; name = v; new_name = false })) ≡ names_at text tape h other new h' k k'
         unfolding told why_of first_some name_objection objection or_else pick
         names_told d w i = sym (x ∙ rw (picked_here names_module text tape j end l r e b f q v g, ← u, d, i))
 
   -- ---- by the pass
 
-  module _ (asked : Name) (pass : ℕ) (r : Objection) where
+  module _ (asked : Name) (pass : ℕ) (r : Option Why) where
     pub pass_first : pass ≡ 0 → told text other r ≡ otherwise_at text tape h other new h' k k'
         → told text other r ≡ objection_at text tape h other new h' asked pass k k'
     unfolding objection_at pick

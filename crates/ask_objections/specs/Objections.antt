@@ -1,6 +1,7 @@
 -- What speaks against keeping, in terms of two tapes (ask_decision/specs/Decide.antt): of module k on the old tape and module k' on the new one.
 -- All of it is total, whatever the tapes and their heads say.
-use Rattle.std.specs.Prelude.{ℕ, zero, suc, ◌+◌, ◌-◌, Bool, true, List, [], eqb, ltb, leb, get_or}
+use Rattle.std.specs.Prelude as Code
+use Rattle.std.specs.Prelude.{ℕ, zero, suc, ◌+◌, ◌-◌, Bool, true, List, [], Some, None, eqb, ltb, leb, get_or}
 use Rattle.std.proofs.Math.Option.{Option, none, some}
 use Rattle.meaning.specs.Lists.{pick, agree, before, or_else, first_some}
 use Rattle.meaning.specs.Names.{Name, same}
@@ -13,17 +14,15 @@ use Rattle.ask_decision.specs.Decide.{why, objection}
 use Rattle.ask_alike.specs.Alike.{same_entry, entries_from, the_parameters, the_exports, the_imports, run_size}
 use Rattle.modules.specs.Modules.{declared, named_in, Heads}
 use Rattle.ask_objections.specs.declared.Why.{Why}
-use Rattle.ask_objections.specs.declared.Objection.{Objection}
-use Rattle.ask_objections.specs.declared.Objection.TheVariants.{Nothing, Against}
 
 -- ---- what an answer says; text is the old texts, other the new ones
 
 unfoldable pub why_of : List ℕ → List ℕ → Why → Meaning.Why
 why_of text other w = why w.reason (name_of text w.by) (name_of (pick w.new_name other text) w.name)
 
-unfoldable pub told : List ℕ → List ℕ → Objection → Option Meaning.Why
-told text other Nothing = none
-told text other (Against w) = some (why_of text other w)
+unfoldable pub told : List ℕ → List ℕ → Code.Option Why → Option Meaning.Why
+told text other None = none
+told text other (Some w) = some (why_of text other w)
 
 -- ---- a module of one tape
 

@@ -9,7 +9,6 @@ ghost use Rattle.text_names.specs.Word.{name_of};
 ghost use Rattle.text_names.specs.Joint.{joint};
 ghost use Rattle.ask_alike.specs.Alike.{same_entry};
 ghost use Rattle.modules.specs.Modules.{declared, heads_in};
-ghost use Rattle.ask_objections.specs.declared.Objection.TheVariants.{Against};
 ghost use Rattle.ask_objections.specs.Objections.{told, module_entries, otherwise_at, itself_at, body_start, section_start, section_entries, shown_at, standing, used_alike, names_at, objection_at};
 
 use ask_alike::{run_size, same_part, same_section, sections};
@@ -18,8 +17,8 @@ use form_rows::entries::{name_at, role_at};
 use modules::{Heads, find_number, module_count, name_of_module, names_module, place_at};
 use text_spelling::{is_called, same_wherever};
 
-// The reason's number; the module concerned, a word of the old texts; and the other name, a word of the new texts where `new_name` says so, else of
-// the old ones. A name that is not told has the word 0.
+// An objection: the reason's number; the module concerned, a word of the old texts; and the other name, a word of the new texts where `new_name` says
+// so, else of the old ones. A name that is not told has the word 0. The number is no enum: C is handed it.
 #[derive(Clone, Copy)]
 pub struct Why {
     pub reason: u32,
@@ -28,22 +27,16 @@ pub struct Why {
     pub new_name: bool,
 }
 
-#[derive(Clone, Copy)]
-pub enum Objection {
-    Nothing,
-    Against(Why),
-}
-
 // A reason that tells the module alone.
-fn changed(reason: u32, by: u32) -> Objection
-    ensures { result ≡ Against (record { reason = reason; by = by; name = 0; new_name = false }) }
+fn changed(reason: u32, by: u32) -> Why
+    ensures { result ≡ record { reason = reason; by = by; name = 0; new_name = false } }
 {
-    Objection::Against(Why {
+    Why {
         reason,
         by,
         name: 0,
         new_name: false,
-    })
+    }
 }
 
 // Have module k and its counterpart one name? 3.
@@ -58,15 +51,15 @@ fn otherwise(
     g: &Heads,
     k: u32,
     n: u32,
-) -> Objection
+) -> Option<Why>
     ensures { told (joint library.now text.now) (joint behind.now other.now) result ≡ otherwise_at (joint library.now text.now) tape.now (heads_in h.now) (joint behind.now other.now) more.now (heads_in g.now) k n }
 {
     let w = name_of_module(tape, h, k);
     let v = name_of_module(more, g, n);
     if same_wherever(library, text, w, behind, other, v) {
-        return Objection::Nothing;
+        return None;
     }
-    Objection::Against(Why {
+    Some(Why {
         reason: reasons::REACHED_OTHERWISE,
         by: w,
         name: v,
@@ -111,17 +104,17 @@ fn itself(
     g: &Heads,
     k: u32,
     n: u32,
-) -> Objection
+) -> Option<Why>
     ensures { told (joint library.now text.now) (joint behind.now other.now) result ≡ itself_at (joint library.now text.now) tape.now (heads_in h.now) (joint behind.now other.now) more.now (heads_in g.now) asked.now k n }
 {
     let w = name_of_module(tape, h, k);
     if is_called(library, text, w, asked) {
         if same_module(library, text, tape, h, behind, other, more, g, k, n) {
-            return Objection::Nothing;
+            return None;
         }
-        return changed(reasons::ASKED_CHANGED, w);
+        return Some(changed(reasons::ASKED_CHANGED, w));
     }
-    Objection::Nothing
+    None
 }
 
 // ---- its sections: 0 is that of the parameters, 1 of the exports, 2 of the imports
@@ -143,11 +136,9 @@ fn section_start(tape: &[u32], h: &Heads, k: u32, section: u32) -> u32
 {
     let end = place_at(h, k as usize + 1);
     let mut i = body_start(h, k);
-    let mut s = 0;
-    while s < section {
+    for s in 0..section {
         let size = run_size(tape, s, i, end);
         i += size;
-        s += 1;
     }
     i
 }
@@ -189,7 +180,7 @@ fn shown(
     g: &Heads,
     k: u32,
     n: u32,
-) -> Objection
+) -> Option<Why>
     ensures { told (joint library.now text.now) (joint behind.now other.now) result ≡ shown_at (joint library.now text.now) tape.now (heads_in h.now) (joint behind.now other.now) more.now (heads_in g.now) k n }
 {
     let by = name_of_module(tape, h, k);
@@ -232,13 +223,13 @@ fn shown(
                 n,
                 sections::IMPORTS,
             ) {
-                return Objection::Nothing;
+                return None;
             }
-            return changed(reasons::IMPORTS_CHANGED, by);
+            return Some(changed(reasons::IMPORTS_CHANGED, by));
         }
-        return changed(reasons::EXPORTS_CHANGED, by);
+        return Some(changed(reasons::EXPORTS_CHANGED, by));
     }
-    changed(reasons::PARAMETERS_CHANGED, by)
+    Some(changed(reasons::PARAMETERS_CHANGED, by))
 }
 
 // ---- the names of modules that it uses
@@ -256,15 +247,13 @@ fn find_across(
     ensures { result ≡ before (same (name_of (joint library.now text.now) w)) (declared (joint behind.now other.now) more.now (heads_in g.now)) }
 {
     let count = module_count(g);
-    let mut k = 0;
-    while k < count {
+    for k in 0..count {
         let v = name_of_module(more, g, k);
         if same_wherever(library, text, w, behind, other, v) {
             return k;
         }
-        k += 1;
     }
-    k
+    count
 }
 
 // How the module with number p stands to module k: 0 where there is none, 1 where it stands too late, 2 where it stands before.
@@ -314,30 +303,26 @@ fn names(
     g: &Heads,
     k: u32,
     n: u32,
-) -> Objection
+) -> Option<Why>
     ensures { told (joint library.now text.now) (joint behind.now other.now) result ≡ names_at (joint library.now text.now) tape.now (heads_in h.now) (joint behind.now other.now) more.now (heads_in g.now) k n }
 {
     let by = name_of_module(tape, h, k);
-    let mut j = place_at(h, k as usize);
+    let from = place_at(h, k as usize);
     let end = place_at(h, k as usize + 1);
-    while j < end {
+    for j in from..end {
         if names_module(role_at(tape, j as usize)) {
             let name = name_at(tape, j as usize);
-            if used_alike(library, text, tape, h, behind, other, more, g, k, n, name) {
-                j += 1;
-            } else {
-                return Objection::Against(Why {
+            if !used_alike(library, text, tape, h, behind, other, more, g, k, n, name) {
+                return Some(Why {
                     reason: reasons::NAMED_OTHERWISE,
                     by,
                     name,
                     new_name: false,
                 });
             }
-        } else {
-            j += 1;
         }
     }
-    Objection::Nothing
+    None
 }
 
 // ---- which of these is asked
@@ -356,7 +341,7 @@ pub fn objection_in(
     pass: u32,
     k: u32,
     n: u32,
-) -> Objection
+) -> Option<Why>
     ensures { told (joint library.now text.now) (joint behind.now other.now) result ≡ objection_at (joint library.now text.now) tape.now (heads_in h.now) (joint behind.now other.now) more.now (heads_in g.now) asked.now pass k n }
 {
     if pass == 0 {

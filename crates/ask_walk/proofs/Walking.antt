@@ -2,6 +2,8 @@
 use mathlib.Core.Path.{◌≡◌, refl, sym, ap, ◌∙◌}
 use mathlib.Core.Bool.{Bool, true, false}
 use mathlib.Core.Option.{Option, none, some}
+use Rattle.std.specs.Prelude as Rust
+use Rattle.std.specs.Prelude.{Some, None}
 use mathlib.Core.List.{List, [], ◌∷◌}
 use Prim.Native.Nat.{ℕ, zero, suc, ◌+◌, ◌-◌, ◌<◌, ◌≤◌}
 use native.Mathlib.Omega.{arith}
@@ -18,8 +20,6 @@ use Rattle.form_rows.specs.Entries.{word_at}
 use Rattle.modules.specs.Modules.{Heads}
 use Rattle.ask_decision.specs.Decide.{Why, why}
 use Rattle.ask_decision.specs.Reasons.{reached_otherwise}
-use Rattle.ask_objections.specs.declared.Objection.{Objection}
-use Rattle.ask_objections.specs.declared.Objection.TheVariants.{Nothing, Against}
 use Rattle.ask_objections.specs.declared.Why as Code
 use Rattle.ask_objections.specs.Objections.{why_of, told, named, objection_at}
 use Rattle.ask_walk.specs.Walk.{members, next_member, with_unless, with_all, pairs_at, changed_pairs, pass_by_pass, same_at, in_pairs_at, against_at, changed_at}
@@ -46,9 +46,9 @@ module _ (set : ℕ → Bool) (i end : ℕ) where
       unfolding next_member pick
       seek_on f = record { so = s.so ∙ ap (next_member set k) step ∙ rw (sym e ∙ f, add-one k) }
 
-    pub seek_none : end ≤ k → k ≡ next_member set i (end - i)
+    pub seek_none : end ≤ k → (r : ℕ) → r ≡ k → r ≡ next_member set i (end - i)
     unfolding next_member
-    seek_none l = let z : end - k ≡ 0 = omega arith in sym (s.so ∙ ap (next_member set k) z)
+    seek_none l r e = let z : end - k ≡ 0 = omega arith in e ∙ sym (s.so ∙ ap (next_member set k) z)
 
 pub ruleset seeking = (seek_start, seek_found, seek_on, seek_none, rules)
 
@@ -118,35 +118,35 @@ module _ (text tape : List ℕ) (h : Heads) (other new : List ℕ) (h' : Heads) 
     }
 
     module _ (i j : ℕ) (s : Pairing count new_count i j) where
-      pub pair_left : (by : ℕ) (r : Objection) → i < count → new_count ≤ j → by ≡ word_at tape (get_or h.places i 0)
-          → r ≡ Against (record { reason = 3; by = by; name = 0; new_name = false }) → told text other r ≡ whole
+      pub pair_left : (by : ℕ) (r : Code.Why) → i < count → new_count ≤ j → by ≡ word_at tape (get_or h.places i 0)
+          → r ≡ record { reason = 3; by = by; name = 0; new_name = false } → told text other (Some r) ≡ whole
       unfolding told why_of pairs_at pick
       pair_left by r l m e q =
-          ap (told text other) q
+          ap (λ (x : Code.Why). told text other (Some x)) q
           ∙ ap (λ (x : Name). some (why reached_otherwise (name_of text by) x)) (no_name text)
           ∙ ap (λ (w : ℕ). some (why reached_otherwise (name_of text w) [])) e
           ∙ sym (s.so ∙ (λ t. walked (rest_here set count i l t) (rest_none set' new_count j m t)))
 
-      pub pair_right : (name : ℕ) (r : Objection) → count ≤ i → j < new_count → name ≡ word_at new (get_or h'.places j 0)
-          → r ≡ Against (record { reason = 3; by = 0; name = name; new_name = true }) → told text other r ≡ whole
+      pub pair_right : (name : ℕ) (r : Code.Why) → count ≤ i → j < new_count → name ≡ word_at new (get_or h'.places j 0)
+          → r ≡ record { reason = 3; by = 0; name = name; new_name = true } → told text other (Some r) ≡ whole
       unfolding told why_of pairs_at pick
       pair_right name r l m e q =
-          ap (told text other) q
+          ap (λ (x : Code.Why). told text other (Some x)) q
           ∙ ap (λ (x : Name). some (why reached_otherwise x (name_of other name))) (no_name text)
           ∙ ap (λ (w : ℕ). some (why reached_otherwise [] (name_of other w))) e
           ∙ sym (s.so ∙ (λ t. walked (rest_none set count i l t) (rest_here set' new_count j m t)))
 
-      pub pair_done : count ≤ i → new_count ≤ j → told text other Nothing ≡ whole
+      pub pair_done : count ≤ i → new_count ≤ j → told text other None ≡ whole
       unfolding told pairs_at
       pair_done l m = sym (s.so ∙ (λ t. walked (rest_none set count i l t) (rest_none set' new_count j m t)))
 
-      module _ (l : i < count) (m : j < new_count) (r : Objection) (e : told text other r ≡ objection_at text tape h other new h' asked pass i j) where
-        pub pair_against : (w : Code.Why) → r ≡ Against w → told text other (Against w) ≡ whole
+      module _ (l : i < count) (m : j < new_count) (r : Rust.Option Code.Why) (e : told text other r ≡ objection_at text tape h other new h' asked pass i j) where
+        pub pair_against : (w : Code.Why) → r ≡ Some w → told text other (Some w) ≡ whole
         unfolding told pairs_at or_else
         pair_against w q =
             sym (s.so ∙ (λ t. walked (rest_here set count i l t) (rest_here set' new_count j m t)) ∙ rw (sym e ∙ ap (told text other) q))
 
-        pub pair_on : (i₁ j₁ : ℕ) → r ≡ Nothing → i₁ ≡ next_member set (i + 1) (count - (i + 1)) → j₁ ≡ next_member set' (j + 1) (new_count - (j + 1))
+        pub pair_on : (i₁ j₁ : ℕ) → r ≡ None → i₁ ≡ next_member set (i + 1) (count - (i + 1)) → j₁ ≡ next_member set' (j + 1) (new_count - (j + 1))
             → Pairing count new_count i₁ j₁
         unfolding told pairs_at or_else
         pair_on i₁ j₁ q f g =
@@ -177,19 +177,19 @@ module _ (text tape : List ℕ) (h : Heads) (other new : List ℕ) (h' : Heads) 
   pass_start = record { so = refl }
 
   module _ (pass : ℕ) (s : Passing pass) where
-    pub pass_done : 4 ≤ pass → told text other Nothing ≡ all_passes
+    pub pass_done : 4 ≤ pass → told text other None ≡ all_passes
     unfolding told pass_by_pass
     pass_done l = let z : 4 - pass ≡ 0 = omega arith in sym (s.so ∙ ap (pass_by_pass in_pass pass) z)
 
-    module _ (l : pass < 4) (r : Objection) (e : told text other r ≡ in_pass pass) where
+    module _ (l : pass < 4) (r : Rust.Option Code.Why) (e : told text other r ≡ in_pass pass) where
       step_pass : 4 - pass ≡ suc (4 - (pass + 1))
       step_pass = omega arith
 
-      pub pass_against : (w : Code.Why) → r ≡ Against w → told text other (Against w) ≡ all_passes
+      pub pass_against : (w : Code.Why) → r ≡ Some w → told text other (Some w) ≡ all_passes
       unfolding told pass_by_pass or_else
       pass_against w q = sym (s.so ∙ ap (pass_by_pass in_pass pass) step_pass ∙ rw (sym e ∙ ap (told text other) q))
 
-      pub pass_on : r ≡ Nothing → Passing (pass + 1)
+      pub pass_on : r ≡ None → Passing (pass + 1)
       unfolding told pass_by_pass or_else
       pass_on q = record { so = s.so ∙ ap (pass_by_pass in_pass pass) step_pass ∙ rw (sym e ∙ ap (told text other) q, add-one pass) }
 

@@ -5,27 +5,24 @@
 ghost use Rattle.std.specs.Prelude.{◌≡◌, ◌+◌, ◌-◌, ◌<◌};
 ghost use Rattle.text_names.specs.Joint.{joint};
 ghost use Rattle.module_set.specs.ModuleSet.{holds, nothing};
-ghost use Rattle.ask_objections.specs.declared.Objection.TheVariants.{Against};
 ghost use Rattle.ask_objections.specs.Objections.{told};
 ghost use Rattle.modules.specs.Modules.{heads_in};
 ghost use Rattle.ask_walk.specs.Walk.{next_member, same_at, with_unless, with_all, in_pairs_at, against_at, changed_at};
 
 use ask_decision::reasons;
-use ask_objections::{Objection, Why, objection_in, same_module};
+use ask_objections::{Why, objection_in, same_module};
 use modules::{Heads, module_count, name_of_module};
 
-// The first module of the set from number i on; `end` if there is none below it.
+// The first module of the set from number i on, below `end`; the greater of the two numbers if there is none.
 fn next_member(set: u64, i: u32, end: u32) -> u32
     ensures { result ≡ next_member (holds set) i (end - i) }
 {
-    let mut k = i;
-    while k < end {
+    for k in i..end {
         if module_set::has(set, k) {
             return k;
         }
-        k += 1;
     }
-    k
+    end.max(i)
 }
 
 // The first module of the set behind number i.
@@ -37,15 +34,15 @@ fn next_after(set: u64, i: u32, end: u32) -> u32
 }
 
 // A module without a counterpart: 3.
-fn left_over(by: u32, name: u32, new_name: bool) -> Objection
-    ensures { result ≡ Against (record { reason = 3; by = by; name = name; new_name = new_name }) }
+fn left_over(by: u32, name: u32, new_name: bool) -> Why
+    ensures { result ≡ record { reason = 3; by = by; name = name; new_name = new_name } }
 {
-    Objection::Against(Why {
+    Why {
         reason: reasons::REACHED_OTHERWISE,
         by,
         name,
         new_name,
-    })
+    }
 }
 
 // The first objection of the pass to a module of the set and its counterpart, pair by pair.
@@ -62,31 +59,30 @@ fn in_pairs(
     set: u64,
     new_set: u64,
     pass: u32,
-) -> Objection
+) -> Option<Why>
     ensures { told (joint library.now text.now) (joint behind.now other.now) result ≡ in_pairs_at (joint library.now text.now) tape.now (heads_in h.now) (joint behind.now other.now) more.now (heads_in g.now) asked.now (holds set) (holds new_set) pass }
 {
     let count = module_count(h);
     let new_count = module_count(g);
     let mut i = next_member(set, 0, count);
     let mut j = next_member(new_set, 0, new_count);
+    // a while: each turn goes on at the next modules of two sets
     while i < count {
         if new_count <= j {
-            return left_over(name_of_module(tape, h, i), 0, false);
+            return Some(left_over(name_of_module(tape, h, i), 0, false));
         }
-        match objection_in(
+        if let Some(w) = objection_in(
             asked, library, text, tape, h, behind, other, more, g, pass, i, j,
         ) {
-            Objection::Against(w) => return Objection::Against(w),
-            Objection::Nothing => {
-                i = next_after(set, i, count);
-                j = next_after(new_set, j, new_count);
-            }
+            return Some(w);
         }
+        i = next_after(set, i, count);
+        j = next_after(new_set, j, new_count);
     }
     if j < new_count {
-        return left_over(0, name_of_module(more, g, j), true);
+        return Some(left_over(0, name_of_module(more, g, j), true));
     }
-    Objection::Nothing
+    None
 }
 
 // The first objection, pass by pass.
@@ -102,21 +98,17 @@ pub fn against(
     g: &Heads,
     set: u64,
     new_set: u64,
-) -> Objection
+) -> Option<Why>
     ensures { told (joint library.now text.now) (joint behind.now other.now) result ≡ against_at (joint library.now text.now) tape.now (heads_in h.now) (joint behind.now other.now) more.now (heads_in g.now) asked.now (holds set) (holds new_set) }
 {
-    let mut pass = 0;
-    while pass < 4 {
-        match in_pairs(
+    for pass in 0..4 {
+        if let Some(w) = in_pairs(
             asked, library, text, tape, h, behind, other, more, g, set, new_set, pass,
         ) {
-            Objection::Against(w) => return Objection::Against(w),
-            Objection::Nothing => {
-                pass += 1;
-            }
+            return Some(w);
         }
     }
-    Objection::Nothing
+    None
 }
 
 // The set with new module j, if it is not as old module i.
@@ -161,6 +153,7 @@ pub fn changed_set(
     let mut all = module_set::empty();
     let mut i = next_member(set, 0, count);
     let mut j = next_member(new_set, 0, new_count);
+    // a while: each turn goes on at the next modules of two sets
     while i < count {
         if new_count <= j {
             return all;

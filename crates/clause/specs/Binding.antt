@@ -10,7 +10,7 @@ use Rattle.meaning.specs.Clauses.{new_sort, new_function, pairs_right, unpaired,
 use Rattle.text_names.specs.Word.{name_of}
 use Rattle.form.specs.declared.Form.{Form}
 use Rattle.form.specs.declared.Block.{Block}
-use Rattle.form.specs.declared.Made.{Made}
+use Rattle.form.specs.Verdicts.{Made}
 use Rattle.form.specs.Memory.{part, Kept}
 use Rattle.form.specs.Forms.{visible_at, Stands}
 use Rattle.form.specs.Blocks.{Makes, MadeIn}

@@ -4,10 +4,9 @@ use Rattle.meaning.specs.Numbers.{bad_renaming}
 use Rattle.meaning.specs.Checks.{unless}
 use Rattle.meaning.specs.Clauses.{wrong_renaming}
 use Rattle.form.specs.declared.Form.{Form}
-use Rattle.form.specs.declared.Verdict.{Verdict}
 use Rattle.form.specs.Memory.{part}
 use Rattle.form.specs.Forms.{items_at}
-use Rattle.form.specs.Verdicts.{told}
+use Rattle.form.specs.Verdicts.{Verdict, told}
 use Rattle.clause_translation.specs.declared.Mode.{Mode}
 use Rattle.clause_pairs.specs.Pairs.{pairs_at}
 use Rattle.clause_checks.specs.Notes.{NoteRoom, FormalsNoted}

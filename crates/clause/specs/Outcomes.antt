@@ -1,5 +1,5 @@
 -- How a binding ends: 15, 22 to 27, or with what is made; and that the checks on words are the meaning's.
-use Rattle.std.specs.Prelude.{◌≡◌, Bool, true, false, ℕ, ◌≤◌}
+use Rattle.std.specs.Prelude.{◌≡◌, Bool, true, false, ℕ, ◌≤◌, Ok, Err}
 use Rattle.std.proofs.Math.Path.{refl, sym, ap, ap₂, subst}
 use Rattle.std.proofs.Common.{◌∙◌, arith}
 use Rattle.std.proofs.Math.Option.{Option}
@@ -15,17 +15,13 @@ use Rattle.meaning.specs.Checks.{lone, Outcome, fine, stop, ◌>>◌, Check, unl
 use Rattle.meaning.specs.Clauses.{pairs_right, unpaired, bound_to, bind}
 use Rattle.meaning.specs.OutcomeLaws.{then_fine, unless_fine}
 use Rattle.text_names.specs.Word.{name_of}
-use Rattle.form.specs.declared.Culprit.{Culprit}
+use Rattle.form.specs.declared.Refusal.{Refusal}
 use Rattle.form.specs.declared.Form.{Form}
 use Rattle.form.specs.declared.Block.{Block}
-use Rattle.form.specs.declared.Made.{Made}
-use Rattle.form.specs.declared.Made.TheVariants.{Refused}
-use Rattle.form.specs.declared.Verdict.{Verdict}
-use Rattle.form.specs.declared.Verdict.TheVariants.{Fine, Stop}
 use Rattle.form.specs.Memory.{part}
 use Rattle.form.specs.Forms.{slots_at, items_at, visible_at, Stands}
 use Rattle.form.specs.FormLaws.{kept_all}
-use Rattle.form.specs.Verdicts.{culprit_of, lone_of, told}
+use Rattle.form.specs.Verdicts.{Verdict, Made, refusal, culprit_of, lone_of, told}
 use Rattle.clause_translation.specs.declared.Mode.{Mode}
 use Rattle.clause_pairs.specs.Pairs.{pairs_at}
 use Rattle.clause_translation.specs.Translation.{mode_formals}
@@ -68,11 +64,11 @@ module _ (text tape w : List ℕ) (m : Mode) (actual : Form) where
   abbrev names_wrong : Check
   names_wrong = unless formal_unpaired (unpaired (mode_formals text tape w m) (pairs_at text tape m.pairs))
 
-  pub pairs_stop : (v : Verdict) (k : ℕ) (x : Culprit) → told text v ≡ pairs_wrong → v ≡ Stop k x → told text (Stop k x) ≡ pairs_checked text tape w m actual
+  pub pairs_stop : (v : Verdict) (x : Refusal) → told text v ≡ pairs_wrong → v ≡ Err x → told text (Err x) ≡ pairs_checked text tape w m actual
   unfolding told pairs_checked
-  pairs_stop v k x e h = sym (stops pairs_wrong names_wrong k (culprit_of text x) (sym e ∙ ap (told text) h))
+  pairs_stop v x e h = sym (stops pairs_wrong names_wrong x.number (culprit_of text x.culprit) (sym e ∙ ap (told text) h))
 
-  pub pairs_fine : (v r : Verdict) → told text v ≡ pairs_wrong → v ≡ Fine → told text r ≡ names_wrong → told text r ≡ pairs_checked text tape w m actual
+  pub pairs_fine : (v r : Verdict) → told text v ≡ pairs_wrong → v ≡ Ok tt → told text r ≡ names_wrong → told text r ≡ pairs_checked text tape w m actual
   unfolding told pairs_checked
   pairs_fine v r e h f = f ∙ sym (goes_on pairs_wrong names_wrong (sym e ∙ ap (told text) h))
 
@@ -105,14 +101,14 @@ module _ (text : List ℕ) (t : ℕ) (w : List ℕ) (p pairs : ℕ) (g actual : 
   there_meant n s = ap (λ (v : Visible). member name (slot_names v.parameters)) (sym s.visible)
 
   -- 15
-  pub no_parameter : (r : Bool) → r ≡ there → r ≡ false → Bound text t w p pairs g actual b (Refused bad_parameter (record { name = p; actual = 0 })) w
+  pub no_parameter : (r : Bool) → r ≡ there → r ≡ false → Bound text t w p pairs g actual b (Err (refusal bad_parameter (record { name = p; actual = 0 }))) w
   unfolding bind pick
   no_parameter r known e = record {
     kept = kept_all b.low b.high w;
     made_in = tt;
     made = λ n a s u.
         let missing = there_meant n s ∙ sym known ∙ e in
-        refused_makes text (part w 0 t) w bad_parameter (record { name = p; actual = 0 }) (bind name rs n a) (rw (missing, lone_of text p));
+        refused_makes text (part w 0 t) w (refusal bad_parameter (record { name = p; actual = 0 })) (bind name rs n a) (rw (missing, lone_of text p));
   }
 
   module _ (m : Mode) (mode : m ≡ binding_mode p pairs g) (r : Bool) (known : r ≡ there) (has : r ≡ true) where
@@ -150,18 +146,18 @@ module _ (text : List ℕ) (t : ℕ) (w : List ℕ) (p pairs : ℕ) (g actual : 
           (unpaired_meant text (part w 0 t) w m n.visible table ∙ (λ i. unpaired (formal_words i) (words i)))
 
     -- 22 to 27
-    pub wrong_pairs : (v : Verdict) (k : ℕ) (x : Culprit) → ClauseRight text t w m g actual v → v ≡ Stop k x
-        → Bound text t w p pairs g actual b (Refused k x) w
+    pub wrong_pairs : (v : Verdict) (x : Refusal) → ClauseRight text t w m g actual v → v ≡ Err x
+        → Bound text t w p pairs g actual b (Err x) w
     unfolding told bound_to
-    wrong_pairs v k x e h = record {
+    wrong_pairs v x e h = record {
       kept = kept_all b.low b.high w;
       made_in = tt;
       made = λ n a s u.
-          refused_makes text (part w 0 t) w k x (bind name rs n a)
-          (has_parameter n a s ∙ both_stop _ _ _ k (culprit_of text x) (sym (checked_meant n a s u) ∙ sym (e.binds binds.kind) ∙ ap (told text) h));
+          refused_makes text (part w 0 t) w x (bind name rs n a)
+          (has_parameter n a s ∙ both_stop _ _ _ x.number (culprit_of text x.culprit) (sym (checked_meant n a s u) ∙ sym (e.binds binds.kind) ∙ ap (told text) h));
     }
 
-    pub right_pairs : (v : Verdict) (z : Made) (w' : List ℕ) → ClauseRight text t w m g actual v → v ≡ Fine
+    pub right_pairs : (v : Verdict) (z : Made) (w' : List ℕ) → ClauseRight text t w m g actual v → v ≡ Ok tt
         → BoundForm text t w m g actual b z w' → Bound text t w p pairs g actual b z w'
     unfolding told bound_to binding_mode
     right_pairs v z w' e h x =

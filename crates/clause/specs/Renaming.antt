@@ -1,5 +1,5 @@
 -- From the room that a renaming or a union has to what the code asks for, and from what the code leaves to the meaning.
-use Rattle.std.specs.Prelude.{◌≡◌, refl, ℕ, length}
+use Rattle.std.specs.Prelude.{◌≡◌, refl, ℕ, length, Ok, Err}
 use Rattle.std.proofs.Math.Path.{sym, ap}
 use Rattle.std.proofs.Common.{◌∙◌, subst, inl, arith}
 use mathlib.Core.List.{List, []}
@@ -9,16 +9,12 @@ use Rattle.meaning.specs.Checks.{unless, checked}
 use Rattle.meaning.specs.Clauses.{renaming, wrong_renaming, rename}
 use Rattle.form.specs.declared.Form.{Form}
 use Rattle.form.specs.declared.Block.{Block}
-use Rattle.form.specs.declared.Culprit.{Culprit}
-use Rattle.form.specs.declared.Made.{Made}
-use Rattle.form.specs.declared.Made.TheVariants.{Refused}
-use Rattle.form.specs.declared.Verdict.{Verdict}
-use Rattle.form.specs.declared.Verdict.TheVariants.{Fine, Stop}
+use Rattle.form.specs.declared.Refusal.{Refusal}
 use Rattle.form.specs.Memory.{part}
 use Rattle.form.specs.Forms.{visible_at, Stands}
 use Rattle.form.specs.FormLaws.{kept_all}
 use Rattle.form.specs.Blocks.{MadeThere}
-use Rattle.form.specs.Verdicts.{culprit_of, told}
+use Rattle.form.specs.Verdicts.{Verdict, Made, culprit_of, told}
 use Rattle.form_frames.specs.Changes.{onward}
 use Rattle.clause_translation.specs.declared.Mode.{Mode}
 use Rattle.clause_pairs.specs.Pairs.{pairs_at}
@@ -166,16 +162,16 @@ module _ (text : List ℕ) (t : ℕ) (w w₁ : List ℕ) (pairs : ℕ) (g : Form
   names_meant n s =
       ap (λ (u : Visible). unless bad_renaming (wrong_renaming u.items [] (pairs_at text (part w 0 t) pairs))) (sym s.visible) ∙ sym (q.renames (λ k. omega (arith, k)))
 
-  pub rename_stop : (k : ℕ) (x : Culprit) → v ≡ Stop k x → Renamed text t w pairs g b (Refused k x) w
+  pub rename_stop : (x : Refusal) → v ≡ Err x → Renamed text t w pairs g b (Err x) w
   unfolding rename told
-  rename_stop k x e = record {
+  rename_stop x e = record {
     kept = kept_all b.low b.high w;
     made_in = tt;
-    made = λ n s. refused_makes text (part w 0 t) w k x (rename (pairs_at text (part w 0 t) pairs) n)
-        (stops _ _ k (culprit_of text x) (names_meant n s ∙ ap (told text) e));
+    made = λ n s. refused_makes text (part w 0 t) w x (rename (pairs_at text (part w 0 t) pairs) n)
+        (stops _ _ x.number (culprit_of text x.culprit) (names_meant n s ∙ ap (told text) e));
   }
 
-  pub rename_fine : (r : Made) → v ≡ Fine → RenamedForm text t w pairs g b r w₁ → Renamed text t w pairs g b r w₁
+  pub rename_fine : (r : Made) → v ≡ Ok tt → RenamedForm text t w pairs g b r w₁ → Renamed text t w pairs g b r w₁
   unfolding rename told
   rename_fine r e d = record {
     kept = d.kept;

@@ -11,7 +11,7 @@ use Rattle.text_names.specs.Word.{name_of}
 use Rattle.form_rows.specs.Rows.{row_size}
 use Rattle.form.specs.declared.Form.{Form}
 use Rattle.form.specs.declared.Block.{Block}
-use Rattle.form.specs.declared.Made.{Made}
+use Rattle.form.specs.Verdicts.{Made}
 use Rattle.form.specs.Memory.{part, Kept}
 use Rattle.form.specs.Forms.{items_at, visible_at, Stands}
 use Rattle.form.specs.FormLaws.{Apart}

@@ -18,7 +18,7 @@ use clause_checks::renamings::wrong_renaming;
 use clause_mistakes::bindings::pairs_right;
 use clause_mistakes::formals::unpaired;
 use clause_translation::{Mode, modes};
-use form::{Block, Culprit, Form, Made, Verdict};
+use form::{Block, Culprit, Form, Refusal};
 use meaning::numbers;
 use unite::{unite_hidden, unite_seen, unite_visible};
 use unite_checks::checked::checked;
@@ -169,7 +169,7 @@ fn bound(
     g: Form,
     actual: Form,
     b: Block,
-) -> Made
+) -> Result<Form, Refusal>
     requires { StepRoom (length work.old) t m g actual b }
     ensures { BoundForm (joint library.now text.now) t work.old m g actual b result work.new }
 {
@@ -188,15 +188,13 @@ fn binding_right(
     t: usize,
     m: Mode,
     actual: Form,
-) -> Verdict
+) -> Result<(), Refusal>
     requires t_in_bounds { t ≤ length work.now }
     requires kind_value { m.kind ≡ 2 }
     ensures { told (joint library.now text.now) result ≡ pairs_checked (joint library.now text.now) (part work.now 0 t) work.now m actual }
 {
-    match pairs_right(library, text, work, t, m, actual) {
-        Verdict::Stop(k, w) => Verdict::Stop(k, w),
-        Verdict::Fine => unpaired(library, text, work, t, m),
-    }
+    pairs_right(library, text, work, t, m, actual)?;
+    unpaired(library, text, work, t, m)
 }
 
 // What is wrong with a clause of g, by its mode: 14, or 22 to 27. What is looked at for it is gone before anything is made.
@@ -208,7 +206,7 @@ fn clause_right(
     m: Mode,
     g: Form,
     actual: Form,
-) -> Verdict
+) -> Result<(), Refusal>
     requires { t ≤ length work.now }
     ensures { ClauseRight (joint library.now text.now) t work.now m g actual result }
 {
@@ -233,20 +231,17 @@ pub fn bind(
     g: Form,
     actual: Form,
     b: Block,
-) -> Made
+) -> Result<Form, Refusal>
     requires { BindRoom (length work.old) t g actual b }
     ensures { Bound (joint library.now text.now) t work.old p pairs g actual b result work.new }
 {
     if has_parameter(library, text, work, g, p) {
         let m = binding_mode(p, pairs, g);
-        match clause_right(library, text, work, t, m, g, actual) {
-            Verdict::Stop(k, w) => {
-                return Made::Refused(k, w);
-            }
-            Verdict::Fine => {
-                return bound(library, text, work, t, m, g, actual, b);
-            }
-        }
+        clause_right(library, text, work, t, m, g, actual)?;
+        return bound(library, text, work, t, m, g, actual, b);
     }
-    Made::Refused(numbers::BAD_PARAMETER, Culprit { name: p, actual: 0 })
+    Err(Refusal {
+        number: numbers::BAD_PARAMETER,
+        culprit: Culprit { name: p, actual: 0 },
+    })
 }

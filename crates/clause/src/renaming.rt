@@ -6,7 +6,7 @@ ghost use Rattle.clause.specs.Either.{Renames};
 
 use super::{clause_right, formals_noted};
 use clause_translation::{Mode, modes};
-use form::{Block, Form, Made, Verdict};
+use form::{Block, Form, Refusal};
 use unite::{empty_form, unite, unite_hidden, unite_seen};
 use unite_checks::checked::checked;
 
@@ -19,7 +19,7 @@ fn renamed(
     m: Mode,
     g: Form,
     b: Block,
-) -> Made
+) -> Result<Form, Refusal>
     requires make_room { MakeRoom (length work.old) t g b }
     requires renames { Renames m }
     ensures { RenamedForm (joint library.now text.now) t work.old m.pairs g b result work.new }
@@ -41,7 +41,7 @@ pub fn rename(
     pairs: u32,
     g: Form,
     b: Block,
-) -> Made
+) -> Result<Form, Refusal>
     requires { MakeRoom (length work.old) t g b }
     ensures { Renamed (joint library.now text.now) t work.old pairs g b result work.new }
 {
@@ -52,10 +52,8 @@ pub fn rename(
         visible: 0,
         count: 0,
     };
-    match clause_right(library, text, work, t, m, g, g) {
-        Verdict::Stop(k, w) => Made::Refused(k, w),
-        Verdict::Fine => renamed(library, text, work, t, m, g, b),
-    }
+    clause_right(library, text, work, t, m, g, g)?;
+    renamed(library, text, work, t, m, g, b)
 }
 
 // g united with f, which lies in the block.
@@ -67,7 +65,7 @@ pub fn join(
     g: Form,
     f: Form,
     b: Block,
-) -> Made
+) -> Result<Form, Refusal>
     requires { JoinRoom (length work.old) t g f b }
     ensures { JoinedForm (joint library.now text.now) t work.old g f b result work.new }
 {

@@ -1,4 +1,5 @@
 -- Laws of the pairs of a clause, in the code's terms.
+use Rattle.std.specs.Prelude.{Some, None}
 use mathlib.Core.Path.{◌≡◌, refl, sym, ap, ◌∙◌}
 use Prim.Native.Nat.{ℕ, suc, ◌+◌, ◌-◌, ◌*◌, ◌≤◌, ◌<◌}
 use mathlib.Core.Bool.{Bool, true, false}
@@ -15,7 +16,6 @@ use Rattle.text_names.specs.Word.{name_of}
 use Rattle.tape.specs.Tape.{old_role}
 use Rattle.form_rows.specs.Entries.{role_at, word_at}
 use Rattle.clause_pairs.specs.Pairs.{pairs_at}
-use Rattle.clause_checks.specs.declared.Found.TheVariants.{At, Nothing}
 use Rattle.clause_checks.specs.Pairs.{found, pair_count, given, pair_at, rightly}
 use Rattle.clause_checks.specs.PairWalks.{from_start, one_more, counted_next, Walking, walk_start, walk_end, walk_here, walk_again}
 
@@ -100,7 +100,7 @@ module _ (text tape : List ℕ) (pairs a n : ℕ) where
   pub paired_start : n ≡ pair_count tape pairs 32 → Pairing text tape pairs a n 0
   paired_start h = walk_start asked text tape pairs n h
 
-  pub paired_end : (k : ℕ) → n ≤ k → Pairing text tape pairs a n k → found text Nothing ≡ paired (pairs_at text tape pairs) (name_of text a)
+  pub paired_end : (k : ℕ) → n ≤ k → Pairing text tape pairs a n k → found text None ≡ paired (pairs_at text tape pairs) (name_of text a)
   unfolding found paired
   paired_end k h inv = sym (walk_end asked text tape pairs n k h inv)
 
@@ -110,7 +110,7 @@ module _ (text tape : List ℕ) (pairs a n : ℕ) where
     unfolding paired pair_at pick
     paired_again q = walk_again asked text tape pairs n k h inv (rw (← e, ← f, q))
 
-    pub paired_here : (y : ℕ) → r ≡ true → y ≡ word_at tape (pairs + k * 2 + 1) → found text (At y) ≡ paired (pairs_at text tape pairs) (name_of text a)
+    pub paired_here : (y : ℕ) → r ≡ true → y ≡ word_at tape (pairs + k * 2 + 1) → found text (Some y) ≡ paired (pairs_at text tape pairs) (name_of text a)
     unfolding found paired pair_at pick
     paired_here y q g = sym (walk_here asked text tape pairs n k h inv ∙ rw (← e, ← f, q, ← g))
 

@@ -1,4 +1,5 @@
 -- Laws of the check of a renaming's pairs, in the code's terms.
+use Rattle.std.specs.Prelude.{Ok, Err}
 use mathlib.Core.Path.{◌≡◌, refl, sym, ap, ◌∙◌}
 use Prim.Native.Nat.{ℕ, ◌+◌, ◌-◌, ◌*◌, ◌≤◌, ◌<◌, min}
 use mathlib.Core.Bool.{Bool, true, false, not, ◌&&◌, ◌||◌}
@@ -22,9 +23,8 @@ use Rattle.text_names.specs.Word.{name_of}
 use Rattle.form_rows.specs.declared.Row.{Row}
 use Rattle.form_rows.specs.Entries.{word_at, name_at}
 use Rattle.form_rows.specs.Rows.{sort_of, type_of, shape_of, item_of}
-use Rattle.form.specs.declared.Verdict.TheVariants.{Fine, Stop}
 use Rattle.form.specs.Forms.{items_at}
-use Rattle.form.specs.Verdicts.{told, lone_of}
+use Rattle.form.specs.Verdicts.{refusal, told, lone_of}
 use Rattle.clause_pairs.specs.Pairs.{pairs_at}
 use Rattle.clause_names.specs.Named.{kind_named}
 use Rattle.clause_checks.specs.Pairs.{pair_count, given, pair_at, rightly}
@@ -143,7 +143,7 @@ module _ (visible : List Item) (text tape : List ℕ) (pairs n : ℕ) where
   check_start h = walk_start checked text tape pairs n h
 
   module _ (k : ℕ) (inv : Checking visible text tape pairs n k) where
-    pub renamings_fine : n ≤ k → told text Fine ≡ unless bad_renaming wrong
+    pub renamings_fine : n ≤ k → told text (Ok tt) ≡ unless bad_renaming wrong
     unfolding told unless wrong_renaming given first_bad
     renamings_fine h = rw (walk_end checked text tape pairs n k h inv)
 
@@ -162,7 +162,7 @@ module _ (visible : List Item) (text tape : List ℕ) (pairs n : ℕ) where
       one_wrong q = walk_here checked text tape pairs n k h inv ∙ rw (wrong_or_given, ← f, q)
 
       pub renaming_stops : (x : ℕ) → r ≡ false → x ≡ word_at tape (pairs + k * 2)
-          → told text (Stop bad_renaming (record { name = x; actual = 0 })) ≡ unless bad_renaming wrong
+          → told text (Err (refusal bad_renaming (record { name = x; actual = 0 }))) ≡ unless bad_renaming wrong
       unfolding told unless
       renaming_stops x q e = rw (one_wrong q, ← e, lone_of text x)
 

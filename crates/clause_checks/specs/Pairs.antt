@@ -1,4 +1,6 @@
 -- The pairs of a clause one by one: how many there are, the old names given by the first of them, and whether one of them is right.
+use Rattle.std.specs.Prelude as std
+use Rattle.std.specs.Prelude.{Some, None}
 use Rattle.std.specs.Prelude.{ℕ, zero, suc, ◌+◌, ◌*◌, Bool, not, ◌&&◌, List, [], ◌∷◌, eqb}
 use Rattle.std.proofs.Math.Option.{Option, none, some}
 use Rattle.meaning.specs.Lists.{pick}
@@ -7,12 +9,10 @@ use Rattle.meaning.specs.Syntax.{Pair}
 use Rattle.text_names.specs.Word.{name_of}
 use Rattle.tape.specs.Tape.{old_role}
 use Rattle.form_rows.specs.Entries.{role_at, name_at}
-use Rattle.clause_checks.specs.declared.Found.{Found}
-use Rattle.clause_checks.specs.declared.Found.TheVariants.{At, Nothing}
 
-unfoldable pub found : List ℕ → Found → Option Name
-found text (At w) = some (name_of text w)
-found text Nothing = none
+unfoldable pub found : List ℕ → std.Option ℕ → Option Name
+found text (Some w) = some (name_of text w)
+found text None = none
 
 -- how many pairs stand from place i on, at most c
 unfoldable pub pair_count : List ℕ → ℕ → ℕ → ℕ

@@ -2,7 +2,7 @@
 use Rattle.std.specs.Prelude.{◌≡◌, Bool, eqb, length, get_or, take}
 use Rattle.std.proofs.Math.Path.{refl}
 use Rattle.std.proofs.Common.{sym, ◌∙◌, arith, eqb-true}
-use Prim.Native.Nat.{ℕ, zero, suc, ◌+◌, ◌-◌, ◌≤◌, ◌<◌}
+use Prim.Native.Nat.{ℕ, zero, suc, ◌+◌, ◌-◌, ◌≤◌, ◌<◌, min}
 use Rattle.std.proofs.Math.Bool.{true, false, not}
 use mathlib.Core.List.{List, [], ◌∷◌, map}
 use Rattle.std.proofs.lemmas.Bool.{eqb-false}
@@ -19,12 +19,10 @@ module _ (text tape : List ℕ) (fits : Sort → Bool) where
   inputs_pass ss = all_pass fits (map (sort_of text tape) ss)
 
   pub record Fitting (kind : ℕ) (sorts : List ℕ) (i : ℕ) : Type 0 where
-    pub inside : i ≤ 9
-    pub few : i ≤ kind - 2
     pub done : (j : ℕ) → j < i → true ≡ fits (sort_of text tape (get_or sorts j 0))
 
   pub fitting_start : (kind : ℕ) (sorts : List ℕ) → Fitting kind sorts 0
-  fitting_start kind sorts = record { inside = omega arith; few = omega arith; done = λ j h. absurd (omega arith) }
+  fitting_start kind sorts = record { done = λ j h. absurd (omega arith) }
 
   all_fit : (n : ℕ) (xs : List ℕ) → ((j : ℕ) → j < n → j < length xs → true ≡ fits (sort_of text tape (get_or xs j 0))) → inputs_pass (take n xs) ≡ true
   unfolding inputs_pass all_pass any pick
@@ -45,19 +43,16 @@ module _ (text tape : List ℕ) (fits : Sort → Bool) where
       go false ih = refl
 
   module _ (kind : ℕ) (sorts : List ℕ) (i : ℕ) (inv : Fitting kind sorts i) where
-    pub fitting_all : length sorts ≡ 9 → 9 ≤ i → true ≡ inputs_pass (take (kind - 2) sorts)
-    fitting_all nine h = sym (all_fit (kind - 2) sorts (λ j l k. inv.done j (omega arith)))
+    pub fitting_end : (few n : ℕ) → few ≡ kind - 2 → n ≡ min few 9 → length sorts ≡ 9 → n ≤ i → true ≡ inputs_pass (take (kind - 2) sorts)
+    fitting_end few n d e nine h = sym (all_fit (kind - 2) sorts (λ j l k. inv.done j (omega arith)))
 
-    pub fitting_end : kind ≤ i + 2 → true ≡ inputs_pass (take (kind - 2) sorts)
-    fitting_end h = sym (all_fit (kind - 2) sorts (λ j l k. inv.done j (omega arith)))
-
-    module _ (l : i < 9) (h : i + 2 < kind) (r : Bool) (f : r ≡ fits (sort_of text tape (get_or sorts i 0))) where
+    module _ (few n : ℕ) (d : few ≡ kind - 2) (e : n ≡ min few 9) (h : i < n) (r : Bool) (f : r ≡ fits (sort_of text tape (get_or sorts i 0))) where
       pub fitting_again : r ≡ true → Fitting kind sorts (i + 1)
-      fitting_again q = record { inside = omega arith; few = omega arith; done = λ j d. at j d (eqb j i) refl }
+      fitting_again q = record { done = λ j k. at j k (eqb j i) refl }
         where
           at : (j : ℕ) → j < i + 1 → (b : Bool) → eqb j i ≡ b → true ≡ fits (sort_of text tape (get_or sorts j 0))
-          at j d true e = let same : j ≡ i = eqb-true j i e in rw same (sym q ∙ f)
-          at j d false e = let other = eqb-false j i e in inv.done j (omega arith)
+          at j k true e = let same : j ≡ i = eqb-true j i e in rw same (sym q ∙ f)
+          at j k false e = let other = eqb-false j i e in inv.done j (omega arith)
 
       pub fitting_not : length sorts ≡ 9 → r ≡ false → false ≡ inputs_pass (take (kind - 2) sorts)
       fitting_not nine q = sym (one_not (kind - 2) sorts i (omega arith) (omega arith) (sym q ∙ f))

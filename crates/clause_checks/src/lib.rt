@@ -7,10 +7,3 @@ pub mod parameters;
 pub mod renamings;
 pub mod searches;
 pub mod sorts;
-
-// The word of a name, or none.
-#[derive(Clone, Copy)]
-pub enum Found {
-    At(u32),
-    Nothing,
-}

@@ -73,9 +73,7 @@ pub fn note_formals(
     ensures { FormalsNoted (joint library.now text.now) (part work.old 0 t) work.old work.new m y notes }
 {
     let count = m.count;
-    let mut k = 0;
-    while k < count {
+    for k in 0..count {
         note_formal(library, text, work, t, m, y, notes, k);
-        k += 1;
     }
 }

@@ -8,7 +8,6 @@ ghost use Rattle.form_rows.specs.Entries.{word_at};
 ghost use Rattle.clause_pairs.specs.Pairs.{pairs_at};
 ghost use Rattle.clause_checks.specs.Pairs.{found, given, pair_count};
 
-use super::Found;
 use form_rows::entries::{name_at, role_at, same_word};
 use tape::roles;
 
@@ -37,11 +36,8 @@ pub fn new_word(tape: &[u32], pairs: u32, k: u32) -> u32
 pub fn pair_count(tape: &[u32], pairs: u32) -> u32
     ensures { result ≡ pair_count tape.now pairs 32 }
 {
-    let mut k: u32 = 0;
-    while k < 32 {
-        if role_at(tape, pair_place(pairs, k)) == roles::OLD {
-            k += 1;
-        } else {
+    for k in 0..32 {
+        if role_at(tape, pair_place(pairs, k)) != roles::OLD {
             return k;
         }
     }
@@ -52,10 +48,8 @@ pub fn pair_count(tape: &[u32], pairs: u32) -> u32
 pub fn is_given(library: &[u8], text: &[u8], tape: &[u32], pairs: u32, k: u32, a: u32) -> bool
     ensures { result ≡ member (name_of (joint library.now text.now) a) (given (joint library.now text.now) tape.now pairs k) }
 {
-    let mut left = k;
-    while 0 < left {
-        left -= 1;
-        if same_word(library, text, a, old_word(tape, pairs, left)) {
+    for j in (0..k).rev() {
+        if same_word(library, text, a, old_word(tape, pairs, j)) {
             return true;
         }
     }
@@ -63,16 +57,14 @@ pub fn is_given(library: &[u8], text: &[u8], tape: &[u32], pairs: u32, k: u32, a
 }
 
 // The word of the new name that the first pair of the name a gives.
-pub fn paired_word(library: &[u8], text: &[u8], tape: &[u32], pairs: u32, a: u32) -> Found
+pub fn paired_word(library: &[u8], text: &[u8], tape: &[u32], pairs: u32, a: u32) -> Option<u32>
     ensures { found (joint library.now text.now) result ≡ paired (pairs_at (joint library.now text.now) tape.now pairs) (name_of (joint library.now text.now) a) }
 {
     let n = pair_count(tape, pairs);
-    let mut k: u32 = 0;
-    while k < n {
+    for k in 0..n {
         if same_word(library, text, old_word(tape, pairs, k), a) {
-            return Found::At(new_word(tape, pairs, k));
+            return Some(new_word(tape, pairs, k));
         }
-        k += 1;
     }
-    Found::Nothing
+    None
 }

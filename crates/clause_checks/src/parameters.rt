@@ -16,8 +16,7 @@ pub fn has_parameter(library: &[u8], text: &[u8], work: &[u32], f: Form, p: u32)
 {
     let parameters = f.parameters;
     let count = f.parameter_count;
-    let mut i = 0;
-    while i < count {
+    for i in 0..count {
         if same_word(
             library,
             text,
@@ -26,7 +25,6 @@ pub fn has_parameter(library: &[u8], text: &[u8], work: &[u32], f: Form, p: u32)
         ) {
             return true;
         }
-        i += 1;
     }
     false
 }
@@ -82,10 +80,8 @@ pub fn keep_parameters(
     let count = g.parameter_count;
     let place = y.parameters;
     let mut n: u32 = 0;
-    let mut k: u32 = 0;
-    while k < count {
+    for k in 0..count {
         n = keep_parameter(library, text, work, names, k, p, place, n);
-        k += 1;
     }
     n
 }

@@ -17,7 +17,7 @@ ghost use Rattle.clause_checks.specs.Renamed.{unfit};
 use super::pairs::{is_given, new_word, old_word, pair_count};
 use super::searches::is_visible;
 use clause_names::may_name;
-use form::{Culprit, Verdict};
+use form::{Culprit, Refusal};
 use form_rows::Row;
 use form_rows::entries::same_word;
 use form_rows::rows::read_row;
@@ -53,13 +53,11 @@ fn find_unfit(
     requires { t ≤ length work.now }
     ensures { result ≡ before (unfit (name_of (joint library.now text.now) old) (name_of (joint library.now text.now) new)) (items_at (joint library.now text.now) (part work.now 0 t) work.now b n) }
 {
-    let mut i = 0;
-    while i < n {
+    for i in 0..n {
         let row = read_row(work, b, i);
         if is_unfit(library, text, &work[0..t], old, new, row) {
             return i;
         }
-        i += 1;
     }
     n
 }
@@ -122,24 +120,21 @@ pub fn wrong_renaming(
     pairs: u32,
     visible: u32,
     count: u32,
-) -> Verdict
+) -> Result<(), Refusal>
     requires { t ≤ length work.now }
     ensures { told (joint library.now text.now) result ≡ unless bad_renaming (wrong_renaming (items_at (joint library.now text.now) (part work.now 0 t) work.now visible count) [] (pairs_at (joint library.now text.now) (part work.now 0 t) pairs)) }
 {
     let n = pair_count(&work[0..t], pairs);
-    let mut k: u32 = 0;
-    while k < n {
-        if renames(library, text, work, t, pairs, k, visible, count) {
-            k += 1;
-        } else {
-            return Verdict::Stop(
-                numbers::BAD_RENAMING,
-                Culprit {
+    for k in 0..n {
+        if !renames(library, text, work, t, pairs, k, visible, count) {
+            return Err(Refusal {
+                number: numbers::BAD_RENAMING,
+                culprit: Culprit {
                     name: old_word(&work[0..t], pairs, k),
                     actual: 0,
                 },
-            );
+            });
         }
     }
-    Verdict::Fine
+    Ok(())
 }

@@ -28,13 +28,11 @@ fn find_called(library: &[u8], text: &[u8], work: &[u32], t: usize, b: u32, n: u
     requires { t ≤ length work.now }
     ensures { result ≡ before (is_called (name_of (joint library.now text.now) a)) (items_at (joint library.now text.now) (part work.now 0 t) work.now b n) }
 {
-    let mut i = 0;
-    while i < n {
+    for i in 0..n {
         let row = read_row(work, b, i);
         if is_row_called(library, text, &work[0..t], a, row) {
             return i;
         }
-        i += 1;
     }
     n
 }
@@ -72,13 +70,11 @@ pub fn find_sort(library: &[u8], text: &[u8], work: &[u32], t: usize, b: u32, n:
     requires { t ≤ length work.now }
     ensures { result ≡ before (sort_called (name_of (joint library.now text.now) a)) (items_at (joint library.now text.now) (part work.now 0 t) work.now b n) }
 {
-    let mut i = 0;
-    while i < n {
+    for i in 0..n {
         let row = read_row(work, b, i);
         if is_sort_called(library, text, &work[0..t], a, row) {
             return i;
         }
-        i += 1;
     }
     n
 }
@@ -116,13 +112,11 @@ pub fn has_function(
     requires { t ≤ length work.now }
     ensures { result ≡ any (function_called (name_of (joint library.now text.now) a)) (items_at (joint library.now text.now) (part work.now 0 t) work.now b n) }
 {
-    let mut i = 0;
-    while i < n {
+    for i in 0..n {
         let row = read_row(work, b, i);
         if is_function_called(library, text, &work[0..t], a, row) {
             return true;
         }
-        i += 1;
     }
     false
 }
@@ -152,13 +146,11 @@ pub fn find_like(
     requires { t ≤ length work.now }
     ensures { result ≡ before (like (name_of (joint library.now text.now) a) (shape_of (joint library.now text.now) (part work.now 0 t) row.kind row.sorts)) (items_at (joint library.now text.now) (part work.now 0 t) work.now b n) }
 {
-    let mut i = 0;
-    while i < n {
+    for i in 0..n {
         let other = read_row(work, b, i);
         if is_like(library, text, &work[0..t], a, row, other) {
             return i;
         }
-        i += 1;
     }
     n
 }

@@ -1,4 +1,6 @@
 -- Laws of formal items by name, in the code's terms.
+use Rattle.std.specs.Prelude as std
+use Rattle.std.specs.Prelude.{Some, None}
 use mathlib.Core.Path.{◌≡◌, sym, ap₂, ◌∙◌}
 use Prim.Native.Nat.{ℕ, suc, ◌+◌, ◌-◌, ◌*◌, ◌≤◌, ◌<◌}
 use mathlib.Core.Bool.{Bool, true, false}
@@ -17,8 +19,6 @@ use Rattle.form.specs.Forms.{items_at}
 use Rattle.clause_translation.specs.declared.Mode.{Mode}
 use Rattle.clause_pairs.specs.Pairs.{pairs_at}
 use Rattle.clause_translation.specs.Translation.{formals_at, mode_formals}
-use Rattle.clause_checks.specs.declared.Found.{Found}
-use Rattle.clause_checks.specs.declared.Found.TheVariants.{At, Nothing}
 use Rattle.clause_checks.specs.Pairs.{found}
 use Rattle.form_walks.specs.Rows.{find_start, find_end, find_again, find_here}
 use Rattle.clause_fitting.specs.Unpaired.{is_none, is_unpaired, unpaired_from, unpaired_among, unpaired_told}
@@ -31,34 +31,34 @@ module _ (text tape : List ℕ) (p : ℕ) (x : Row) (b : Bool) (e : b ≡ in_par
     unfolding is_unpaired item_of pick
     unpaired_elsewhere h = rw (← e, h)
 
-    module _ (h : b ≡ true) (y : Found) (f : found text y ≡ paired (pairs_at text tape pairs) (name_of text x.name)) where
-      pub unpaired_not : (v : ℕ) → y ≡ At v → false ≡ is_unpaired (name_of text p) (pairs_at text tape pairs) (item_of text tape x)
+    module _ (h : b ≡ true) (y : std.Option ℕ) (f : found text y ≡ paired (pairs_at text tape pairs) (name_of text x.name)) where
+      pub unpaired_not : (v : ℕ) → y ≡ Some v → false ≡ is_unpaired (name_of text p) (pairs_at text tape pairs) (item_of text tape x)
       unfolding is_unpaired item_of is_none found pick
       unpaired_not v q = rw (← e, h, ← f, q)
 
-      pub unpaired_here : y ≡ Nothing → true ≡ is_unpaired (name_of text p) (pairs_at text tape pairs) (item_of text tape x)
+      pub unpaired_here : y ≡ None → true ≡ is_unpaired (name_of text p) (pairs_at text tape pairs) (item_of text tape x)
       unfolding is_unpaired item_of is_none found pick
       unpaired_here q = rw (← e, h, ← f, q)
 
 -- ---- the lesser of two
 
-module _ (text : List ℕ) (a : ℕ) (best : Found) where
-  pub lesser_alone : best ≡ Nothing → found text (At a) ≡ lesser (name_of text a) (found text best)
+module _ (text : List ℕ) (a : ℕ) (best : std.Option ℕ) where
+  pub lesser_alone : best ≡ None → found text (Some a) ≡ lesser (name_of text a) (found text best)
   unfolding found lesser
   lesser_alone h = rw h
 
-  module _ (b : ℕ) (h : best ≡ At b) (r : Bool) (e : r ≡ not_after (name_of text a) (name_of text b)) where
-    pub lesser_first : r ≡ true → found text (At a) ≡ lesser (name_of text a) (found text best)
+  module _ (b : ℕ) (h : best ≡ Some b) (r : Bool) (e : r ≡ not_after (name_of text a) (name_of text b)) where
+    pub lesser_first : r ≡ true → found text (Some a) ≡ lesser (name_of text a) (found text best)
     unfolding found lesser pick
     lesser_first q = rw (h, ← e, q)
 
-    pub lesser_second : r ≡ false → found text (At b) ≡ lesser (name_of text a) (found text best)
+    pub lesser_second : r ≡ false → found text (Some b) ≡ lesser (name_of text a) (found text best)
     unfolding found lesser pick
     lesser_second q = rw (h, ← e, q)
 
-module _ (text tape w : List ℕ) (m : Mode) (k : ℕ) (best : Found) (x : Row) (e : x ≡ row_at w (m.visible + k * row_size)) (b : Bool)
+module _ (text tape w : List ℕ) (m : Mode) (k : ℕ) (best : std.Option ℕ) (x : Row) (e : x ≡ row_at w (m.visible + k * row_size)) (b : Bool)
     (f : b ≡ is_unpaired (name_of text m.parameter) (pairs_at text tape m.pairs) (item_of text tape x)) where
-  abbrev Least : Found → Type 0
+  abbrev Least : std.Option ℕ → Type 0
   Least r =
       found text r
       ≡ unpaired_from (name_of text m.parameter) (pairs_at text tape m.pairs) (item_of text tape (row_at w (m.visible + k * row_size))) (found text best)
@@ -67,13 +67,13 @@ module _ (text tape w : List ℕ) (m : Mode) (k : ℕ) (best : Found) (x : Row) 
   unfolding unpaired_from pick
   least_stays h = rw (← e, ← f, h)
 
-  pub least_here : (r : Found) → b ≡ true → found text r ≡ lesser (name_of text x.name) (found text best) → Least r
+  pub least_here : (r : std.Option ℕ) → b ≡ true → found text r ≡ lesser (name_of text x.name) (found text best) → Least r
   unfolding unpaired_from item_of pick
   least_here r h g = rw (← e, ← f, h) g
 
 -- ---- the rows from k on have been asked
 
-pub record Lasting (text tape w : List ℕ) (m : Mode) (k : ℕ) (best : Found) : Type 0 where
+pub record Lasting (text tape w : List ℕ) (m : Mode) (k : ℕ) (best : std.Option ℕ) : Type 0 where
   pub inside : k ≤ m.count
   pub least : found text best
       ≡ unpaired_among (name_of text m.parameter) (pairs_at text tape m.pairs) (items_at text tape w (m.visible + k * row_size) (m.count - k))
@@ -85,11 +85,11 @@ module _ (text tape w : List ℕ) (m : Mode) where
   abbrev pairs : List Pair
   pairs = pairs_at text tape m.pairs
 
-  pub last_start : Lasting text tape w m m.count Nothing
+  pub last_start : Lasting text tape w m m.count None
   unfolding found unpaired_among items_at
   last_start = let z : m.count - m.count ≡ 0 = omega arith in record { inside = omega arith; least = rw z }
 
-  pub last_again : (k : ℕ) (best r : Found) → 0 < k → Lasting text tape w m k best
+  pub last_again : (k : ℕ) (best r : std.Option ℕ) → 0 < k → Lasting text tape w m k best
       → found text r ≡ unpaired_from parameter pairs (item_of text tape (row_at w (m.visible + (k - 1) * row_size))) (found text best)
       → Lasting text tape w m (k - 1) r
   unfolding unpaired_among items_at
@@ -99,7 +99,7 @@ module _ (text tape w : List ℕ) (m : Mode) where
       let p : m.visible + (k - 1) * row_size + row_size ≡ m.visible + k * row_size = omega arith in
       record { inside = omega arith; least = rw (s, p, ← inv.least) e }
 
-  pub last_end : (k : ℕ) (best : Found) → k ≤ 0 → Lasting text tape w m k best
+  pub last_end : (k : ℕ) (best : std.Option ℕ) → k ≤ 0 → Lasting text tape w m k best
       → found text best ≡ unpaired (mode_formals text tape w m) pairs
   unfolding formals_at
   last_end k best h inv =

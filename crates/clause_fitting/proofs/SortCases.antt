@@ -1,4 +1,6 @@
 -- Laws of the sorts of a formal type, in the code's terms.
+use Rattle.std.specs.Prelude as std
+use Rattle.std.specs.Prelude.{Some, None}
 use mathlib.Core.Path.{◌≡◌}
 use Prim.Native.Nat.{ℕ, ◌+◌, ◌-◌, ◌*◌, ◌/◌, ◌%◌, ◌≤◌, ◌<◌}
 use mathlib.Core.Bool.{Bool, true, false}
@@ -18,12 +20,10 @@ use Rattle.form.specs.Forms.{items_at, visible_at}
 use Rattle.clause_translation.specs.declared.Mode.{Mode}
 use Rattle.clause_pairs.specs.Pairs.{pairs_at}
 use Rattle.clause_translation.specs.Translation.{mode_formals}
-use Rattle.clause_checks.specs.declared.Found.{Found}
-use Rattle.clause_checks.specs.declared.Found.TheVariants.{At, Nothing}
 use Rattle.clause_checks.specs.Pairs.{found}
 use Rattle.clause_checks.specs.Searches.{sort_called}
 use Rattle.clause_checks.specs.SortOrigins.{origin_among, origin_there, origin_nowhere}
-use Rattle.clause_checks.specs.Walks.{all_pass, inputs_pass, fitting_start, fitting_again, fitting_not, fitting_all, fitting_end}
+use Rattle.clause_checks.specs.Walks.{all_pass, inputs_pass, fitting_start, fitting_again, fitting_not, fitting_end}
 use Rattle.clause_fitting.specs.Fits.{one_origin, mode_whole, sort_fits, sorts_fit}
 
 -- ---- origins
@@ -52,12 +52,12 @@ module _ (text tape w : List ℕ) (b n c m a i j : ℕ) (e : i ≡ before (sort_
 
 -- ---- a paired sort
 
-module _ (text tape : List ℕ) (pairs a : ℕ) (known : List Name) (x : Found) (e : found text x ≡ paired (pairs_at text tape pairs) (name_of text a)) where
-  pub paired_there : (v : ℕ) (r : Bool) → x ≡ At v → r ≡ member (name_of text v) known → r ≡ is_among known (paired (pairs_at text tape pairs) (name_of text a))
+module _ (text tape : List ℕ) (pairs a : ℕ) (known : List Name) (x : std.Option ℕ) (e : found text x ≡ paired (pairs_at text tape pairs) (name_of text a)) where
+  pub paired_there : (v : ℕ) (r : Bool) → x ≡ Some v → r ≡ member (name_of text v) known → r ≡ is_among known (paired (pairs_at text tape pairs) (name_of text a))
   unfolding is_among found
   paired_there v r h f = rw (← e, h) f
 
-  pub paired_not : x ≡ Nothing → false ≡ is_among known (paired (pairs_at text tape pairs) (name_of text a))
+  pub paired_not : x ≡ None → false ≡ is_among known (paired (pairs_at text tape pairs) (name_of text a))
   unfolding is_among found
   paired_not h = rw (← e, h)
 
@@ -108,4 +108,4 @@ pub ruleset origins = (origins_both, origins_first, origins_second, origins_none
 
 pub ruleset rights = (name_paired, name_same, sort_visible, sort_hidden, sorts_output, sorts_inputs, rules)
 
-pub ruleset fittings = (fitting_start, fitting_again, fitting_not, fitting_all, fitting_end, rules)
+pub ruleset fittings = (fitting_start, fitting_again, fitting_not, fitting_end, rules)

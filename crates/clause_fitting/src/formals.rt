@@ -13,7 +13,6 @@ ghost use Rattle.clause_translation.specs.Translation.{mode_formals};
 ghost use Rattle.clause_checks.specs.Pairs.{found};
 ghost use Rattle.clause_fitting.specs.Unpaired.{formal_called, is_unpaired, unpaired_from};
 
-use clause_checks::Found;
 use clause_checks::pairs::paired_word;
 use clause_translation::Mode;
 use clause_translation::formals::in_parameter;
@@ -42,13 +41,11 @@ pub fn find_formal(library: &[u8], text: &[u8], work: &[u32], t: usize, m: Mode,
     let b = m.visible;
     let n = m.count;
     let p = m.parameter;
-    let mut i = 0;
-    while i < n {
+    for i in 0..n {
         let row = read_row(work, b, i);
         if is_formal_called(library, text, &work[0..t], p, a, row) {
             return i;
         }
-        i += 1;
     }
     n
 }
@@ -64,8 +61,8 @@ fn is_unpaired(library: &[u8], text: &[u8], tape: &[u32], m: Mode, row: Row) -> 
         let name = row.name;
         let new = paired_word(library, text, tape, pairs, name);
         match new {
-            Found::At(_) => false,
-            Found::Nothing => true,
+            Some(_) => false,
+            None => true,
         }
     } else {
         false
@@ -73,18 +70,18 @@ fn is_unpaired(library: &[u8], text: &[u8], tape: &[u32], m: Mode, row: Row) -> 
 }
 
 // The lesser of a name and one that may be there.
-fn lesser_name(library: &[u8], text: &[u8], a: u32, best: Found) -> Found
+fn lesser_name(library: &[u8], text: &[u8], a: u32, best: Option<u32>) -> Option<u32>
     ensures { found (joint library.now text.now) result ≡ lesser (name_of (joint library.now text.now) a) (found (joint library.now text.now) best) }
 {
     match best {
-        Found::At(b) => {
+        Some(b) => {
             if not_after(library, text, a, b) {
-                Found::At(a)
+                Some(a)
             } else {
-                Found::At(b)
+                Some(b)
             }
         }
-        Found::Nothing => Found::At(a),
+        None => Some(a),
     }
 }
 
@@ -96,8 +93,8 @@ fn least_from(
     t: usize,
     m: Mode,
     k: u32,
-    best: Found,
-) -> Found
+    best: Option<u32>,
+) -> Option<u32>
     requires { t ≤ length work.now }
     ensures { found (joint library.now text.now) result ≡ unpaired_from (name_of (joint library.now text.now) m.parameter) (pairs_at (joint library.now text.now) (part work.now 0 t) m.pairs) (item_of (joint library.now text.now) (part work.now 0 t) (row_at work.now (m.visible + k * row_size))) (found (joint library.now text.now) best) }
 {
@@ -111,14 +108,12 @@ fn least_from(
 }
 
 // The least formal name without a pair, from the last row to the first.
-pub fn least_unpaired(library: &[u8], text: &[u8], work: &[u32], t: usize, m: Mode) -> Found
+pub fn least_unpaired(library: &[u8], text: &[u8], work: &[u32], t: usize, m: Mode) -> Option<u32>
     requires { t ≤ length work.now }
     ensures { found (joint library.now text.now) result ≡ unpaired (mode_formals (joint library.now text.now) (part work.now 0 t) work.now m) (pairs_at (joint library.now text.now) (part work.now 0 t) m.pairs) }
 {
-    let mut best = Found::Nothing;
-    let mut k = m.count;
-    while 0 < k {
-        k -= 1;
+    let mut best = None;
+    for k in (0..m.count).rev() {
         best = least_from(library, text, work, t, m, k, best);
     }
     best

@@ -155,13 +155,11 @@ fn find_misfit(
 {
     let b = m.visible;
     let n = m.count;
-    let mut i = 0;
-    while i < n {
+    for i in 0..n {
         let row = read_row(work, b, i);
         if is_misfit(library, text, work, t, m, actual, by_type, old, new, row) {
             return i;
         }
-        i += 1;
     }
     n
 }

@@ -12,13 +12,13 @@ ghost use Rattle.clause_pairs.specs.Pairs.{pairs_at};
 ghost use Rattle.clause_checks.specs.Walks.{inputs_pass};
 ghost use Rattle.clause_fitting.specs.Fits.{one_origin, sort_fits, sorts_fit};
 
-use clause_checks::Found;
 use clause_checks::pairs::paired_word;
 use clause_checks::searches::{find_sort, has_sort};
 use clause_checks::sorts::same_origin_at;
 use clause_translation::Mode;
 use clause_translation::formals::is_formal_sort;
 use form::Form;
+use form_rows::kinds;
 
 // Have the n rows at b and the m rows at c the sort called a from one place, or neither of them at all?
 fn same_sort_origin(
@@ -65,8 +65,8 @@ fn is_paired_sort(
 {
     let new = paired_word(library, text, &work[0..t], pairs, a);
     match new {
-        Found::At(w) => has_sort(library, text, work, t, b, n, w),
-        Found::Nothing => false,
+        Some(w) => has_sort(library, text, work, t, b, n, w),
+        None => false,
     }
 }
 
@@ -127,17 +127,10 @@ fn inputs_right(
     requires { t ≤ length work.now }
     ensures { result ≡ inputs_pass (joint library.now text.now) (part work.now 0 t) (sort_fits (joint library.now text.now) (part work.now 0 t) work.now m actual) (take (kind - 2) sorts) }
 {
-    let end = kind as usize;
-    let mut i = 0;
-    while i < 9 {
-        if i + 2 < end {
-            if sort_right(library, text, work, t, m, actual, sorts[i]) {
-                i += 1;
-            } else {
-                return false;
-            }
-        } else {
-            return true;
+    let inputs = kind.saturating_sub(kinds::FUNCTION).min(9) as usize;
+    for i in 0..inputs {
+        if !sort_right(library, text, work, t, m, actual, sorts[i]) {
+            return false;
         }
     }
     true

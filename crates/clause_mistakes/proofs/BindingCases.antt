@@ -1,4 +1,5 @@
 -- Laws of the check of a binding's pairs, in the code's terms.
+use Rattle.std.specs.Prelude.{Ok, Err}
 use mathlib.Core.Path.{◌≡◌, sym, ◌∙◌}
 use Prim.Native.Nat.{ℕ, ◌+◌, ◌*◌, ◌≤◌, ◌<◌}
 use mathlib.Core.Bool.{Bool, true, false}
@@ -19,10 +20,9 @@ use Rattle.text_names.specs.Word.{name_of}
 use Rattle.form_rows.specs.Entries.{word_at}
 use Rattle.form.specs.declared.Form.{Form}
 use Rattle.form.specs.declared.Culprit.{Culprit}
-use Rattle.form.specs.declared.Verdict.{Verdict}
-use Rattle.form.specs.declared.Verdict.TheVariants.{Fine, Stop}
+use Rattle.form.specs.declared.Refusal.{Refusal}
 use Rattle.form.specs.Forms.{items_at, visible_at}
-use Rattle.form.specs.Verdicts.{culprit_of, told}
+use Rattle.form.specs.Verdicts.{Verdict, refusal, culprit_of, told}
 use Rattle.clause_translation.specs.declared.Mode.{Mode}
 use Rattle.clause_pairs.specs.Pairs.{pairs_at}
 use Rattle.clause_translation.specs.Translation.{formals_at, mode_formals}
@@ -57,15 +57,15 @@ module _ (text tape w : List ℕ) (m : Mode) (actual : Form) where
     abbrev Fitting : Verdict → Type 0
     Fitting v = told text v ≡ items_fit text tape w m actual (name_of text x) (name_of text y)
 
-    pub kinds_wrong : (b : Bool) → b ≡ false → b ≡ all_fitting false → Fitting (Stop other_kind both)
+    pub kinds_wrong : (b : Bool) → b ≡ false → b ≡ all_fitting false → Fitting (Err (refusal other_kind both))
     unfolding told culprit_of items_fit refused_unless ◌>>◌ pick
     kinds_wrong b h e = rw (← e, h)
 
-    pub types_wrong : (b c : Bool) → b ≡ true → c ≡ false → b ≡ all_fitting false → c ≡ all_fitting true → Fitting (Stop other_type both)
+    pub types_wrong : (b c : Bool) → b ≡ true → c ≡ false → b ≡ all_fitting false → c ≡ all_fitting true → Fitting (Err (refusal other_type both))
     unfolding told culprit_of items_fit refused_unless ◌>>◌ pick
     types_wrong b c h q e f = rw (← e, h, ← f, q)
 
-    pub items_right : (b c : Bool) → b ≡ true → c ≡ true → b ≡ all_fitting false → c ≡ all_fitting true → Fitting Fine
+    pub items_right : (b c : Bool) → b ≡ true → c ≡ true → b ≡ all_fitting false → c ≡ all_fitting true → Fitting (Ok tt)
     unfolding told items_fit refused_unless ◌>>◌ pick
     items_right b c h q e f = rw (← e, h, ← f, q)
 
@@ -93,7 +93,7 @@ module _ (text tape w : List ℕ) (m : Mode) (actual : Form) where
     unfolding formals_at formal_called
     formal_among o = any_keep inside (is_called (name_of text x)) rows ∙ sym (found_below text tape w m.visible m.count i _ o)
 
-    pub formal_absent : m.count ≤ i → Old → New → Sought → Told k (Stop 22 (both x y))
+    pub formal_absent : m.count ≤ i → Old → New → Sought → Told k (Err (refusal 22 (both x y)))
     unfolding told culprit_of pair_right pair_at refused_unless ◌>>◌ pick
     formal_absent h e f o = rw (← e, ← f, formal_among o, le-ltb i m.count h)
 
@@ -101,7 +101,7 @@ module _ (text tape w : List ℕ) (m : Mode) (actual : Form) where
       abbrev Before : Type 0
       Before = b ≡ member (name_of text x) (given text tape m.pairs k)
 
-      pub formal_twice : i < m.count → b ≡ true → Old → New → Sought → Before → Told k (Stop 23 (both x y))
+      pub formal_twice : i < m.count → b ≡ true → Old → New → Sought → Before → Told k (Err (refusal 23 (both x y)))
       unfolding told culprit_of pair_right pair_at refused_unless ◌>>◌ pick
       formal_twice h q e f o g = rw (← e, ← f, formal_among o, lt-ltb i m.count h, ← g, q)
 
@@ -109,7 +109,7 @@ module _ (text tape w : List ℕ) (m : Mode) (actual : Form) where
         abbrev Visibly : Type 0
         Visibly = c ≡ member (name_of text y) (names_in there)
 
-        pub actual_absent : i < m.count → b ≡ false → c ≡ false → Old → New → Sought → Before → Visibly → Told k (Stop 24 (both x y))
+        pub actual_absent : i < m.count → b ≡ false → c ≡ false → Old → New → Sought → Before → Visibly → Told k (Err (refusal 24 (both x y)))
         unfolding told culprit_of pair_right pair_at refused_unless ◌>>◌ pick visible_at
         actual_absent h q u e f o g l = rw (← e, ← f, formal_among o, lt-ltb i m.count h, ← g, q, ← named_any (name_of text y) there, ← l, u)
 
@@ -132,17 +132,17 @@ module _ (text tape w : List ℕ) (m : Mode) (actual : Form) where
   check_start n h = walk_start asked text tape m.pairs n h
 
   module _ (n k : ℕ) where
-    pub pairs_fine : n ≤ k → Checking n k → Ended Fine
+    pub pairs_fine : n ≤ k → Checking n k → Ended (Ok tt)
     unfolding told pairs_right given each_beside
     pairs_fine h inv = sym (walk_end asked text tape m.pairs n k h inv)
 
-    pub check_again : (v : Verdict) → v ≡ Fine → k < n → Told k v → Checking n k → Checking n (k + 1)
+    pub check_again : (v : Verdict) → v ≡ Ok tt → k < n → Told k v → Checking n k → Checking n (k + 1)
     unfolding told pairs_right given pair_at ◌>>◌ each_beside
     check_again v q h e inv = walk_again asked text tape m.pairs n k h inv (rw (← e, q, add-one k))
 
-    pub pair_stops : (v : Verdict) (number : ℕ) (c : Culprit) → v ≡ Stop number c → k < n → Told k v → Checking n k → Ended (Stop number c)
+    pub pair_stops : (v : Verdict) (c : Refusal) → v ≡ Err c → k < n → Told k v → Checking n k → Ended (Err c)
     unfolding told pairs_right given ◌>>◌ each_beside
-    pair_stops v number c q h e inv = sym (walk_here asked text tape m.pairs n k h inv ∙ rw (← e, q))
+    pair_stops v c q h e inv = sym (walk_here asked text tape m.pairs n k h inv ∙ rw (← e, q))
 
 pub ruleset items = (kinds_wrong, types_wrong, items_right, rules)
 

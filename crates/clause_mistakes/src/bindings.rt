@@ -17,7 +17,7 @@ use clause_checks::searches::is_visible;
 use clause_fitting::formals::find_formal;
 use clause_fitting::items::all_right;
 use clause_translation::Mode;
-use form::{Culprit, Form, Verdict};
+use form::{Culprit, Form, Refusal};
 use meaning::numbers;
 
 // 25, 26: by the kinds, and then by the types.
@@ -30,7 +30,7 @@ fn items_right(
     actual: Form,
     old: u32,
     new: u32,
-) -> Verdict
+) -> Result<(), Refusal>
     requires t_in_bounds { t ≤ length work.now }
     requires kind_value { m.kind ≡ 2 }
     ensures { told (joint library.now text.now) result ≡ items_fit (joint library.now text.now) (part work.now 0 t) work.now m actual (name_of (joint library.now text.now) old) (name_of (joint library.now text.now) new) }
@@ -41,11 +41,17 @@ fn items_right(
     };
     if all_right(library, text, work, t, m, actual, false, old, new) {
         if all_right(library, text, work, t, m, actual, true, old, new) {
-            return Verdict::Fine;
+            return Ok(());
         }
-        return Verdict::Stop(numbers::OTHER_TYPE, both);
+        return Err(Refusal {
+            number: numbers::OTHER_TYPE,
+            culprit: both,
+        });
     }
-    Verdict::Stop(numbers::OTHER_KIND, both)
+    Err(Refusal {
+        number: numbers::OTHER_KIND,
+        culprit: both,
+    })
 }
 
 // Pair k: 22 where no formal item has its old name, 23 where a pair before gives it, 24 where nothing visible has its new name; then 25, 26.
@@ -57,7 +63,7 @@ fn pair_right(
     m: Mode,
     actual: Form,
     k: u32,
-) -> Verdict
+) -> Result<(), Refusal>
     requires t_in_bounds { t ≤ length work.now }
     requires kind_value { m.kind ≡ 2 }
     ensures { told (joint library.now text.now) result ≡ pair_right (mode_formals (joint library.now text.now) (part work.now 0 t) work.now m) (pairs_at (joint library.now text.now) (part work.now 0 t) m.pairs) (mode_whole (joint library.now text.now) (part work.now 0 t) work.now m) (visible_at (joint library.now text.now) (part work.now 0 t) work.now actual) (given (joint library.now text.now) (part work.now 0 t) m.pairs k) (pair_at (joint library.now text.now) (part work.now 0 t) m.pairs k) }
@@ -74,14 +80,23 @@ fn pair_right(
     };
     if find_formal(library, text, work, t, m, old) < n {
         if is_given(library, text, &work[0..t], pairs, k, old) {
-            return Verdict::Stop(numbers::FORMAL_TWICE, both);
+            return Err(Refusal {
+                number: numbers::FORMAL_TWICE,
+                culprit: both,
+            });
         }
         if is_visible(library, text, work, t, b, c, new) {
             return items_right(library, text, work, t, m, actual, old, new);
         }
-        return Verdict::Stop(numbers::ACTUAL_ABSENT, both);
+        return Err(Refusal {
+            number: numbers::ACTUAL_ABSENT,
+            culprit: both,
+        });
     }
-    Verdict::Stop(numbers::FORMAL_ABSENT, both)
+    Err(Refusal {
+        number: numbers::FORMAL_ABSENT,
+        culprit: both,
+    })
 }
 
 // The pairs in text order, up to the first that is wrong.
@@ -92,21 +107,15 @@ pub fn pairs_right(
     t: usize,
     m: Mode,
     actual: Form,
-) -> Verdict
+) -> Result<(), Refusal>
     requires t_in_bounds { t ≤ length work.now }
     requires kind_value { m.kind ≡ 2 }
     ensures { told (joint library.now text.now) result ≡ pairs_right (mode_formals (joint library.now text.now) (part work.now 0 t) work.now m) (pairs_at (joint library.now text.now) (part work.now 0 t) m.pairs) (mode_whole (joint library.now text.now) (part work.now 0 t) work.now m) (visible_at (joint library.now text.now) (part work.now 0 t) work.now actual) [] (pairs_at (joint library.now text.now) (part work.now 0 t) m.pairs) }
 {
     let pairs = m.pairs;
     let n = pair_count(&work[0..t], pairs);
-    let mut k: u32 = 0;
-    while k < n {
-        match pair_right(library, text, work, t, m, actual, k) {
-            Verdict::Stop(number, c) => return Verdict::Stop(number, c),
-            Verdict::Fine => {
-                k += 1;
-            }
-        }
+    for k in 0..n {
+        pair_right(library, text, work, t, m, actual, k)?;
     }
-    Verdict::Fine
+    Ok(())
 }

@@ -18,17 +18,13 @@ fn small_word(tape: &[u32], i: usize) -> u32
 pub fn renaming_word(library: &[u8], text: &[u8], tape: &[u32], pairs: u32, w: u32) -> u32
     ensures { Renamed (joint library.now text.now) tape.now pairs w result }
 {
-    let mut i = pairs as usize;
-    let mut left: u32 = 32;
-    while 0 < left {
-        if role_at(tape, i) == roles::OLD {
-            if same_word(library, text, name_at(tape, i), w) {
-                return small_word(tape, i + 1);
-            }
-            i += 2;
-            left -= 1;
-        } else {
+    for k in 0..32 {
+        let i = pairs as usize + 2 * k;
+        if role_at(tape, i) != roles::OLD {
             return w;
+        }
+        if same_word(library, text, name_at(tape, i), w) {
+            return small_word(tape, i + 1);
         }
     }
     w

@@ -46,12 +46,10 @@ pub fn is_formal_sort(library: &[u8], text: &[u8], work: &[u32], t: usize, m: Mo
     let visible = m.visible;
     let count = m.count;
     let p = m.parameter;
-    let mut i = 0;
-    while i < count {
+    for i in 0..count {
         if is_such_sort(library, text, work, visible, i, p, w) {
             return true;
         }
-        i += 1;
     }
     false
 }
@@ -96,12 +94,10 @@ pub fn is_formal_function(
     ensures { result ≡ is_formal_function (mode_formals (joint library.now text.now) (part work.now 0 t) work.now m) (name_of (joint library.now text.now) row.name) (shape_of (joint library.now text.now) (part work.now 0 t) row.kind row.sorts) }
 {
     let count = m.count;
-    let mut i = 0;
-    while i < count {
+    for i in 0..count {
         if is_such_function(library, text, work, t, m, i, row) {
             return true;
         }
-        i += 1;
     }
     false
 }

@@ -6,7 +6,7 @@ pub mod modes;
 pub mod rows;
 
 // How a row is translated, by one of the `modes`: pairs stand on the tape from `pairs` on, and the items to be bound, of the parameter, in a table
-// of `count` rows from `visible` on.
+// of `count` rows from `visible` on. A struct with the kind as a number: the definitions of clauses and unions read its fields.
 #[derive(Clone, Copy)]
 pub struct Mode {
     pub kind: u32,

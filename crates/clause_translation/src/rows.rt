@@ -74,13 +74,7 @@ pub fn moved_sort(library: &[u8], text: &[u8], work: &[u32], t: usize, m: Mode, 
 fn input_count(kind: u32) -> usize
     ensures { result ≡ min (kind - 2) 8 }
 {
-    if kind < kinds::FUNCTION {
-        return 0;
-    }
-    if 10 < kind {
-        return 8;
-    }
-    (kind - kinds::FUNCTION) as usize
+    kind.saturating_sub(kinds::FUNCTION).min(8) as usize
 }
 
 // The sorts of a row of the kind under their new names.
@@ -99,10 +93,8 @@ fn moved_sorts(
     let n = input_count(kind);
     let mut moved = sorts;
     moved[8] = moved_sort(library, text, work, t, m, moved[8]);
-    let mut i = 0;
-    while i < n {
+    for i in 0..n {
         moved[i] = moved_sort(library, text, work, t, m, moved[i]);
-        i += 1;
     }
     moved
 }

@@ -1,12 +1,12 @@
 -- One law for each way through the code; those of the lines are in diagram_lent/specs/Lent.antt.
 use mathlib.Core.Path.{◌≡◌, refl, ap₂, ◌∙◌}
-use mathlib.Core.Bool.{Bool}
 use mathlib.Core.List.{List, [], ◌++◌}
 use Prim.Native.Nat.{ℕ, ◌-◌, ◌<◌, ◌≤◌}
 use native.Mathlib.Omega.{arith}
 use borrow.Author.Rules.{rules}
 use borrow.Author.Tests.{lt-ltb, le-ltb}
 use lib.ListN.{length, drop}
+use Rattle.std.specs.Prelude.{Ok, Err}
 use Rattle.meaning.specs.Lists.{pick, each}
 use Rattle.meaning.specs.Numbers.{memory_size, lent_short}
 use Rattle.meaning.specs.Checks.{lone}
@@ -14,9 +14,9 @@ use Rattle.meaning.specs.Listing.{lines_text}
 use Rattle.meaning.specs.Texts.{Texts, two_texts, read_texts}
 use Rattle.meaning.specs.Answer.{refusal, unread, output_after, memory_after}
 use Rattle.form_layout.specs.Layout.{tape_end}
-use Rattle.read_both.specs.declared.Both.{Both}
-use Rattle.read_both.specs.declared.Both.TheVariants.{Done, Refused}
+use Rattle.read_both.specs.declared.NotRead.{NotRead}
 use Rattle.read_both.specs.Both as TwoTexts
+use Rattle.read_both.specs.Both.{Both}
 use Rattle.memory.proofs.Cases.{same_zeros}
 use Rattle.answer.specs.declared.Answer.{Answer}
 use Rattle.answer.specs.Answers.{told, returned, told_call}
@@ -45,7 +45,7 @@ pub ruleset calling = (call_short, call_whole, rules)
 -- ---- reading
 
 module _ (w : List ℕ) (end : ℕ) (there : memory_size ≤ length w) (last : end ≡ tape_end) (library text : List ℕ) (q : Both) (read : List ℕ) (e : TwoTexts.Told library text read q) where
-  pub read_ready : (t : ℕ) → q ≡ Done t → Ready library text t (read ++ drop (end - 0) (drop 0 w))
+  pub read_ready : (t : ℕ) → q ≡ Ok t → Ready library text t (read ++ drop (end - 0) (drop 0 w))
   unfolding tape_end
   read_ready t d = record {
     size = first_size w end there last library text q read e t d;
@@ -54,10 +54,10 @@ module _ (w : List ℕ) (end : ℕ) (there : memory_size ≤ length w) (last : e
   }
 
 module _ (library text : List ℕ) (q : Both) (read : List ℕ) (e : TwoTexts.Told library text read q) where
-  pub read_refused : (asked o : List ℕ) (r : Answer) (in_library : Bool) (number place : ℕ) → q ≡ Refused in_library number place
-      → r ≡ told (unread in_library number place) → Drawn asked (read_texts (two_texts library text)) o r o
-  read_refused asked o r in_library number place d z =
-      unread_drawn asked library text o r in_library number place (refused_so library text q read e in_library number place d) z
+  pub read_refused : (asked o : List ℕ) (r : Answer) (m : NotRead) → q ≡ Err m
+      → r ≡ told (unread m.in_library m.number m.place) → Drawn asked (read_texts (two_texts library text)) o r o
+  read_refused asked o r m d z =
+      unread_drawn asked library text o r m.in_library m.number m.place (refused_so library text q read e m d) z
 
 pub ruleset reading = (first_end, first_room, read_ready, read_refused, rules)
 

@@ -17,7 +17,7 @@ use form_layout::tape_end;
 use memory::memory_size;
 use module_heads::find_heads;
 use modules::{HEADS, Heads, find_asked, module_count};
-use read_both::{Both, read_both};
+use read_both::read_both;
 
 // The diagram of module k: counted first, then written if it has at most 1,024 lines and all of them have room.
 fn diagram_of(
@@ -85,12 +85,8 @@ fn diagram_texts(
 {
     let end = tape_end() as usize;
     match read_both(library, text, &mut work[0..end]) {
-        Both::Refused {
-            in_library,
-            number,
-            place,
-        } => unread(in_library, number, place),
-        Both::Done(t) => diagram_read(asked, library, text, work, t, out),
+        Err(e) => unread(e.in_library, e.number, e.place),
+        Ok(t) => diagram_read(asked, library, text, work, t, out),
     }
 }
 

@@ -40,16 +40,12 @@ fn draw_parameters(
 {
     let mut to = at;
     let mut n = lines;
-    let mut j = a;
-    while j < end {
+    for j in a..end {
         if is_parameter(role_at(tape, j as usize)) {
             let w = name_at(tape, j as usize);
             let s = draw_named(out, to, n, limit, library, text, b"parameter", depth, w);
             to = s.at;
             n = s.lines;
-            j += 1;
-        } else {
-            j += 1;
         }
     }
     Sheet { at: to, lines: n }
@@ -76,8 +72,7 @@ fn draw_binds(
     let mut to = at;
     let mut n = lines;
     let mut p = q;
-    let mut j = a;
-    while j < end {
+    for j in a..end {
         let role = role_at(tape, j as usize);
         if role < roles::RENAMING {
             return Sheet { at: to, lines: n };
@@ -87,17 +82,11 @@ fn draw_binds(
         }
         if role == roles::BINDING {
             p = name_at(tape, j as usize);
-            j += 1;
-        } else {
-            if role == roles::ACTUAL {
-                let m = name_at(tape, j as usize);
-                let s = draw_bind(out, to, n, limit, library, text, depth, p, m);
-                to = s.at;
-                n = s.lines;
-                j += 1;
-            } else {
-                j += 1;
-            }
+        } else if role == roles::ACTUAL {
+            let m = name_at(tape, j as usize);
+            let s = draw_bind(out, to, n, limit, library, text, depth, p, m);
+            to = s.at;
+            n = s.lines;
         }
     }
     Sheet { at: to, lines: n }

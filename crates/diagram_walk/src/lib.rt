@@ -230,6 +230,7 @@ fn go_on(
     let mut to = at;
     let mut n = lines;
     let mut boxes: u32 = 1;
+    // a while: a turn opens a box or closes one
     while 0 < boxes {
         if LINES <= n {
             return Sheet { at: to, lines: n };

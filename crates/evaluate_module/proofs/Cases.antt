@@ -1,4 +1,5 @@
 -- One law for each way through the code.
+use Rattle.std.specs.Prelude.{Ok, Err}
 use mathlib.Core.Path.{◌≡◌, sym, ap, ◌∙◌, subst}
 use mathlib.Core.Bool.{Bool, true, false}
 use mathlib.Core.List.{List}
@@ -17,13 +18,9 @@ use Rattle.tape.specs.Tape.{import_role}
 use Rattle.form_rows.specs.Entries.{role_at, next_with}
 use Rattle.form.specs.declared.Form.{Form}
 use Rattle.form.specs.declared.Block.{Block}
-use Rattle.form.specs.declared.Culprit.{Culprit}
-use Rattle.form.specs.declared.Made.{Made}
-use Rattle.form.specs.declared.Made.TheVariants.{Done}
-use Rattle.form.specs.declared.Verdict.{Verdict}
-use Rattle.form.specs.declared.Verdict.TheVariants.{Fine, Stop}
+use Rattle.form.specs.declared.Refusal.{Refusal}
 use Rattle.form.specs.Memory.{part}
-use Rattle.form.specs.Verdicts.{culprit_of, told}
+use Rattle.form.specs.Verdicts.{Verdict, Made, culprit_of, told}
 use Rattle.form.specs.Forms.{Stands}
 use Rattle.form.specs.Blocks.{MadeThere}
 use Rattle.form_layout.specs.Layout.{joining_block, tape_end}
@@ -41,21 +38,21 @@ use Rattle.evaluate_module.specs.LastSteps.{complete_room, joined_refused, joine
 
 -- ---- one check after the other
 
-told_stop : (text : List ℕ) (a b : Check) (v : Verdict) (k : ℕ) (x : Culprit) → told text v ≡ a → v ≡ Stop k x → told text (Stop k x) ≡ (a >> b)
+told_stop : (text : List ℕ) (a b : Check) (v : Verdict) (x : Refusal) → told text v ≡ a → v ≡ Err x → told text (Err x) ≡ (a >> b)
 unfolding told
-told_stop text a b v k x e h = sym (stops a b k (culprit_of text x) (sym e ∙ ap (told text) h))
+told_stop text a b v x e h = sym (stops a b x.number (culprit_of text x.culprit) (sym e ∙ ap (told text) h))
 
-told_fine : (text : List ℕ) (a b : Check) (v r : Verdict) → told text v ≡ a → v ≡ Fine → told text r ≡ b → told text r ≡ (a >> b)
+told_fine : (text : List ℕ) (a b : Check) (v r : Verdict) → told text v ≡ a → v ≡ Ok tt → told text r ≡ b → told text r ≡ (a >> b)
 unfolding told
 told_fine text a b v r e h q = q ∙ sym (goes_on a b (sym e ∙ ap (told text) h))
 
 module _ (text tape : List ℕ) (h : Heads) (k from end : ℕ) where
-  pub names_stop : (v : Verdict) (j : ℕ) (x : Culprit) → told text v ≡ names_right (declared text tape h) (take k (declared text tape h)) (named_in text tape h k)
-      → v ≡ Stop j x → told text (Stop j x) ≡ first_checks text tape h k from end
+  pub names_stop : (v : Verdict) (x : Refusal) → told text v ≡ names_right (declared text tape h) (take k (declared text tape h)) (named_in text tape h k)
+      → v ≡ Err x → told text (Err x) ≡ first_checks text tape h k from end
   unfolding first_checks
-  names_stop v j x e q = told_stop text _ _ v j x e q
+  names_stop v x e q = told_stop text _ _ v x e q
 
-  pub names_fine : (v r : Verdict) → told text v ≡ names_right (declared text tape h) (take k (declared text tape h)) (named_in text tape h k) → v ≡ Fine
+  pub names_fine : (v r : Verdict) → told text v ≡ names_right (declared text tape h) (take k (declared text tape h)) (named_in text tape h k) → v ≡ Ok tt
       → told text r ≡ walked (once_at text tape from) from (end - from) → told text r ≡ first_checks text tape h k from end
   unfolding first_checks
   names_fine v r e q z = told_fine text _ _ v r e q z
@@ -88,7 +85,7 @@ pub place_fits : (w : List ℕ) (t : ℕ) (h : Heads) (from end i : ℕ) → Imp
 place_fits w t h from end i c e = omega (arith, place_small w t h from end i c e)
 
 pub imports_room : (w : List ℕ) (t : ℕ) (h : Heads) (from end i j : ℕ) (b : Block) (f : Form) → ImportedRoom w t h from end
-    → i ≡ next_with import_role (part w 0 t) from (end - from) → j ≡ i → b ≡ joining_block → f ≡ empty_in b → ImportsRoom w t h j (Done f)
+    → i ≡ next_with import_role (part w 0 t) from (end - from) → j ≡ i → b ≡ joining_block → f ≡ empty_in b → ImportsRoom w t h j (Ok f)
 imports_room w t h from end i j b f c e q z g = record {
   ground = c.ground;
   there = nothing_there joining_block f (g ∙ ap empty_in z);
@@ -96,7 +93,7 @@ imports_room w t h from end i j b f c e q z g = record {
 }
 
 pub all_made : (text : List ℕ) (t : ℕ) (w w' : List ℕ) (h : Heads) (from end i j : ℕ) (b : Block) (f : Form) (r : Made)
-    → i ≡ next_with import_role (part w 0 t) from (end - from) → j ≡ i → b ≡ joining_block → f ≡ empty_in b → ImportsMade text t w h 32768 j (Done f) r w'
+    → i ≡ next_with import_role (part w 0 t) from (end - from) → j ≡ i → b ≡ joining_block → f ≡ empty_in b → ImportsMade text t w h 32768 j (Ok f) r w'
     → Imported text t w h from end r w'
 all_made text t w w' h from end i j b f r e q z g x = record {
   kept = x.kept;

@@ -1,5 +1,5 @@
 -- Steps 1 to 3, and the union of step 4: what a module imports, if its names are right and each thing is declared once.
-use Rattle.std.specs.Prelude.{◌≡◌, ℕ, ◌+◌, ◌-◌, ◌≤◌, List, [], ◌∷◌, ◌++◌, get_or, drop}
+use Rattle.std.specs.Prelude.{◌≡◌, ℕ, ◌+◌, ◌-◌, ◌≤◌, List, [], ◌∷◌, ◌++◌, get_or, drop, Ok, Err}
 use Rattle.std.proofs.Common.{sym, ◌∙◌, arith, le_trans, length-append, length-take}
 use Rattle.std.proofs.Math.Path.{ap}
 use Rattle.std.proofs.Math.ListN.{length}
@@ -12,15 +12,11 @@ use Rattle.meaning.specs.Checks.{Check, Outcome, ◌>>◌}
 use Rattle.meaning.specs.Evaluate.{Evaluated, named_by, names_right, declared_once, imported}
 use Rattle.meaning.specs.Reached.{module_names}
 use Rattle.tape.specs.Tape.{flat_clause, flat_import, flat_module}
-use Rattle.form.specs.declared.Culprit.{Culprit}
-use Rattle.form.specs.declared.Made.{Made}
-use Rattle.form.specs.declared.Made.TheVariants.{Refused}
-use Rattle.form.specs.declared.Verdict.{Verdict}
-use Rattle.form.specs.declared.Verdict.TheVariants.{Fine, Stop}
+use Rattle.form.specs.declared.Refusal.{Refusal}
 use Rattle.form.specs.Memory.{part, Kept}
 use Rattle.form.specs.FormLaws.{kept_all}
 use Rattle.form.specs.Blocks.{Makes, MadeIn}
-use Rattle.form.specs.Verdicts.{culprit_of, told}
+use Rattle.form.specs.Verdicts.{Verdict, Made, culprit_of, told}
 use Rattle.form_layout.specs.Layout.{joining_block, second_block}
 use Rattle.modules.specs.Modules.{declared, Heads}
 use Rattle.modules.specs.Meant.{Earlier, names_told}
@@ -116,17 +112,17 @@ module _ (text : List ℕ) (t : ℕ) (w : List ℕ) (h : Heads) (k from end : �
     steps_told ms m ys earlier said e f =
         sym (first_told text (part w 0 t) t h ms said (short_part w t) k m ys e earlier f) ∙ rw (← begins, ← ends) (sym checked)
 
-    pub started_refused : (j : ℕ) (y : Culprit) → v ≡ Stop j y → Started text t w h k (Refused j y) w
+    pub started_refused : (y : Refusal) → v ≡ Err y → Started text t w h k (Err y) w
     unfolding told begun
-    started_refused j y q = record {
+    started_refused y q = record {
       kept = kept_all joining_block.low second_block.high w;
       made_in = tt;
       made = λ ms env m ys earlier said stands e f.
-          refused_makes text (part w 0 t) w j y (begun (module_names ms) earlier env m)
-          (stops _ (imported env m.imports) j (culprit_of text y) (steps_told ms m ys earlier said e f ∙ ap (told text) q));
+          refused_makes text (part w 0 t) w y (begun (module_names ms) earlier env m)
+          (stops _ (imported env m.imports) y.number (culprit_of text y.culprit) (steps_told ms m ys earlier said e f ∙ ap (told text) q));
     }
 
-    pub started_on : (r : Made) (w' : List ℕ) → v ≡ Fine → StartedRoom w t h k → Imported text t w h from end r w' → Started text t w h k r w'
+    pub started_on : (r : Made) (w' : List ℕ) → v ≡ Ok tt → StartedRoom w t h k → Imported text t w h from end r w' → Started text t w h k r w'
     unfolding told begun
     started_on r w' q c x = record {
       kept = x.kept;

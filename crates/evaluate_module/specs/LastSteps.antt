@@ -1,6 +1,6 @@
 -- Step 4: a module's own declarations joined to what it imports, which in order is its normal form. No two hidden items of it are one, and order
 -- changes no size.
-use Rattle.std.specs.Prelude.{◌≡◌, refl, ℕ, ◌+◌, ◌-◌, ◌≤◌, List, get_or}
+use Rattle.std.specs.Prelude.{◌≡◌, refl, ℕ, ◌+◌, ◌-◌, ◌≤◌, List, get_or, Ok, Err}
 use Rattle.std.proofs.Common.{sym, ap, ◌∙◌, subst₂, arith}
 use Rattle.std.proofs.Math.Path.{subst}
 use Rattle.meaning.specs.Lists.{sorted}
@@ -17,14 +17,12 @@ use Rattle.laws.specs.OwnItems.{declared_name}
 use Rattle.invariants.specs.HiddenItems.{HiddenItem, HiddenSound}
 use Rattle.laws.specs.Outcomes.{Gives, gives_bound, gives_after, gives_then, gives_of}
 use Rattle.invariants.specs.HiddenEvaluated.{SoundEnvironment, imported_sound, joined_sound}
-use Rattle.form.specs.declared.Culprit.{Culprit}
+use Rattle.form.specs.declared.Refusal.{Refusal}
 use Rattle.form.specs.declared.Form.{Form}
-use Rattle.form.specs.declared.Made.{Made}
-use Rattle.form.specs.declared.Made.TheVariants.{Done, Refused}
 use Rattle.form.specs.Memory.{part, Kept}
 use Rattle.form.specs.FormLaws.{kept_all}
 use Rattle.form.specs.Blocks.{Makes, MadeIn}
-use Rattle.form.specs.Verdicts.{culprit_of}
+use Rattle.form.specs.Verdicts.{Made, culprit_of}
 use Rattle.form_layout.specs.Layout.{joining_block, second_block, tape_end, Laid}
 use Rattle.form_order.specs.Sorting.{every_weaker}
 use Rattle.list_keeping.specs.Nodes.{Distinct}
@@ -34,10 +32,8 @@ use Rattle.modules.specs.Modules.{Heads}
 use Rattle.unite_checks.specs.Made.{makes_as, refused_outcome, refused_makes, done_outcome, then_stops, then_goes_on, stops, goes_on}
 use Rattle.own_completing.specs.declared.Totals.{Totals}
 use Rattle.own_completing.specs.Room.{in_room, TotalsRight, StillRight, TotalsMeant}
-use Rattle.own_completing.specs.declared.complete.Joined.{Joined}
-use Rattle.own_completing.specs.declared.complete.Joined.TheVariants as Rows
 use Rattle.own_completing.specs.Said.{form_or}
-use Rattle.own_completing.specs.Completed.{all_of, equations_joined, items_checked, joined_all, joined_own_ordered, Counted, own_of, CompleteRoom, MakesIn, ItemsStand, RowsMeant, RowsCounted, ItemsJoined, EquationsJoined}
+use Rattle.own_completing.specs.Completed.{Joined, all_of, equations_joined, items_checked, joined_all, joined_own_ordered, Counted, own_of, CompleteRoom, MakesIn, ItemsStand, RowsMeant, RowsCounted, ItemsJoined, EquationsJoined}
 use Rattle.own_declarations.specs.declared.Own.{Own}
 use Rattle.own_items.specs.declared.OwnRows.{OwnRows}
 use Rattle.own_equations.specs.Seen.{AllSeen}
@@ -59,9 +55,9 @@ own_at h k f = own_of (get_or h.places k 0) (get_or h.places (k + 1) 0) f
 
 -- rows are joined only to a form
 abbrev pub RowsWithin : Heads → ℕ → Made → Joined → Type 0
-RowsWithin h k so_far (Rows.Refused j y) = Unit {0}
-RowsWithin h k (Done f) (Rows.Done counts) = Counted (own_at h k f) f counts
-RowsWithin h k (Refused j y) (Rows.Done counts) = ⊥
+RowsWithin h k so_far (Err y) = Unit {0}
+RowsWithin h k (Ok f) (Ok counts) = Counted (own_at h k f) f counts
+RowsWithin h k (Err y) (Ok counts) = ⊥
 
 pub record FinishedRoom (size t : ℕ) (h : Heads) (k : ℕ) (so_far : Made) (rows : Joined) (totals : Totals) : Type 0 where
   pub joined : JoinedRoom size t h k so_far
@@ -73,11 +69,11 @@ pub record RowsStand (text : List ℕ) (t : ℕ) (w : List ℕ) (h : Heads) (k :
     : Type 0 where
   pub normal : Normal
   pub outcome : o ≡ fine normal
-  pub stand : (f : Form) → so_far ≡ Done f → ItemsStand text t w (own_at h k f) f counts m normal
+  pub stand : (f : Form) → so_far ≡ Ok f → ItemsStand text t w (own_at h k f) f counts m normal
 
 abbrev pub RowsSo : List ℕ → ℕ → List ℕ → Heads → ℕ → Made → Module → Outcome Normal → Joined → Type 0
-RowsSo text t w h k so_far m o (Rows.Done counts) = RowsStand text t w h k so_far m o counts
-RowsSo text t w h k so_far m o (Rows.Refused j y) = (o >>= (λ n. items_checked m n)) ≡ stop j (culprit_of text y)
+RowsSo text t w h k so_far m o (Ok counts) = RowsStand text t w h k so_far m o counts
+RowsSo text t w h k so_far m o (Err y) = (o >>= (λ n. items_checked m n)) ≡ stop y.number (culprit_of text y.culprit)
 
 -- for whatever module the tape spells there, and whatever came before
 pub record OwnJoined (text : List ℕ) (t : ℕ) (w : List ℕ) (h : Heads) (k : ℕ) (so_far : Made) (r : Joined) (w' : List ℕ) : Type 0 where
@@ -101,16 +97,16 @@ pub record Finished (text : List ℕ) (t : ℕ) (w : List ℕ) (h : Heads) (k : 
 -- ---- its own items
 
 module _ (text : List ℕ) (t : ℕ) (w : List ℕ) (h : Heads) (k : ℕ) (so_far : Made) where
-  pub joined_refused : (j : ℕ) (y : Culprit) → so_far ≡ Refused j y → OwnJoined text t w h k so_far (Rows.Refused j y) w
-  joined_refused j y e = record {
+  pub joined_refused : (y : Refusal) → so_far ≡ Err y → OwnJoined text t w h k so_far (Err y) w
+  joined_refused y e = record {
     kept = kept_all joining_block.low second_block.high w;
     rows_within = tt;
     so = λ m o a s x.
         let z = subst (λ (u : Made). Makes text (part w 0 t) w u o) e x in
-        then_stops o (λ (n : Normal). items_checked m n) j (culprit_of text y) (refused_outcome text (part w 0 t) w j y o z);
+        then_stops o (λ (n : Normal). items_checked m n) y.number (culprit_of text y.culprit) (refused_outcome text (part w 0 t) w y o z);
   }
 
-  module _ (f : Form) (e : so_far ≡ Done f) (from end : ℕ) (begins : from ≡ get_or h.places k 0) (ends : end ≡ get_or h.places (k + 1) 0) where
+  module _ (f : Form) (e : so_far ≡ Ok f) (from end : ℕ) (begins : from ≡ get_or h.places k 0) (ends : end ≡ get_or h.places (k + 1) 0) where
     pub complete_room : (size : ℕ) → JoinedRoom size t h k so_far → CompleteRoom size t from end f
     unfolding tape_end
     complete_room size c = record {
@@ -125,14 +121,14 @@ module _ (text : List ℕ) (t : ℕ) (w : List ℕ) (h : Heads) (k : ℕ) (so_fa
     same_entries = rw (begins, ends)
 
     joined_within : (r : Joined) → RowsCounted (own_of from end f) f r → RowsWithin h k so_far r
-    joined_within (Rows.Refused j y) c = tt
-    joined_within (Rows.Done counts) c =
-        subst (λ (u : Made). RowsWithin h k u (Rows.Done counts)) (sym e) (subst (λ (u : Own). Counted u f counts) same_entries c)
+    joined_within (Err y) c = tt
+    joined_within (Ok counts) c =
+        subst (λ (u : Made). RowsWithin h k u (Ok counts)) (sym e) (subst (λ (u : Own). Counted u f counts) same_entries c)
 
     joined_so : (w' : List ℕ) (m : Module) (o : Outcome Normal) (n : Normal) → o ≡ fine n → (r : Joined)
         → RowsMeant text t w' (own_of from end f) f m n r → RowsSo text t w' h k so_far m o r
-    joined_so w' m o n q (Rows.Refused j y) z = then_goes_on o (λ (a : Normal). items_checked m a) n q ∙ z
-    joined_so w' m o n q (Rows.Done counts) z = record {
+    joined_so w' m o n q (Err y) z = then_goes_on o (λ (a : Normal). items_checked m a) n q ∙ z
+    joined_so w' m o n q (Ok counts) z = record {
       normal = n;
       outcome = q;
       stand = λ g d.
@@ -164,23 +160,23 @@ checks_stop (stop i x) home total m j c e = stops {A = Normal} (stop i x) (stop 
 checks_stop (fine n) home total m j c e = stops (items_checked m n) (equations_joined home total m n) j c e
 
 module _ (text : List ℕ) (t : ℕ) (w : List ℕ) (h : Heads) (k : ℕ) (so_far : Made) (rows : Joined) (totals : Totals) where
-  pub finished_refused : (j : ℕ) (y : Culprit) → rows ≡ Rows.Refused j y → Finished text t w h k so_far rows totals (Refused j y) w
-  finished_refused j y e = record {
+  pub finished_refused : (y : Refusal) → rows ≡ Err y → Finished text t w h k so_far rows totals (Err y) w
+  finished_refused y e = record {
     made_in = tt;
     right = tt;
     made = λ m o total q s. record {
-      makes = refused_makes text (part w 0 t) w j y (all_joined o k total m)
-          (checks_stop o k total m j (culprit_of text y) (subst (RowsSo text t w h k so_far m o) e s));
+      makes = refused_makes text (part w 0 t) w y (all_joined o k total m)
+          (checks_stop o k total m y.number (culprit_of text y.culprit) (subst (RowsSo text t w h k so_far m o) e s));
       kept = tt;
     };
   }
 
-  module _ (counts : OwnRows) (e : rows ≡ Rows.Done counts) where
-    pub finished_never : (size j : ℕ) (y : Culprit) (r : Made) → so_far ≡ Refused j y → FinishedRoom size t h k so_far rows totals
+  module _ (counts : OwnRows) (e : rows ≡ Ok counts) where
+    pub finished_never : (size : ℕ) (y : Refusal) (r : Made) → so_far ≡ Err y → FinishedRoom size t h k so_far rows totals
         → Finished text t w h k so_far rows totals r w
-    finished_never size j y r d c = absurd (subst₂ (RowsWithin h k) d e c.rows_within)
+    finished_never size y r d c = absurd (subst₂ (RowsWithin h k) d e c.rows_within)
 
-    module _ (f : Form) (d : so_far ≡ Done f) (from end : ℕ) (begins : from ≡ get_or h.places k 0) (ends : end ≡ get_or h.places (k + 1) 0) where
+    module _ (f : Form) (d : so_far ≡ Ok f) (from end : ℕ) (begins : from ≡ get_or h.places k 0) (ends : end ≡ get_or h.places (k + 1) 0) where
       same_own : own_of from end f ≡ own_at h k f
       same_own = same_entries text t w h k so_far f d from end begins ends
 

@@ -1,5 +1,5 @@
 -- The steps together, each with what the one before it has left: after a module whose normal form is kept, the next may follow.
-use Rattle.std.specs.Prelude.{◌≡◌, ℕ, ◌+◌, ◌*◌, ◌≤◌, ◌<◌, length, get_or, drop}
+use Rattle.std.specs.Prelude.{◌≡◌, ℕ, ◌+◌, ◌*◌, ◌≤◌, ◌<◌, length, get_or, drop, Ok, Err}
 use Rattle.std.proofs.Common.{sym, ap, ◌∙◌, arith}
 use Rattle.std.proofs.Math.Path.{subst}
 use mathlib.Core.List.{List, ◌∷◌}
@@ -12,14 +12,12 @@ use Rattle.meaning.specs.Evaluate.{Evaluated, evaluate}
 use Rattle.meaning.specs.Reached.{total_of, module_names}
 use Rattle.meaning.specs.Numbers.{parameter_room}
 use Rattle.form_rows.specs.Rows.{row_size}
-use Rattle.form.specs.declared.Culprit.{Culprit}
+use Rattle.form.specs.declared.Refusal.{Refusal}
 use Rattle.form.specs.declared.Form.{Form}
-use Rattle.form.specs.declared.Made.{Made}
-use Rattle.form.specs.declared.Made.TheVariants.{Done, Refused as NotMade}
 use Rattle.form.specs.Memory.{part, Kept as KeptOutside}
 use Rattle.form.specs.Forms.{Stands, equation_size, slot_size}
 use Rattle.form.specs.Blocks.{Makes, MadeIn, MadeThere}
-use Rattle.form.specs.Verdicts.{culprit_of}
+use Rattle.form.specs.Verdicts.{Made, culprit_of}
 use Rattle.form_layout.specs.Layout.{joining_block, second_block, kept_start, table_start, Laid}
 use Rattle.modules.specs.Modules.{declared, Heads}
 use Rattle.modules.specs.ModuleLaws.{declared_names}
@@ -34,13 +32,11 @@ use Rattle.form_keeping.specs.Environment.{number_of, EnvStands, env_stays, Tabl
 use Rattle.form_keeping.specs.Growing.{below_right}
 use Rattle.imports.specs.Clausal.{Ground, number_within, kept_table}
 use Rattle.own_completing.specs.declared.Totals.{Totals}
-use Rattle.own_completing.specs.declared.complete.Joined.{Joined}
 use Rattle.own_completing.specs.Room.{StillRight, TotalsMeant, size_meant}
-use Rattle.own_completing.specs.Completed.{KeptDone, MakesIn}
+use Rattle.own_completing.specs.Completed.{Joined, KeptDone, MakesIn}
 use Rattle.evaluate_storing.specs.Places.{StoreRoom, form_space}
 use Rattle.evaluate_storing.specs.Storing.{stored_table, stored_env}
 use Rattle.evaluate_states.specs.declared.State.{State}
-use Rattle.evaluate_module.specs.declared.evaluate.Stepped.TheVariants.{Kept, Refused}
 use Rattle.evaluate_states.specs.States.{with_form, KeptRoom, KeptState}
 use Rattle.evaluate_module.specs.Places.{ModuleAt}
 use Rattle.evaluate_module.specs.Sofar.{Told, Ready, Sofar}
@@ -76,7 +72,7 @@ module _ (t : ℕ) (w : List ℕ) (h : Heads) (k : ℕ) (s : State) (number : k 
     heads = ready.heads;
   }
 
-  store_fits : (size : ℕ) (f : Form) → size ≡ length w → MadeThere joining_block f → StillRight s.totals (Done f) → StoreRoom size t k f s.cursor
+  store_fits : (size : ℕ) (f : Form) → size ≡ length w → MadeThere joining_block f → StillRight s.totals (Ok f) → StoreRoom size t k f s.cursor
   unfolding with_form
   store_fits size f e made right = record {
     laid = subst (λ (n : ℕ). Laid n t) (sym e) ready.laid;
@@ -149,20 +145,20 @@ module _ (text : List ℕ) (t : ℕ) (w : List ℕ) (h : Heads) (k : ℕ) (s : S
         (sym (tape_kept laid.joining.tape x.kept)) there)
         (gives_then AllSeen _ _ (λ c. imported_seen env sofar.seen m.imports)) (x.made ms env m ys earlier sofar.told sofar.stands e f))
 
-    pub steps_refused : (j : ℕ) (c : Culprit) → made ≡ NotMade j c → Stepping text t w h k s (Refused j c) w₃
-    steps_refused j c q = record {
+    pub steps_refused : (c : Refusal) → made ≡ Err c → Stepping text t w h k s (Err c) w₃
+    steps_refused c q = record {
       meant = λ ms env m ys earlier sofar e f.
           let o = all_joined (begun (module_names ms) earlier env m) k (total_of env) m in
           let z = subst (λ (u : Made). Makes text (part w₃ 0 t) w₃ u o) q (made_so ms env m ys earlier sofar e f).makes in
           steps_ordered (module_names ms) earlier k (total_of env) env m
-          ∙ then_stops o (λ (a : Normal). fine (in_order a)) j (culprit_of text c) (refused_outcome text (part w₃ 0 t) w₃ j c o z);
+          ∙ then_stops o (λ (a : Normal). fine (in_order a)) c.number (culprit_of text c.culprit) (refused_outcome text (part w₃ 0 t) w₃ c o z);
     }
 
-    module _ (f : Form) (q : made ≡ Done f) where
+    module _ (f : Form) (q : made ≡ Ok f) where
       made_there : MadeThere joining_block f
       made_there = subst (MadeIn joining_block) q y.made_in
 
-      still_right : StillRight s.totals (Done f)
+      still_right : StillRight s.totals (Ok f)
       still_right = subst (StillRight s.totals) q y.right
 
       pub keep_room : (size : ℕ) → size ≡ length w₂ → KeptRoom size t k f s
@@ -240,7 +236,7 @@ module _ (text : List ℕ) (t : ℕ) (w : List ℕ) (h : Heads) (k : ℕ) (s : S
             totals = totals_next text (part w₃ 0 t) w₃ f a env s.totals r.totals m.name stored.totals stands sofar.totals;
           }
 
-      pub steps_kept : (r : State) (w' : List ℕ) → KeptState text t k f s r w₃ w' → Stepping text t w h k s (Kept r) w'
+      pub steps_kept : (r : State) (w' : List ℕ) → KeptState text t k f s r w₃ w' → Stepping text t w h k s (Ok r) w'
       steps_kept r w' stored = record {
         meant = λ ms env m ys earlier sofar e before_it.
             let o = all_joined (begun (module_names ms) earlier env m) k (total_of env) m in

@@ -6,7 +6,7 @@ use Rattle.meaning.specs.Checks.{Check, ◌>>◌}
 use Rattle.meaning.specs.Evaluate.{Evaluated, names_right, imported}
 use Rattle.tape.specs.Tape.{import_role}
 use Rattle.form_rows.specs.Entries.{next_with}
-use Rattle.form.specs.declared.Made.{Made}
+use Rattle.form.specs.Verdicts.{Made}
 use Rattle.form.specs.Memory.{part, Kept}
 use Rattle.form.specs.Blocks.{Makes, MadeIn}
 use Rattle.form_layout.specs.Layout.{joining_block, second_block}

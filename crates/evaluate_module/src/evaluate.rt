@@ -7,17 +7,10 @@ ghost use Rattle.modules.specs.Modules.{heads_in};
 
 use super::steps::{finished, joined, started};
 use evaluate_states::{State, kept};
-use form::{Culprit, Made};
+use form::Refusal;
 use modules::Heads;
 
-// How a module's evaluation ends: its normal form is kept, or it is refused with the number and the culprit.
-#[derive(Clone, Copy)]
-pub enum Stepped {
-    Kept(State),
-    Refused(u32, Culprit),
-}
-
-// The four steps for module k.
+// The four steps for module k: what is kept then, its normal form too.
 pub fn evaluate(
     library: &[u8],
     text: &[u8],
@@ -26,7 +19,7 @@ pub fn evaluate(
     h: &Heads,
     k: u32,
     s: State,
-) -> Stepped
+) -> Result<State, Refusal>
     requires k_bound { k < (heads_in h.now).count }
     requires ready { Ready t work.old (heads_in h.now) k s }
     ensures { Stepping (joint library.now text.now) t work.old (heads_in h.now) k s result work.new }
@@ -34,8 +27,6 @@ pub fn evaluate(
     let totals = s.totals;
     let so_far = started(library, text, work, t, h, k);
     let rows = joined(library, text, work, t, h, k, so_far);
-    match finished(library, text, work, t, h, k, so_far, rows, totals) {
-        Made::Refused(n, w) => Stepped::Refused(n, w),
-        Made::Done(f) => Stepped::Kept(kept(library, text, work, t, k, f, s)),
-    }
+    let f = finished(library, text, work, t, h, k, so_far, rows, totals)?;
+    Ok(kept(library, text, work, t, k, f, s))
 }

@@ -7,14 +7,15 @@ ghost use Rattle.modules.specs.Modules.{heads_in};
 ghost use Rattle.evaluate_module.specs.FirstSteps.{StartedRoom, Started};
 ghost use Rattle.evaluate_module.specs.LastSteps.{JoinedRoom, OwnJoined, FinishedRoom, Finished};
 
-use form::{Made, Verdict};
+use form::{Form, Refusal};
 use form_layout::joining_block;
 use form_rows::entries::next_with;
 use imports::imports::imports_from;
 use module_names::names_right;
 use modules::{Heads, place_at};
 use own_completing::Totals;
-use own_completing::complete::{Joined, join_equations, join_items};
+use own_completing::complete::{join_equations, join_items};
+use own_items::OwnRows;
 use own_repeats::once::declared_once;
 use tape::roles;
 use unite::empty_form;
@@ -28,13 +29,11 @@ fn first_checks(
     k: u32,
     from: u32,
     end: u32,
-) -> Verdict
+) -> Result<(), Refusal>
     ensures { told (joint library.now text.now) result ≡ first_checks (joint library.now text.now) tape.now (heads_in h.now) k from end }
 {
-    match names_right(library, text, tape, h, k) {
-        Verdict::Stop(n, w) => Verdict::Stop(n, w),
-        Verdict::Fine => declared_once(library, text, tape, from, end),
-    }
+    names_right(library, text, tape, h, k)?;
+    declared_once(library, text, tape, from, end)
 }
 
 // Step 3, and the union of step 4: what the module whose entries stand from `from` up to `end` imports.
@@ -46,36 +45,32 @@ fn imported(
     h: &Heads,
     from: u32,
     end: u32,
-) -> Made
+) -> Result<Form, Refusal>
     requires { ImportedRoom work.old t (heads_in h.now) from end }
     ensures { Imported (joint library.now text.now) t work.old (heads_in h.now) from end result work.new }
 {
     let i = next_with(&work[0..t], roles::IMPORT, from as usize, end as usize);
     let b = joining_block();
     let nothing = empty_form(b);
-    imports_from(
-        library,
-        text,
-        work,
-        t,
-        h,
-        32768,
-        i as u32,
-        Made::Done(nothing),
-    )
+    imports_from(library, text, work, t, h, 32768, i as u32, Ok(nothing))
 }
 
 // Steps 1 to 3, and the union of step 4: what module k imports, if its names are right and each thing is declared once.
-pub fn started(library: &[u8], text: &[u8], work: &mut [u32], t: usize, h: &Heads, k: u32) -> Made
+pub fn started(
+    library: &[u8],
+    text: &[u8],
+    work: &mut [u32],
+    t: usize,
+    h: &Heads,
+    k: u32,
+) -> Result<Form, Refusal>
     requires { StartedRoom work.old t (heads_in h.now) k }
     ensures { Started (joint library.now text.now) t work.old (heads_in h.now) k result work.new }
 {
     let from = place_at(h, k as usize);
     let end = place_at(h, k as usize + 1);
-    match first_checks(library, text, &work[0..t], h, k, from, end) {
-        Verdict::Stop(n, w) => Made::Refused(n, w),
-        Verdict::Fine => imported(library, text, work, t, h, from, end),
-    }
+    first_checks(library, text, &work[0..t], h, k, from, end)?;
+    imported(library, text, work, t, h, from, end)
 }
 
 // The own items of module k, unless what came before is refused.
@@ -86,19 +81,15 @@ pub fn joined(
     t: usize,
     h: &Heads,
     k: u32,
-    so_far: Made,
-) -> Joined
+    so_far: Result<Form, Refusal>,
+) -> Result<OwnRows, Refusal>
     requires { JoinedRoom (length work.old) t (heads_in h.now) k so_far }
     ensures { OwnJoined (joint library.now text.now) t work.old (heads_in h.now) k so_far result work.new }
 {
-    match so_far {
-        Made::Refused(n, w) => Joined::Refused(n, w),
-        Made::Done(f) => {
-            let from = place_at(h, k as usize);
-            let end = place_at(h, k as usize + 1);
-            join_items(library, text, work, t, from, end, f)
-        }
-    }
+    let f = so_far?;
+    let from = place_at(h, k as usize);
+    let end = place_at(h, k as usize + 1);
+    join_items(library, text, work, t, from, end, f)
 }
 
 // Its equations, and all of step 4 but for the order of the listing, unless what came before is refused.
@@ -109,22 +100,16 @@ pub fn finished(
     t: usize,
     h: &Heads,
     k: u32,
-    so_far: Made,
-    rows: Joined,
+    so_far: Result<Form, Refusal>,
+    rows: Result<OwnRows, Refusal>,
     totals: Totals,
-) -> Made
+) -> Result<Form, Refusal>
     requires { FinishedRoom (length work.old) t (heads_in h.now) k so_far rows totals }
     ensures { Finished (joint library.now text.now) t work.old (heads_in h.now) k so_far rows totals result work.new }
 {
-    match rows {
-        Joined::Refused(n, w) => Made::Refused(n, w),
-        Joined::Done(counts) => match so_far {
-            Made::Refused(n, w) => Made::Refused(n, w),
-            Made::Done(f) => {
-                let from = place_at(h, k as usize);
-                let end = place_at(h, k as usize + 1);
-                join_equations(library, text, work, t, k, from, end, f, counts, totals)
-            }
-        },
-    }
+    let counts = rows?;
+    let f = so_far?;
+    let from = place_at(h, k as usize);
+    let end = place_at(h, k as usize + 1);
+    join_equations(library, text, work, t, k, from, end, f, counts, totals)
 }

@@ -1,10 +1,10 @@
 -- One law for each way through the code.
+use Rattle.std.specs.Prelude.{Ok}
 use mathlib.Core.Path.{◌≡◌, ap}
 use mathlib.Core.List.{List}
 use Prim.Native.Nat.{ℕ, ◌+◌}
 use borrow.Author.Rules.{rules}
 use Rattle.form.specs.declared.Form.{Form}
-use Rattle.form.specs.declared.Made.TheVariants.{Done}
 use Rattle.form_layout.specs.Layout.{kept_start}
 use Rattle.own_completing.specs.declared.Totals.{Totals}
 use Rattle.own_completing.specs.Room.{StillRight}
@@ -21,7 +21,7 @@ summed totals f items e = rw e
 pub store_room : (size t k : ℕ) (f : Form) (s : State) → KeptRoom size t k f s → StoreRoom size t k f s.cursor
 store_room size t k f s c = c.store
 
-pub sums_right : (size t k : ℕ) (f : Form) (s : State) → KeptRoom size t k f s → StillRight s.totals (Done f)
+pub sums_right : (size t k : ℕ) (f : Form) (s : State) → KeptRoom size t k f s → StillRight s.totals (Ok f)
 sums_right size t k f s c = c.right
 
 pub kept_more : (text : List ℕ) (t k : ℕ) (f : Form) (s : State) (c : ℕ) (sums : Totals) (w w' : List ℕ) → sums ≡ with_form s.totals f

@@ -1,7 +1,6 @@
 -- What is kept so far, and one normal form more.
-use Rattle.std.specs.Prelude.{◌≡◌, ℕ, ◌+◌, List}
+use Rattle.std.specs.Prelude.{◌≡◌, ℕ, ◌+◌, List, Ok}
 use Rattle.form.specs.declared.Form.{Form}
-use Rattle.form.specs.declared.Made.TheVariants.{Done}
 use Rattle.form_layout.specs.Layout.{kept_start}
 use Rattle.own_completing.specs.declared.Totals.{Totals}
 use Rattle.own_completing.specs.Room.{StillRight}
@@ -23,7 +22,7 @@ with_form totals f = record {
 
 pub record KeptRoom (size t k : ℕ) (f : Form) (s : State) : Type 0 where
   pub store : StoreRoom size t k f s.cursor
-  pub right : StillRight s.totals (Done f)
+  pub right : StillRight s.totals (Ok f)
 
 pub record KeptState (text : List ℕ) (t k : ℕ) (f : Form) (s r : State) (w w' : List ℕ) : Type 0 where
   pub stored : Stored text t k f s.cursor r.cursor w w'

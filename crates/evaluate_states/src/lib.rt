@@ -1,9 +1,8 @@
 // What is kept so far: where the next normal form goes, and the sizes of all together.
 #![tactic(auto)]
 
-ghost use Rattle.std.specs.Prelude.{◌≡◌, length};
+ghost use Rattle.std.specs.Prelude.{◌≡◌, length, Ok};
 ghost use Rattle.text_names.specs.Joint.{joint};
-ghost use Rattle.form.specs.declared.Made.TheVariants.{Done};
 ghost use Rattle.own_completing.specs.Room.{StillRight};
 ghost use Rattle.evaluate_states.specs.States.{first_state, with_form, KeptRoom, KeptState};
 
@@ -20,7 +19,7 @@ pub struct State {
 
 // The sizes with those of f.
 fn with_form(totals: Totals, f: Form) -> Totals
-    requires { StillRight totals (Done f) }
+    requires { StillRight totals (Ok f) }
     ensures { result ≡ with_form totals f }
 {
     let items = f.visible_count + f.hidden_count;

@@ -13,10 +13,8 @@ use Rattle.modules.specs.Modules.{reached_set, Heads}
 use Rattle.form_keeping.specs.Keeping.{Cleared}
 use Rattle.evaluate_states.specs.declared.State.{State}
 use Rattle.evaluate_states.specs.States.{first_state}
-use Rattle.evaluate_turns.specs.declared.Ended.{Ended}
-use Rattle.evaluate_turns.specs.declared.Ended.TheVariants.{Normalised}
 use Rattle.evaluate_turns.specs.Asked.{Asked, asked_so}
-use Rattle.evaluate_turns.specs.Turns.{Resumed, Turned, Given, AllTurned}
+use Rattle.evaluate_turns.specs.Turns.{Ended, normalised, Resumed, Turned, Given, AllTurned}
 use Rattle.evaluate_turns.specs.Turning.{tape_there, ready_there, few_there, going_first, going_resumed, going_size, going_few, resumed_asked, few_asked, going_asked, going_passed, going_refused, going_kept}
 use Rattle.evaluate_turns.specs.Beginning.{table_there, resumed, all_turned, none_turned}
 
@@ -35,7 +33,7 @@ module _ (text : List ℕ) (t : ℕ) (w : List ℕ) (h : Heads) where
     cleared = subst₂ (λ (a b : ℕ). Cleared a 65 b w w') e f c
 
     module _ (k set : ℕ) (q : holds set ≡ reached_set text (part w 0 t) h k) where
-      pub reached_none : (count : ℕ) → count ≡ h.count → count ≤ k → AllTurned text t w h k (Normalised 0 64) w'
+      pub reached_none : (count : ℕ) → count ≡ h.count → count ≤ k → AllTurned text t w h k (normalised 0 64) w'
       reached_none count n l = none_turned text t w w' h g cleared k set q (omega (arith, n, l))
 
       pub reached_turned : (s : State) (r : Ended) (w'' : List ℕ) → s ≡ first_state → Turned text t w' h set 0 0 s r w'' → AllTurned text t w h k r w''

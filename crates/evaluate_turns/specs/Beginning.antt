@@ -28,10 +28,8 @@ use Rattle.imports.specs.Clausal.{number_within}
 use Rattle.evaluate_storing.specs.Places.{scratch_there}
 use Rattle.evaluate_states.specs.States.{first_state}
 use Rattle.evaluate_module.specs.Sofar.{Told, Ready, Sofar}
-use Rattle.evaluate_turns.specs.declared.Ended.{Ended}
-use Rattle.evaluate_turns.specs.declared.Ended.TheVariants.{Normalised}
 use Rattle.form_keeping.specs.Environment.{LastStands}
-use Rattle.evaluate_turns.specs.Turns.{EndsAs, Resumed, Turned, Given, AllTurned}
+use Rattle.evaluate_turns.specs.Turns.{Ended, normalised, EndsAs, Resumed, Turned, Given, AllTurned}
 use Rattle.evaluate_turns.specs.Asked.{chosen_none, asked_none}
 use Rattle.evaluate_turns.specs.ByNumber.{places_ordered, places_within, places_few}
 
@@ -110,13 +108,13 @@ module _ (text : List ℕ) (t : ℕ) (w w' : List ℕ) (h : Heads) (given : Give
     }
 
     -- where there is no module k, none is reached
-    pub none_turned : h.count ≤ k → AllTurned text t w h k (Normalised 0 64) w'
+    pub none_turned : h.count ≤ k → AllTurned text t w h k (normalised 0 64) w'
     unfolding in_turn
     none_turned l = record {
       meant = λ ms asked told number.
           let some : h.count ≡ length ms = heads_number text (part w 0 t) t ms h told.spells in
           let none : chosen (holds set) 0 [] ms ≡ [] =
           chosen_none (holds set) 0 [] ms (λ j u v. asked_none text (part w 0 t) h k set e l j (omega arith)) in
-          subst (λ (xs : List Placed). EndsAs text t w' (Normalised 0 64) (in_turn (module_names ms) [] empty xs)) (sym none ∙ reached_so ms asked told number)
+          subst (λ (xs : List Placed). EndsAs text t w' (normalised 0 64) (in_turn (module_names ms) [] empty xs)) (sym none ∙ reached_so ms asked told number)
           (record { count_so = refl; last_so = none_latest });
     }

@@ -1,5 +1,5 @@
 -- One module more, or one that is passed over: how a call goes on, and how it ends with it (meaning/specs/Reached.antt, `in_turn`).
-use Rattle.std.specs.Prelude.{◌≡◌, refl, Bool, true, false, ℕ, ◌+◌, ◌-◌, ◌≤◌, ◌<◌, length, get_or, drop}
+use Rattle.std.specs.Prelude.{◌≡◌, refl, Bool, true, false, ℕ, ◌+◌, ◌-◌, ◌≤◌, ◌<◌, length, get_or, drop, Ok, Err}
 use Rattle.std.proofs.Common.{sym, ◌∙◌, arith, length-take}
 use Rattle.std.proofs.Math.Path.{ap, subst}
 use mathlib.Core.List.{List, [], ◌∷◌}
@@ -15,7 +15,7 @@ use Rattle.meaning.specs.Evaluate.{Evaluated, normal_of, evaluate}
 use Rattle.meaning.specs.Reached.{Placed, refused_at, end_or, in_turn, total_of, module_names}
 use Rattle.text_names.specs.Word.{name_of}
 use Rattle.form_rows.specs.Entries.{word_at}
-use Rattle.form.specs.declared.Culprit.{Culprit}
+use Rattle.form.specs.declared.Refusal.{Refusal}
 use Rattle.form.specs.Memory.{part}
 use Rattle.form.specs.Forms.{Stands}
 use Rattle.form.specs.Verdicts.{culprit_of}
@@ -26,13 +26,9 @@ use Rattle.modules.specs.ReachedLaws.{names_number, name_by_number, drop_some, c
 use Rattle.modules.specs.Meant.{Earlier, one_earlier}
 use Rattle.form_keeping.specs.Environment.{kept_form, LastStands}
 use Rattle.evaluate_states.specs.declared.State.{State}
-use Rattle.evaluate_module.specs.declared.evaluate.Stepped.{Stepped}
-use Rattle.evaluate_module.specs.declared.evaluate.Stepped.TheVariants.{Kept, Refused as StepRefused}
 use Rattle.evaluate_module.specs.Sofar.{Ready, Sofar}
-use Rattle.evaluate_module.specs.Stepping.{evaluated_as, StepMeant, Stepping}
-use Rattle.evaluate_turns.specs.declared.Ended.{Ended}
-use Rattle.evaluate_turns.specs.declared.Ended.TheVariants.{Normalised, Refused}
-use Rattle.evaluate_turns.specs.Turns.{EndsAs, Resumed, Turned, AskedTurned}
+use Rattle.evaluate_module.specs.Stepping.{Stepped, evaluated_as, StepMeant, Stepping}
+use Rattle.evaluate_turns.specs.Turns.{Ended, normalised, refused, EndsAs, Resumed, Turned, AskedTurned}
 use Rattle.evaluate_turns.specs.Asked.{Asked, before_asked, chosen_none}
 use Rattle.evaluate_turns.specs.ByNumber.{ModuleAt, module_at, drop_later, own_name, own_number}
 
@@ -154,17 +150,17 @@ module _ (text : List ℕ) (t : ℕ) (w : List ℕ) (h : Heads) (k : ℕ) (s : S
         (stepping.meant ms env m.self m.later earlier sofar m.here before_it)
 
     -- module k is in the set, and refused
-    pub turn_refused : (set count : ℕ) (b : Bool) (name number : ℕ) (culprit : Culprit) → b ≡ holds set k → b ≡ true
-        → name ≡ word_at (part w 0 t) (get_or h.places k 0) → step ≡ StepRefused number culprit
-        → Turned text t w h set k count s (Refused number (count + 1) name culprit) w₁
-    turn_refused set count b name number culprit e f q g = record {
+    pub turn_refused : (set count : ℕ) (b : Bool) (name : ℕ) (y : Refusal) → b ≡ holds set k → b ≡ true
+        → name ≡ word_at (part w 0 t) (get_or h.places k 0) → step ≡ Err y
+        → Turned text t w h set k count s (refused y (count + 1) name) w₁
+    turn_refused set count b name y e f q g = record {
       meant = λ ms env earlier n sofar before_it size.
           let m = at ms env sofar in
-          let stop_so = stepped ms env earlier sofar before_it (StepRefused number culprit) g in
-          let end = Refused number (count + 1) name culprit in
+          let stop_so = stepped ms env earlier sofar before_it (Err y) g in
+          let end = refused y (count + 1) name in
           subst (λ (xs : List Placed). EndsAs text t w₁ end (in_turn (module_names ms) env n xs))
           (sym (chosen_here set k earlier ms m.later m.self m.here (sym e ∙ f)))
-          (subst (EndsAs text t w₁ end) (sym (turn_stop (module_names ms) env n _ _ number (culprit_of text culprit) stop_so))
+          (subst (EndsAs text t w₁ end) (sym (turn_stop (module_names ms) env n _ _ y.number (culprit_of text y.culprit) stop_so))
           (record {
             number_so = refl;
             count_so = ap (λ (i : ℕ). i + 1) (sym size);
@@ -174,12 +170,12 @@ module _ (text : List ℕ) (t : ℕ) (w : List ℕ) (h : Heads) (k : ℕ) (s : S
     }
 
     -- module k is in the set, and its normal form kept
-    module _ (r : State) (g : step ≡ Kept r) where
+    module _ (r : State) (g : step ≡ Ok r) where
       pub kept_resumed : Resumed text t w h k s → Resumed text t w₁ h (k + 1) r
       kept_resumed resumed =
           let p = resumed.prepared in
           let m = at p.modules p.evaluated p.sofar in
-          let kept = stepped p.modules p.evaluated resumed.earlier p.sofar resumed.before_it (Kept r) g in
+          let kept = stepped p.modules p.evaluated resumed.earlier p.sofar resumed.before_it (Ok r) g in
           record {
             prepared = record {
               ready = kept.ready;
@@ -196,7 +192,7 @@ module _ (text : List ℕ) (t : ℕ) (w : List ℕ) (h : Heads) (k : ℕ) (s : S
       kept_turned set count b end w₂ e f more = record {
         meant = λ ms env earlier n sofar before_it size.
             let m = at ms env sofar in
-            let kept = stepped ms env earlier sofar before_it (Kept r) g in
+            let kept = stepped ms env earlier sofar before_it (Ok r) g in
             let new = evaluated_as m.self kept.normal in
             subst (λ (xs : List Placed). EndsAs text t w₂ end (in_turn (module_names ms) env n xs))
             (sym (chosen_here set k earlier ms m.later m.self m.here (sym e ∙ f)))
@@ -206,19 +202,19 @@ module _ (text : List ℕ) (t : ℕ) (w : List ℕ) (h : Heads) (k : ℕ) (s : S
       }
 
       -- and it is the latest of the set
-      pub last_turned : (set count : ℕ) → Asked h set k → Turned text t w h set k count s (Normalised (count + 1) k) w₁
+      pub last_turned : (set count : ℕ) → Asked h set k → Turned text t w h set k count s (normalised (count + 1) k) w₁
       unfolding in_turn
       last_turned set count asked = record {
         meant = λ ms env earlier n sofar before_it size.
             let m = at ms env sofar in
-            let kept = stepped ms env earlier sofar before_it (Kept r) g in
+            let kept = stepped ms env earlier sofar before_it (Ok r) g in
             let placed : Placed = record { self = m.self; number = k; earlier = earlier } in
             let none : chosen (holds set) (k + 1) (m.self.name ∷ earlier) (drop (k + 1) ms) ≡ [] =
             chosen_none (holds set) (k + 1) (m.self.name ∷ earlier) (drop (k + 1) ms) (λ j l u. asked.latest j (omega arith)) in
             let alone : chosen (holds set) k earlier (drop k ms) ≡ placed ∷ [] =
             chosen_here set k earlier ms m.later m.self m.here asked.in_it ∙ ap (λ (xs : List Placed). placed ∷ xs) none in
-            subst (λ (xs : List Placed). EndsAs text t w₁ (Normalised (count + 1) k) (in_turn (module_names ms) env n xs)) (sym alone)
-            (subst (EndsAs text t w₁ (Normalised (count + 1) k)) (sym (turn_fine (module_names ms) env n placed [] kept.normal kept.fine_so))
+            subst (λ (xs : List Placed). EndsAs text t w₁ (normalised (count + 1) k) (in_turn (module_names ms) env n xs)) (sym alone)
+            (subst (EndsAs text t w₁ (normalised (count + 1) k)) (sym (turn_fine (module_names ms) env n placed [] kept.normal kept.fine_so))
             (record {
               count_so = omega (arith, size);
               last_so = latest_stands text t w₁ h r k ms env m.self m.later kept.normal m.here kept.ready kept.sofar;
@@ -277,13 +273,13 @@ module _ (text : List ℕ) (t : ℕ) (w₀ : List ℕ) (h : Heads) (set asked : 
       }
 
       module _ (f : b ≡ true) (step : Stepped) (w₁ : List ℕ) (stepping : Stepping text t w h k s step w₁) where
-        pub going_refused : (name number : ℕ) (culprit : Culprit) → name ≡ word_at (part w 0 t) (get_or h.places k 0) → step ≡ StepRefused number culprit
-            → Turned text t w₀ h set 0 0 first (Refused number (count + 1) name culprit) w₁
-        going_refused name number culprit q g =
-            v.goes_on (Refused number (count + 1) name culprit) w₁
-            (turn_refused text t w h k s within step w₁ stepping set count b name number culprit e f q g)
+        pub going_refused : (name : ℕ) (y : Refusal) → name ≡ word_at (part w 0 t) (get_or h.places k 0) → step ≡ Err y
+            → Turned text t w₀ h set 0 0 first (refused y (count + 1) name) w₁
+        going_refused name y q g =
+            v.goes_on (refused y (count + 1) name) w₁
+            (turn_refused text t w h k s within step w₁ stepping set count b name y e f q g)
 
-        pub going_kept : (r : State) → length w₁ ≡ length w → step ≡ Kept r → Going text t w₀ h set asked first (k + 1) (count + 1) r w₁
+        pub going_kept : (r : State) → length w₁ ≡ length w → step ≡ Ok r → Going text t w₀ h set asked first (k + 1) (count + 1) r w₁
         going_kept r l g = record {
           size = l ∙ v.size;
           few = omega (arith, v.few);
@@ -295,12 +291,12 @@ module _ (text : List ℕ) (t : ℕ) (w₀ : List ℕ) (h : Heads) (set asked : 
 -- ---- the asked module itself
 
 module _ (text : List ℕ) (t : ℕ) (w : List ℕ) (h : Heads) (k count : ℕ) (s : State) (c : k < h.count) (w₁ : List ℕ) where
-  pub asked_refused : (name number : ℕ) (culprit : Culprit) → name ≡ word_at (part w 0 t) (get_or h.places k 0)
-      → Stepping text t w h k s (StepRefused number culprit) w₁ → AskedTurned text t w h k count s (Refused number (count + 1) name culprit) w₁
-  asked_refused name number culprit q stepping = record {
+  pub asked_refused : (name : ℕ) (y : Refusal) → name ≡ word_at (part w 0 t) (get_or h.places k 0)
+      → Stepping text t w h k s (Err y) w₁ → AskedTurned text t w h k count s (refused y (count + 1) name) w₁
+  asked_refused name y q stepping = record {
     turned = λ set a.
-        turn_refused text t w h k s c (StepRefused number culprit) w₁ stepping set count true name number culprit (sym a.in_it) refl q refl;
+        turn_refused text t w h k s c (Err y) w₁ stepping set count true name y (sym a.in_it) refl q refl;
   }
 
-  pub asked_kept : (r : State) → Stepping text t w h k s (Kept r) w₁ → AskedTurned text t w h k count s (Normalised (count + 1) k) w₁
-  asked_kept r stepping = record { turned = λ set a. last_turned text t w h k s c (Kept r) w₁ stepping r refl set count a }
+  pub asked_kept : (r : State) → Stepping text t w h k s (Ok r) w₁ → AskedTurned text t w h k count s (normalised (count + 1) k) w₁
+  asked_kept r stepping = record { turned = λ set a. last_turned text t w h k s c (Ok r) w₁ stepping r refl set count a }

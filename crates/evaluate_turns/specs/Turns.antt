@@ -1,5 +1,5 @@
 -- How a call ends: in memory, and as the meaning says (meaning/specs/Reached.antt, `in_turn`).
-use Rattle.std.specs.Prelude.{◌≡◌, ℕ, ◌≤◌, List, [], length, drop}
+use Rattle.std.specs.Prelude.{◌≡◌, ℕ, ◌≤◌, List, [], length, drop, Result, Ok, Err}
 use Rattle.meaning.specs.Lists.{before}
 use Rattle.meaning.specs.Names.{Name, same}
 use Rattle.meaning.specs.Numbers.{memory_size}
@@ -11,6 +11,7 @@ use Rattle.meaning.specs.Reached as Reached
 use Rattle.meaning.specs.Reached.{in_turn, reached, module_names}
 use Rattle.text_names.specs.Word.{name_of}
 use Rattle.form.specs.declared.Culprit.{Culprit}
+use Rattle.form.specs.declared.Refusal.{Refusal}
 use Rattle.form.specs.Memory.{part}
 use Rattle.form.specs.Verdicts.{culprit_of}
 use Rattle.form_layout.specs.Layout.{tape_end}
@@ -20,8 +21,8 @@ use Rattle.modules.specs.ReachedLaws.{chosen}
 use Rattle.modules.specs.Meant.{Earlier}
 use Rattle.form_keeping.specs.Environment.{LastStands}
 use Rattle.evaluate_states.specs.declared.State.{State}
-use Rattle.evaluate_turns.specs.declared.Ended.{Ended}
-use Rattle.evaluate_turns.specs.declared.Ended.TheVariants.{Normalised, Refused}
+use Rattle.evaluate_turns.specs.declared.Normalised.{Normalised}
+use Rattle.evaluate_turns.specs.declared.RefusedAt.{RefusedAt}
 use Rattle.evaluate_module.specs.Sofar.{Told, Sofar, Prepared}
 use Rattle.evaluate_turns.specs.Asked.{Asked}
 
@@ -35,12 +36,21 @@ pub record RefusedAs (text : List ℕ) (number count m : ℕ) (culprit : Culprit
   pub module_so : name_of text m ≡ evaluating
   pub culprit_so : culprit_of text culprit ≡ meant
 
+abbrev pub Ended : Type 0
+Ended = Result Normalised RefusedAt
+
+abbrev pub normalised : ℕ → ℕ → Ended
+normalised count last = Ok (record { count = count; last = last })
+
+abbrev pub refused : Refusal → ℕ → ℕ → Ended
+refused r count m = Err (record { refusal = r; count = count; name = m })
+
 abbrev pub EndsAs : List ℕ → ℕ → List ℕ → Ended → Reached.Ended → Type 0
-EndsAs text t w (Normalised count last) (Reached.normalised counted n) = ListedAs text t w count last counted n
-EndsAs text t w (Normalised count last) (Reached.refused_at told counted evaluating meant) = ⊥
-EndsAs text t w (Refused number count m culprit) (Reached.normalised counted n) = ⊥
-EndsAs text t w (Refused number count m culprit) (Reached.refused_at told counted evaluating meant) =
-    RefusedAs text number count m culprit told counted evaluating meant
+EndsAs text t w (Ok e) (Reached.normalised counted n) = ListedAs text t w e.count e.last counted n
+EndsAs text t w (Ok e) (Reached.refused_at told counted evaluating meant) = ⊥
+EndsAs text t w (Err e) (Reached.normalised counted n) = ⊥
+EndsAs text t w (Err e) (Reached.refused_at told counted evaluating meant) =
+    RefusedAs text e.refusal.number e.count e.name e.refusal.culprit told counted evaluating meant
 
 -- there are such modules, and names of those before module k
 pub record Resumed (text : List ℕ) (t : ℕ) (w : List ℕ) (h : Heads) (k : ℕ) (s : State) : Type 0 where

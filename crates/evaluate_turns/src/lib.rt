@@ -7,28 +7,27 @@ ghost use Rattle.evaluate_turns.specs.Asked.{Asked};
 ghost use Rattle.modules.specs.Modules.{heads_in};
 ghost use Rattle.evaluate_turns.specs.Turns.{Resumed, Given, Turned, AskedTurned, AllTurned};
 
-use evaluate_module::evaluate::{Stepped, evaluate};
+use evaluate_module::evaluate::evaluate;
 use evaluate_module::steps::{finished, joined, started};
 use evaluate_states::{State, first_state, kept};
-use form::{Culprit, Made};
+use form::Refusal;
 use form_keeping::clear_forms;
 use form_layout::{kept_start, table_start};
 use modules::{Heads, module_count, name_of_module, reached};
 
-// How a call ends: each normal form is kept, that of the latest module for number `last`; or the refusal's number with the word of the module
-// evaluated then and the culprit. `count` modules were evaluated, the refused one included.
+// What a call leaves: the normal form of each of the `count` modules that were evaluated is kept, that of the latest for number `last`.
 #[derive(Clone, Copy)]
-pub enum Ended {
-    Normalised {
-        count: u32,
-        last: u32,
-    },
-    Refused {
-        number: u32,
-        count: u32,
-        module: u32,
-        culprit: Culprit,
-    },
+pub struct Normalised {
+    pub count: u32,
+    pub last: u32,
+}
+
+// How a call is refused: with the refusal and the word of the module evaluated then. `count` modules were evaluated, the refused one included.
+#[derive(Clone, Copy)]
+pub struct RefusedAt {
+    pub refusal: Refusal,
+    pub count: u32,
+    pub name: u32,
 }
 
 // Module k, the asked one, after the `count` others that it reaches. It is the second to go through the steps, which therefore are compiled as
@@ -42,27 +41,26 @@ fn evaluate_asked(
     k: u32,
     count: u32,
     s: State,
-) -> Ended
+) -> Result<Normalised, RefusedAt>
     requires resumed { Resumed (joint library.now text.now) t work.old (heads_in h.now) k s }
     requires k_bound { k < (heads_in h.now).count }
     requires count_le_k { count ≤ k }
     ensures { AskedTurned (joint library.now text.now) t work.old (heads_in h.now) k count s result work.new }
 {
-    let module = name_of_module(&work[0..t], h, k);
+    let name = name_of_module(&work[0..t], h, k);
     let count = count + 1;
     let totals = s.totals;
     let so_far = started(library, text, work, t, h, k);
     let rows = joined(library, text, work, t, h, k, so_far);
     match finished(library, text, work, t, h, k, so_far, rows, totals) {
-        Made::Refused(number, culprit) => Ended::Refused {
-            number,
+        Err(refusal) => Err(RefusedAt {
+            refusal,
             count,
-            module,
-            culprit,
-        },
-        Made::Done(f) => {
+            name,
+        }),
+        Ok(f) => {
             kept(library, text, work, t, k, f, s);
-            Ended::Normalised { count, last: k }
+            Ok(Normalised { count, last: k })
         }
     }
 }
@@ -77,34 +75,29 @@ fn evaluate_set(
     set: u64,
     k: u32,
     first: State,
-) -> Ended
+) -> Result<Normalised, RefusedAt>
     requires resumed { Resumed (joint library.now text.now) t work.old (heads_in h.now) 0 first }
     requires asked { Asked (heads_in h.now) set k }
     ensures { Turned (joint library.now text.now) t work.old (heads_in h.now) set 0 0 first result work.new }
 {
-    let mut i: u32 = 0;
     let mut count: u32 = 0;
     let mut s = first;
-    while i < k {
+    for i in 0..k {
         if module_set::has(set, i) {
-            let module = name_of_module(&work[0..t], h, i);
+            let name = name_of_module(&work[0..t], h, i);
             match evaluate(library, text, work, t, h, i, s) {
-                Stepped::Refused(number, culprit) => {
-                    return Ended::Refused {
-                        number,
+                Err(refusal) => {
+                    return Err(RefusedAt {
+                        refusal,
                         count: count + 1,
-                        module,
-                        culprit,
-                    };
+                        name,
+                    });
                 }
-                Stepped::Kept(r) => {
+                Ok(r) => {
                     count += 1;
                     s = r;
-                    i += 1;
                 }
             }
-        } else {
-            i += 1;
         }
     }
     evaluate_asked(library, text, work, t, h, k, count, s)
@@ -118,7 +111,7 @@ pub fn evaluate_reached(
     t: usize,
     h: &Heads,
     k: u32,
-) -> Ended
+) -> Result<Normalised, RefusedAt>
     requires { Given (joint library.now text.now) t work.old (heads_in h.now) }
     ensures { AllTurned (joint library.now text.now) t work.old (heads_in h.now) k result work.new }
 {
@@ -131,5 +124,5 @@ pub fn evaluate_reached(
         return evaluate_set(library, text, work, t, h, set, k, s);
     }
     // the row behind those of all modules has nothing
-    Ended::Normalised { count: 0, last: 64 }
+    Ok(Normalised { count: 0, last: 64 })
 }

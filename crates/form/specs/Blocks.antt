@@ -1,16 +1,14 @@
 -- Where a normal form is made: a block of the working memory, what lies outside it, and what comes of making.
-use Rattle.std.specs.Prelude.{◌≡◌, ℕ, ◌+◌, ◌*◌, ◌≤◌, List}
+use Rattle.std.specs.Prelude.{◌≡◌, ℕ, ◌+◌, ◌*◌, ◌≤◌, List, Ok, Err}
 use Rattle.meaning.specs.Numbers.{parameter_room, item_room, equation_room, node_limit}
 use Rattle.meaning.specs.Normal.{Normal}
 use Rattle.meaning.specs.Checks.{Outcome, fine, stop}
 use Rattle.form_rows.specs.Rows.{row_size}
 use Rattle.form.specs.declared.Form.{Form}
 use Rattle.form.specs.declared.Block.{Block}
-use Rattle.form.specs.declared.Made.{Made}
-use Rattle.form.specs.declared.Made.TheVariants.{Done, Refused}
 use Rattle.form.specs.Forms.{Stands, equation_size, slot_size}
 use Rattle.form.specs.FormLaws.{Apart}
-use Rattle.form.specs.Verdicts.{culprit_of}
+use Rattle.form.specs.Verdicts.{Made, culprit_of}
 
 -- the parts of a block of a memory of `size` words, the tape below it up to t: in order, with room for so many parameters, visible and
 -- hidden rows, and notes for so many rows of a source
@@ -53,10 +51,10 @@ pub record Fits (f : Form) : Type 0 where
 
 -- what was made is what the meaning says: a form that stands for the normal form, or the refusal
 abbrev pub Makes : List ℕ → List ℕ → List ℕ → Made → Outcome Normal → Type 0
-Makes text tape w (Done f) (fine n) = Stands text tape w f n
-Makes text tape w (Done f) (stop k c) = ⊥
-Makes text tape w (Refused k x) (fine n) = ⊥
-Makes text tape w (Refused j x) (stop k c) = (j ≡ k) × (culprit_of text x ≡ c)
+Makes text tape w (Ok f) (fine n) = Stands text tape w f n
+Makes text tape w (Ok f) (stop k c) = ⊥
+Makes text tape w (Err r) (fine n) = ⊥
+Makes text tape w (Err r) (stop k c) = (r.number ≡ k) × (culprit_of text r.culprit ≡ c)
 
 -- a form that was made lies in the block, and fits
 pub record MadeThere (b : Block) (f : Form) : Type 0 where
@@ -65,5 +63,5 @@ pub record MadeThere (b : Block) (f : Form) : Type 0 where
   pub nodes : f.node_count ≤ b.node_room
 
 abbrev pub MadeIn : Block → Made → Type 0
-MadeIn b (Done f) = MadeThere b f
-MadeIn b (Refused k x) = Unit {0}
+MadeIn b (Ok f) = MadeThere b f
+MadeIn b (Err r) = Unit {0}

@@ -1,13 +1,24 @@
--- What a culprit and a check's verdict stand for (meaning/specs/Checks.antt).
-use Rattle.std.specs.Prelude.{◌≡◌, ℕ, List, []}
+-- How a check and an evaluation end, and what a culprit and a check's verdict stand for (meaning/specs/Checks.antt).
+use Rattle.std.specs.Prelude.{◌≡◌, ℕ, List, [], Result, Ok, Err}
 use Rattle.std.proofs.Common.{ap, ◌∙◌}
 use Rattle.meaning.specs.Names.{Name}
 use Rattle.meaning.specs.Checks as Meaning
 use Rattle.meaning.specs.Checks.{lone, Check, Outcome, fine, stop}
 use Rattle.text_names.specs.Word.{name_of, no_name}
 use Rattle.form.specs.declared.Culprit.{Culprit}
-use Rattle.form.specs.declared.Verdict.{Verdict}
-use Rattle.form.specs.declared.Verdict.TheVariants.{Fine, Stop}
+use Rattle.form.specs.declared.Form.{Form}
+use Rattle.form.specs.declared.Refusal.{Refusal}
+
+-- how a check ends: passed, or refused
+abbrev pub Verdict : Type 0
+Verdict = Result (Unit {0}) Refusal
+
+-- how an evaluation ends: with a normal form, or refused
+abbrev pub Made : Type 0
+Made = Result Form Refusal
+
+abbrev pub refusal : ℕ → Culprit → Refusal
+refusal k c = record { number = k; culprit = c }
 
 unfoldable pub culprit_of : List ℕ → Culprit → Meaning.Culprit
 culprit_of text c = record { name = name_of text c.name; actual = name_of text c.actual }
@@ -22,5 +33,5 @@ pub nobody_of : (text : List ℕ) → culprit_of text (record { name = 0; actual
 nobody_of text = lone_of text 0 ∙ ap lone (no_name text)
 
 unfoldable pub told : List ℕ → Verdict → Check
-told text Fine = fine tt
-told text (Stop k c) = stop k (culprit_of text c)
+told text (Ok x) = fine tt
+told text (Err r) = stop r.number (culprit_of text r.culprit)

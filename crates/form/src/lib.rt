@@ -49,18 +49,11 @@ pub struct Culprit {
     pub actual: u32,
 }
 
-// How a check ends: passed, or refused with its number and the culprit.
+// Why a check or an evaluation ends without passing: the refusal's number and the culprit.
 #[derive(Clone, Copy)]
-pub enum Verdict {
-    Fine,
-    Stop(u32, Culprit),
-}
-
-// How an evaluation ends: with a normal form, or refused with the number and the culprit.
-#[derive(Clone, Copy)]
-pub enum Made {
-    Done(Form),
-    Refused(u32, Culprit),
+pub struct Refusal {
+    pub number: u32,
+    pub culprit: Culprit,
 }
 
 // A part of the working memory from `low` up to `high`, in which a normal form is made: its parts in this order, each with room for so many

@@ -5,10 +5,10 @@ use mathlib.Core.List.{List, map}
 use Prim.Native.Nat.{ℕ, suc, ◌+◌, ◌-◌, ◌/◌, ◌%◌, ◌<◌, ◌≤◌, min}
 use native.Mathlib.Numerals.{add-one}
 use native.Mathlib.Omega.{arith}
-use lib.Dec.{eqb, leb}
+use lib.Dec.{eqb}
 use lib.ListN.{length, get_or, take, drop, length-take, length-map, drop_of_length-le}
 use lib.Seq.{drop-cons, get_or-take}
-use borrow.Author.Tests.{le-leb, lt-leb, eq-eqb, ne_eqb, eqb-true, eqb-false}
+use borrow.Author.Tests.{eq-eqb, ne_eqb, eqb-true, eqb-false}
 use Rattle.meaning.specs.Lists.{pick, agree}
 use Rattle.meaning.specs.Names.{same}
 use Rattle.meaning.specs.Origins.{sort_shape, function_shape, variable_shape, same_section, same_declared, same_origin, same_sort, same_type, same_shape, one_item}
@@ -28,9 +28,9 @@ module _ (text tape : List ℕ) (d e : ℕ) (p : Bool) (c : p ≡ same (name_at 
   unfolding same_origin hidden_origin same_section same_declared
   hidden_told h k r g i j l = rw (← c, g, ← i, ← j, ← l, and-true r) (sym (and-true r))
 
-  pub hidden_names : p ≡ false → false ≡ same_origin (hidden_origin text tape d) (hidden_origin text tape e)
+  pub hidden_names : p ≡ false → p ≡ same_origin (hidden_origin text tape d) (hidden_origin text tape e)
   unfolding same_origin hidden_origin same_section same_declared
-  hidden_names g = rw (← c, g) (sym (and-false (same (name_of text (home_at tape d)) (name_of text (home_at tape e)) && true)))
+  hidden_names g = g ∙ rw (← c, g) (sym (and-false (same (name_of text (home_at tape d)) (name_of text (home_at tape e)) && true)))
 
 module _ (text tape : List ℕ) (a b : ℕ) where
   abbrev one_sort : Bool
@@ -69,18 +69,15 @@ module _ (text tape a b : List ℕ) (n : ℕ) where
   AgreeFrom i = agree same_sort (map (sort_of text tape) (drop i (take n a))) (map (sort_of text tape) (drop i (take n b)))
 
   module _ (i : ℕ) (la : length a ≡ 9) (lb : length b ≡ 9) where
-    none_left : min n 9 ≤ i → AgreeFrom i ≡ true
+    pub agree_end : min n 9 ≤ i → AgreeFrom i ≡ true
     unfolding agree
-    none_left h =
+    agree_end h =
         let x : length (take n a) ≤ i = omega (arith, length-take n a) in
         let y : length (take n b) ≤ i = omega (arith, length-take n b) in
         rw (drop_of_length-le (take n a) x, drop_of_length-le (take n b) y)
 
     pub agree_all : n ≤ i → AgreeFrom i ≡ true
-    agree_all h = none_left (omega arith)
-
-    pub agree_nine : 9 ≤ i → AgreeFrom i ≡ true
-    agree_nine h = none_left (omega arith)
+    agree_all h = agree_end (omega arith)
 
     module _ (h : i < n) (k : i < 9) (r : Bool) (t : r ≡ same_sort (sort_of text tape (get_or a i 0)) (sort_of text tape (get_or b i 0))) where
       head_told : AgreeFrom i ≡ pick r (AgreeFrom (suc i)) false
@@ -104,46 +101,14 @@ module _ (text tape a b : List ℕ) (n : ℕ) where
   abbrev one_type : Bool
   one_type = same_type (type_of text tape n a) (type_of text tape n b)
 
-  abbrev one_output : Bool
-  one_output = same_sort (sort_of text tape (get_or a 8 0)) (sort_of text tape (get_or b 8 0))
+  module _ (i : ℕ) (l : AgreeFrom text tape a b n 0 ≡ AgreeFrom text tape a b n i) where
+    pub type_inputs : AgreeFrom text tape a b n i ≡ false → false ≡ one_type
+    unfolding same_type type_of
+    type_inputs e = rw (l, e)
 
-  -- what is left to compare when i sorts are one
-  unfoldable pub TypeFrom : ℕ → Bool
-  TypeFrom i = pick (leb i n) (AgreeFrom text tape a b n i && one_output) true
-
-  module _ (i : ℕ) where
-    some_left : i ≤ n → TypeFrom i ≡ (AgreeFrom text tape a b n i && one_output)
-    unfolding TypeFrom pick
-    some_left h = rw (le-leb i n h)
-
-    pub type_all : n < i → TypeFrom i ≡ true
-    unfolding TypeFrom pick
-    type_all h = rw (lt-leb i n h)
-
-  pub type_none : one_type ≡ TypeFrom 0
-  unfolding same_type type_of
-  type_none = sym (some_left 0 (omega arith))
-
-  module _ (i : ℕ) (la : length a ≡ 9) (lb : length b ≡ 9) (j : ℕ) (r : Bool)
-      (t : r ≡ same_sort (sort_of text tape (get_or a j 0)) (sort_of text tape (get_or b j 0))) where
-    module _ (e : j ≡ i) (h : i < n) (k : n ≤ 9) where
-      pub input_on : r ≡ true → TypeFrom i ≡ TypeFrom (i + 1)
-      input_on g =
-          let f = agree_on text tape a b n i la lb h (omega arith) r (rw e at t) g in
-          some_left i (omega arith) ∙ (rw f) ∙ sym (some_left (i + 1) (omega arith))
-
-      pub input_off : r ≡ false → TypeFrom i ≡ false
-      input_off g = some_left i (omega arith) ∙ rw (agree_off text tape a b n i la lb h (omega arith) r (rw e at t) g)
-
-    module _ (e : j ≡ 8) (h : n ≤ i) (k : i ≤ n) where
-      output_told : TypeFrom i ≡ r
-      output_told = some_left i k ∙ rw (agree_all text tape a b n i la lb h, ← rw e at t)
-
-      pub output_on : r ≡ true → TypeFrom i ≡ TypeFrom (i + 1)
-      output_on g = output_told ∙ g ∙ sym (type_all (i + 1) (omega arith))
-
-      pub output_off : r ≡ false → TypeFrom i ≡ false
-      output_off g = output_told ∙ g
+    pub type_output : (r : Bool) → AgreeFrom text tape a b n i ≡ true → r ≡ same_sort (sort_of text tape (get_or a 8 0)) (sort_of text tape (get_or b 8 0)) → r ≡ one_type
+    unfolding same_type type_of
+    type_output r e t = rw (l, e) t
 
 -- ---- shapes
 
@@ -229,10 +194,10 @@ module _ (text tape : List ℕ) (a b : Row) where
     item_shapes h = rw (← e, h, and-false (same_section (section_of text a.standing) (section_of text b.standing)))
 
     module _ (q : Bool) (f : q ≡ same_origin (origin_of text tape a.origin) (origin_of text tape b.origin)) (h : p ≡ true) where
-      pub item_origins : q ≡ false → false ≡ one_but_name text tape a b
+      pub item_origins : q ≡ false → q ≡ one_but_name text tape a b
       unfolding one_but_name
       item_origins g =
-          rw (← e, h, ← f, g) (sym (and-false (same_section (section_of text a.standing) (section_of text b.standing) && true)))
+          g ∙ rw (← e, h, ← f, g) (sym (and-false (same_section (section_of text a.standing) (section_of text b.standing) && true)))
 
       pub item_standings : (r : Bool) → q ≡ true → r ≡ same_section (section_of text a.standing) (section_of text b.standing)
           → r ≡ one_but_name text tape a b
@@ -250,8 +215,8 @@ module _ (text tape : List ℕ) (a b : Row) where
       go false false z w = refl
 
   module _ (p : Bool) (e : p ≡ same (name_of text a.name) (name_of text b.name)) where
-    pub item_names : p ≡ false → false ≡ one_item (item_of text tape a) (item_of text tape b)
-    item_names h = sym (by_name ∙ rw (← e, h))
+    pub item_names : p ≡ false → p ≡ one_item (item_of text tape a) (item_of text tape b)
+    item_names h = h ∙ sym (by_name ∙ rw (← e, h))
 
     pub item_told : (r : Bool) → p ≡ true → r ≡ one_but_name text tape a b → r ≡ one_item (item_of text tape a) (item_of text tape b)
     item_told r h t = sym (by_name ∙ rw (← e, h, t))

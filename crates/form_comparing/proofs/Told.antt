@@ -3,8 +3,8 @@ use mathlib.Core.Path.{◌≡◌, refl, sym, ap, ◌∙◌}
 use mathlib.Core.Bool.{Bool, true, false, ◌&&◌, and-true, and-false, and_assoc}
 use mathlib.Core.List.{List}
 use Prim.Native.Nat.{ℕ, zero, suc, ◌+◌, ◌-◌, ◌<◌, ◌≤◌}
-use native.Mathlib.Nat.{add-zero}
-use native.Mathlib.Numerals.{add-one, add-two}
+use native.Mathlib.Nat.{add-zero, sub-zero}
+use native.Mathlib.Numerals.{add-two}
 use native.Mathlib.Omega.{arith}
 use lib.Dec.{eqb}
 use Rattle.meaning.specs.Lists.{pick, agree}
@@ -18,37 +18,35 @@ use Rattle.form_rows.specs.Rows.{section_of, origin_of}
 use Rattle.form_rows.specs.Kinds.{kind_at, declared_by}
 use Rattle.form_rows.specs.declared.Origin.{Origin}
 
--- ---- names that follow d and e: those before i and j are the same, and `left` are left
+-- ---- the c names from i and from j on: the first k are the same
 
-pub record Comparing (text tape : List ℕ) (d e c i j left : ℕ) : Type 0 where
-  pub first_end : i + left ≡ d + 1 + c
-  pub second_end : j + left ≡ e + 1 + c
-  pub rest : agree same (names_from text tape (d + 1) c) (names_from text tape (e + 1) c) ≡ agree same (names_from text tape i left) (names_from text tape j left)
+module _ (text tape : List ℕ) (i j c : ℕ) where
+  -- what is left to compare
+  abbrev pub NamesFrom : ℕ → Bool
+  NamesFrom k = agree same (names_from text tape (i + k) (c - k)) (names_from text tape (j + k) (c - k))
 
-pub compare_none : (text tape : List ℕ) (d e c : ℕ) → Comparing text tape d e c (d + 1) (e + 1) c
-compare_none text tape d e c = record { first_end = refl; second_end = refl; rest = refl }
+  pub compare_none : agree same (names_from text tape i c) (names_from text tape j c) ≡ NamesFrom 0
+  compare_none = rw (add-zero i, add-zero j, sub-zero c)
 
-module _ (text tape : List ℕ) (d e c i j left : ℕ) (h : Comparing text tape d e c i j left) where
-  pub compare_end : left ≤ 0 → true ≡ agree same (names_from text tape (d + 1) c) (names_from text tape (e + 1) c)
-  unfolding names_from agree
-  compare_end l = let z : left ≡ 0 = omega arith in sym (h.rest ∙ rw z)
+  module _ (k : ℕ) where
+    pub compare_end : c ≤ k → NamesFrom k ≡ true
+    unfolding names_from agree
+    compare_end l = let z : c - k ≡ 0 = omega arith in rw z
 
-  module _ (r : Bool) (l : 0 < left) (t : r ≡ same (name_at text tape i) (name_at text tape j)) where
-    one_more : left ≡ suc (left - 1)
-    one_more = omega arith
+    module _ (r : Bool) (l : k < c) (t : r ≡ same (name_at text tape (i + k)) (name_at text tape (j + k))) where
+      one_more : c - k ≡ suc (c - (k + 1))
+      one_more = omega arith
 
-    pub compare_on : r ≡ true → Comparing text tape d e c (i + 1) (j + 1) (left - 1)
-    unfolding names_from agree pick
-    compare_on u =
-        let step : agree same (names_from text tape i left) (names_from text tape j left)
-        ≡ agree same (names_from text tape (i + 1) (left - 1)) (names_from text tape (j + 1) (left - 1)) =
-        ap (λ (n : ℕ). agree same (names_from text tape i n) (names_from text tape j n)) one_more ∙ rw (← t, u, add-one i, add-one j) in
-        record { first_end = omega arith; second_end = omega arith; rest = h.rest ∙ step }
+      pub compare_on : r ≡ true → NamesFrom k ≡ NamesFrom (k + 1)
+      unfolding names_from agree pick
+      compare_on u =
+          let x : suc (i + k) ≡ i + (k + 1) = omega arith in
+          let y : suc (j + k) ≡ j + (k + 1) = omega arith in
+          rw (one_more, ← t, u, x, y)
 
-    pub compare_off : r ≡ false → false ≡ agree same (names_from text tape (d + 1) c) (names_from text tape (e + 1) c)
-    unfolding names_from agree pick
-    compare_off u =
-        sym (h.rest ∙ ap (λ (n : ℕ). agree same (names_from text tape i n) (names_from text tape j n)) one_more ∙ rw (← t, u))
+      pub compare_off : r ≡ false → NamesFrom k ≡ false
+      unfolding names_from agree pick
+      compare_off u = rw (one_more, ← t, u)
 
 -- inputs and output are one run of names
 one_run : (text tape : List ℕ) (i j n : ℕ) → agree same (names_from text tape i (suc n)) (names_from text tape j (suc n))
@@ -168,8 +166,8 @@ module _ (text tape : List ℕ) (d e : ℕ) where
   one_declaration h = rw (h, declared_decided.self (declared_at text tape e))
 
   module _ (p : Bool) (c : p ≡ named) where
-    pub declared_names : p ≡ false → false ≡ declared
-    declared_names h = sym (told (kind_at tape d) (kind_at tape e) refl refl ∙ rw (← c, h))
+    pub declared_names : p ≡ false → p ≡ declared
+    declared_names h = h ∙ sym (told (kind_at tape d) (kind_at tape e) refl refl ∙ rw (← c, h))
 
     pub declared_told : (r : Bool) → p ≡ true → (named && r) ≡ declared → r ≡ declared
     declared_told r h g = rw (← c, h) at g
@@ -188,9 +186,9 @@ module _ (text tape : List ℕ) (a b : Origin) where
         (sym (and-false (same (name_of text a.home) (name_of text b.home) && same_section (section_of text a.section) (section_of text b.section))))
 
     module _ (q : Bool) (f : q ≡ same (name_of text a.home) (name_of text b.home)) (h : p ≡ true) where
-      pub origin_homes : q ≡ false → false ≡ one
+      pub origin_homes : q ≡ false → q ≡ one
       unfolding same_origin origin_of
-      origin_homes g = rw (← f, g)
+      origin_homes g = g ∙ rw (← f, g)
 
       pub origin_told : (r : Bool) → q ≡ true → r ≡ same_section (section_of text a.section) (section_of text b.section) → r ≡ one
       unfolding same_origin origin_of

@@ -15,15 +15,10 @@ use form_rows::{Origin, kinds};
 pub fn same_names(library: &[u8], text: &[u8], tape: &[u32], d: u32, e: u32, c: u32) -> bool
     ensures { result ≡ agree same (names_from (joint library.now text.now) tape.now (d + 1) c) (names_from (joint library.now text.now) tape.now (e + 1) c) }
 {
-    let mut i = d as usize + 1;
-    let mut j = e as usize + 1;
-    let mut left = c;
-    while 0 < left {
-        if same_name_at(library, text, tape, i, j) {
-            i += 1;
-            j += 1;
-            left -= 1;
-        } else {
+    let i = d as usize + 1;
+    let j = e as usize + 1;
+    for k in 0..c as usize {
+        if !same_name_at(library, text, tape, i + k, j + k) {
             return false;
         }
     }
@@ -68,27 +63,16 @@ pub fn same_declared(library: &[u8], text: &[u8], tape: &[u32], d: u32, e: u32) 
     if d == e {
         return true;
     }
-    if same_name_at(library, text, tape, d as usize, e as usize) {
-        return same_but_name(library, text, tape, d, e);
-    }
-    false
+    same_name_at(library, text, tape, d as usize, e as usize)
+        && same_but_name(library, text, tape, d, e)
 }
 
 // Are a and b one origin?
 pub fn same_origin(library: &[u8], text: &[u8], tape: &[u32], a: Origin, b: Origin) -> bool
     ensures { result ≡ same_origin (origin_of (joint library.now text.now) tape.now a) (origin_of (joint library.now text.now) tape.now b) }
 {
-    let d = a.place;
-    let e = b.place;
-    if same_declared(library, text, tape, d, e) {
-        let x = a.home;
-        let y = b.home;
-        if same_word(library, text, x, y) {
-            let s = a.section;
-            let t = b.section;
-            return same_section(library, text, s, t);
-        }
+    if !same_declared(library, text, tape, a.place, b.place) {
         return false;
     }
-    false
+    same_word(library, text, a.home, b.home) && same_section(library, text, a.section, b.section)
 }

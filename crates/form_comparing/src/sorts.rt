@@ -15,12 +15,8 @@ use form_rows::{Row, kinds};
 fn same_hidden(library: &[u8], text: &[u8], tape: &[u32], d: u32, e: u32) -> bool
     ensures { result ≡ same_origin (hidden_origin (joint library.now text.now) tape.now d) (hidden_origin (joint library.now text.now) tape.now e) }
 {
-    if same_name_at(library, text, tape, d as usize, e as usize) {
-        let h = home_at(tape, d);
-        let k = home_at(tape, e);
-        return same_word(library, text, h, k);
-    }
-    false
+    same_name_at(library, text, tape, d as usize, e as usize)
+        && same_word(library, text, home_at(tape, d), home_at(tape, e))
 }
 
 // Are a and b one sort?
@@ -50,14 +46,8 @@ pub fn same_sorts(
 ) -> bool
     ensures { result ≡ agree same_sort (map (sort_of (joint library.now text.now) tape.now) (take n a)) (map (sort_of (joint library.now text.now) tape.now) (take n b)) }
 {
-    let mut i = 0;
-    while i < n {
-        if 9 <= i {
-            return true;
-        }
-        if same_sort(library, text, tape, a[i], b[i]) {
-            i += 1;
-        } else {
+    for i in 0..n.min(9) {
+        if !same_sort(library, text, tape, a[i], b[i]) {
             return false;
         }
     }
@@ -68,13 +58,7 @@ pub fn same_sorts(
 pub fn inputs_of(kind: u32) -> usize
     ensures { result ≡ min (kind - 2) 9 }
 {
-    if kind < kinds::FUNCTION {
-        return 0;
-    }
-    if 11 < kind {
-        return 9;
-    }
-    (kind - kinds::FUNCTION) as usize
+    kind.saturating_sub(kinds::FUNCTION).min(9) as usize
 }
 
 // Are the first n sorts of a those of b, in turn, and then the last ones?
@@ -89,16 +73,12 @@ fn same_signature(
     requires { n ≤ 9 }
     ensures { result ≡ same_type (type_of (joint library.now text.now) tape.now n a) (type_of (joint library.now text.now) tape.now n b) }
 {
-    let mut i = 0;
-    while i <= n {
-        let j = if i < n { i } else { 8 };
-        if same_sort(library, text, tape, a[j], b[j]) {
-            i += 1;
-        } else {
+    for i in 0..n {
+        if !same_sort(library, text, tape, a[i], b[i]) {
             return false;
         }
     }
-    true
+    same_sort(library, text, tape, a[8], b[8])
 }
 
 fn same_shapes(
@@ -134,38 +114,23 @@ fn same_shapes(
 pub fn same_shape(library: &[u8], text: &[u8], tape: &[u32], a: Row, b: Row) -> bool
     ensures { result ≡ same_shape (shape_of (joint library.now text.now) tape.now a.kind a.sorts) (shape_of (joint library.now text.now) tape.now b.kind b.sorts) }
 {
-    let k = a.kind;
-    let l = b.kind;
-    let s = a.sorts;
-    let t = b.sorts;
-    same_shapes(library, text, tape, k, s, l, t)
+    same_shapes(library, text, tape, a.kind, a.sorts, b.kind, b.sorts)
 }
 
 // Are a and b one item but for the name?
 fn one_but_name(library: &[u8], text: &[u8], tape: &[u32], a: Row, b: Row) -> bool
     ensures { result ≡ one_but_name (joint library.now text.now) tape.now a b }
 {
-    if same_shape(library, text, tape, a, b) {
-        let o = a.origin;
-        let p = b.origin;
-        if same_origin(library, text, tape, o, p) {
-            let s = a.standing;
-            let t = b.standing;
-            return same_section(library, text, s, t);
-        }
+    if !same_shape(library, text, tape, a, b) {
         return false;
     }
-    false
+    same_origin(library, text, tape, a.origin, b.origin)
+        && same_section(library, text, a.standing, b.standing)
 }
 
 // Are a and b one item?
 pub fn one_item(library: &[u8], text: &[u8], tape: &[u32], a: Row, b: Row) -> bool
     ensures { result ≡ one_item (item_of (joint library.now text.now) tape.now a) (item_of (joint library.now text.now) tape.now b) }
 {
-    let x = a.name;
-    let y = b.name;
-    if same_word(library, text, x, y) {
-        return one_but_name(library, text, tape, a, b);
-    }
-    false
+    same_word(library, text, a.name, b.name) && one_but_name(library, text, tape, a, b)
 }

@@ -5,13 +5,12 @@ use mathlib.Core.List.{List, [], ◌∷◌}
 use Prim.Native.Nat.{ℕ, suc, ◌+◌, ◌*◌, ◌≤◌, ◌<◌}
 use native.Mathlib.Omega.{arith}
 use native.Mathlib.Nat.{eq-or-lt_of_le}
-use native.Mathlib.Numerals.{add-one, add-two}
 use borrow.Author.Rules.{rules}
-use lib.ListN.{length, get_or, set}
+use lib.ListN.{length, get_or}
 use lib.Seq.{sets}
 use Rattle.form.specs.declared.Form.{Form}
 use Rattle.form.specs.Memory.{Kept}
-use Rattle.form.specs.FormLaws.{kept_all, kept_sets}
+use Rattle.form.specs.FormLaws.{kept_sets}
 use Rattle.form.specs.Forms.{form_size}
 use Rattle.form_frames.specs.Changes.{onward, wider}
 use Rattle.form_keeping.specs.Keeping.{form_at, form_words, nothing_at, Cleared, form_back, form_same}
@@ -34,15 +33,6 @@ pub form_read : (w : List ℕ) (b p pn v vn h hn e en s sn : ℕ) → p ≡ get_
 unfolding form_at
 form_read w b p pn v vn h hn e en s sn c₀ c₁ c₂ c₃ c₄ c₅ c₆ c₇ c₈ c₉ = rw (c₀, c₁, c₂, c₃, c₄, c₅, c₆, c₇, c₈, c₉)
 
-pub form_placed : (w : List ℕ) (b p : ℕ) (r : Form) → b ≡ p → r ≡ form_at w b → r ≡ form_at w p
-form_placed w b p r e h = rw (← e) h
-
-pub two_put : (w w₁ w₂ : List ℕ) (b x y : ℕ) → w₁ ≡ set w b x → w₂ ≡ set w₁ (b + 1) y → w₂ ≡ sets w b (x ∷ y ∷ [])
-two_put w w₁ w₂ b x y e f = rw (f, e, add-one b)
-
-pub four_put : (w w₁ w₂ : List ℕ) (b v x y z : ℕ) → w₁ ≡ sets w b (v ∷ x ∷ []) → w₂ ≡ sets w₁ (b + 2) (y ∷ z ∷ []) → w₂ ≡ sets w b (v ∷ x ∷ y ∷ z ∷ [])
-four_put w w₁ w₂ b v x y z e f = rw (f, e, add-two b)
-
 pub form_written : (w w₁ w₂ w₃ : List ℕ) (table k b : ℕ) (f : Form) → b ≡ table + k * form_size
     → w₁ ≡ sets w b (f.parameters ∷ f.parameter_count ∷ f.visible ∷ f.visible_count ∷ [])
     → w₂ ≡ sets w₁ (b + 4) (f.hidden ∷ f.hidden_count ∷ f.equations ∷ f.equation_count ∷ [])
@@ -61,14 +51,6 @@ pub record Clearing (table n start : ℕ) (w₀ w : List ℕ) (k : ℕ) (f : For
   pub room : table + n * form_size ≤ length w₀
   pub nothing : f ≡ nothing_at start
   pub cleared : Cleared table k start w₀ w
-
-pub cleared_none : (table n start : ℕ) (w : List ℕ) (f : Form) → table + n * form_size ≤ length w → f ≡ nothing_at start → Clearing table n start w w 0 f
-cleared_none table n start w f room e = record {
-  inside = omega arith;
-  room = room;
-  nothing = e;
-  cleared = record { rows = λ k h. absurd (omega arith); kept = kept_all table (table + 0 * form_size) w };
-}
 
 pub cleared_one : (table n k start : ℕ) (w w₁ w₂ : List ℕ) (f : Form) → k < n → w₂ ≡ sets w₁ (table + k * form_size) (form_words f)
     → Clearing table n start w w₁ k f → Clearing table n start w w₂ (k + 1) f
@@ -91,17 +73,4 @@ cleared_one table n k start w w₁ w₂ f less put s =
       };
     }
 
-pub cleared_all : (table n start k : ℕ) (w w₁ : List ℕ) (f : Form) → n ≤ k → Clearing table n start w w₁ k f → Cleared table n start w w₁
-cleared_all table n start k w w₁ f h s =
-    let l = s.inside in
-    let e : k ≡ n = omega arith in
-    (rw e at s).cleared
-
-pub cleared_size : (table n start k : ℕ) (w w₁ : List ℕ) (f : Form) → Clearing table n start w w₁ k f → length w₁ ≡ length w
-cleared_size table n start k w w₁ f s = s.cleared.kept.size
-
-pub ruleset forms = (form_read, form_placed, two_put, four_put, form_written)
-
-pub ruleset clearing = (cleared_none, cleared_one, cleared_all, cleared_size)
-
-pub ruleset cases = (forms, clearing, rules)
+pub ruleset cases = (form_read, form_written, cleared_one, rules)

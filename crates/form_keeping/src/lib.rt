@@ -119,9 +119,7 @@ pub fn clear_forms(w: &mut [u32], table: u32, n: u32, kept: u32)
     ensures { Cleared table n kept w.old w.new }
 {
     let nothing = nothing_at(kept);
-    let mut k = 0;
-    while k < n {
+    for k in 0..n {
         write_form(w, table, k, nothing);
-        k += 1;
     }
 }

@@ -63,6 +63,7 @@ fn find_place(library: &[u8], text: &[u8], w: &[u32], b: u32, s: u32, p: u32, n:
 {
     let mut lo = 0;
     let mut hi = n;
+    // a while: the search halves what is left, from either end
     while lo < hi {
         let mid = middle(lo, hi);
         if comes_before(library, text, w, b, s, p, mid, x) {
@@ -80,10 +81,8 @@ pub fn insert_word(w: &mut [u32], a: usize, e: usize, v: u32)
     requires e_in_bounds { e < length w.old }
     ensures { Inserted a e v w.old w.new }
 {
-    let mut k = e;
-    while a < k {
-        w[k] = w[k - 1];
-        k -= 1;
+    for k in (a..e).rev() {
+        w[k + 1] = w[k];
     }
     w[a] = v;
 }
@@ -110,9 +109,7 @@ pub fn order_names(library: &[u8], text: &[u8], work: &mut [u32], b: u32, s: u32
     requires names_apart { NamesApart b s p n }
     ensures { PutInOrder (joint library.now text.now) work.old work.new b s p n }
 {
-    let mut r = 0;
-    while r < n {
+    for r in 0..n {
         order_name(library, text, work, b, s, p, r);
-        r += 1;
     }
 }

@@ -2,9 +2,10 @@
 use mathlib.Core.Path.{◌≡◌, refl, sym, ◌∙◌}
 use mathlib.Core.Bool.{Bool, true, false}
 use mathlib.Core.List.{List}
-use Prim.Native.Nat.{ℕ, zero, suc, ◌+◌, ◌-◌, ◌<◌, ◌≤◌}
+use Prim.Native.Nat.{ℕ, zero, suc, ◌+◌, ◌-◌, ◌<◌, ◌≤◌, max}
 use native.Mathlib.Omega.{arith}
 use native.Mathlib.Numerals.{add-one}
+use lib.Dec.{eqb}
 use lib.ListN.{get_or, set, length, get_or-eq_default}
 use lib.Seq.{set_out}
 use borrow.Author.Tests.{eq-eqb, ne_eqb}
@@ -38,28 +39,41 @@ names_there text tape i j x y r a b h = rw (← a, ← b) h
 
 -- ---- back to the last place with a role, forward to the next
 
-module _ (role : ℕ) (t : List ℕ) (j r : ℕ) (e : r ≡ role_at t j) where
-  pub last_here : 0 < j → r ≡ role → last_with role t j ≡ j
+-- the place is one below what is left
+module _ (role : ℕ) (t : List ℕ) (j r : ℕ) (e : r ≡ role_at t (j - 1 + 1)) where
+  pub last_here : 0 < j → r ≡ role → last_with role t j ≡ j - 1 + 1
   unfolding last_with pick
   last_here h q = go j h e
     where
-      go : (k : ℕ) → 0 < k → r ≡ role_at t k → last_with role t k ≡ k
+      go : (k : ℕ) → 0 < k → r ≡ role_at t (k - 1 + 1) → last_with role t k ≡ k - 1 + 1
       go zero h f = omega arith
-      go (suc k) h f = rw (eq-eqb (role_at t (suc k)) role (sym f ∙ q))
+      go (suc k) h f =
+          let s : suc k - 1 + 1 ≡ suc k = omega arith in
+          rw (s, eq-eqb (role_at t (suc k)) role (sym (rw s at f) ∙ q))
 
   pub last_on : 0 < j → (r ≡ role → ⊥) → last_with role t j ≡ last_with role t (j - 1)
   unfolding last_with pick
   last_on h q = go j h e
     where
-      go : (k : ℕ) → 0 < k → r ≡ role_at t k → last_with role t k ≡ last_with role t (k - 1)
+      go : (k : ℕ) → 0 < k → r ≡ role_at t (k - 1 + 1) → last_with role t k ≡ last_with role t (k - 1)
       go zero h f = refl
       go (suc k) h f =
           let s : suc k - 1 ≡ k = omega arith in
-          rw (s, ne_eqb (role_at t (suc k)) role (λ u. q (f ∙ u)))
+          let n : suc k - 1 + 1 ≡ suc k = omega arith in
+          rw (s, ne_eqb (role_at t (suc k)) role (λ u. q (rw n at f ∙ u)))
 
 pub last_none : (role : ℕ) (t : List ℕ) (j : ℕ) → j ≤ 0 → last_with role t j ≡ 0
 unfolding last_with
 last_none role t j h = let z : j ≡ 0 = omega arith in rw z
+
+next_within : (role : ℕ) (t : List ℕ) (c i : ℕ) → next_with role t i c ≤ i + c
+unfolding next_with pick
+next_within role t zero i = omega arith
+next_within role t (suc c) i = go (eqb (role_at t i) role) (next_within role t c (suc i))
+  where
+    go : (b : Bool) → next_with role t (suc i) c ≤ suc i + c → pick b i (next_with role t (suc i) c) ≤ i + suc c
+    go true h = omega arith
+    go false h = omega arith
 
 module _ (role : ℕ) (t : List ℕ) (j end : ℕ) where
   -- one place more, where one is left
@@ -75,9 +89,13 @@ module _ (role : ℕ) (t : List ℕ) (j end : ℕ) where
     unfolding next_with pick
     next_on q = rw (one_left h, ne_eqb (role_at t j) role (λ u. q (e ∙ u)), add-one)
 
-  pub next_none : end ≤ j → next_with role t j (end - j) ≡ j
+  -- none has the role: the scan ends behind the last place, or where it began if there is none
+  pub next_none : (i m : ℕ) → next_with role t i (end - i) ≡ next_with role t j (end - j) → i ≤ j → end ≤ j → m ≡ max i end → m ≡ next_with role t i (end - i)
   unfolding next_with
-  next_none h = let z : end - j ≡ 0 = omega arith in rw z
+  next_none i m e h l f =
+      let z : end - j ≡ 0 = omega arith in
+      let s : next_with role t j (end - j) ≡ j = rw z in
+      omega (arith, next_within role t (end - i) i)
 
 -- ---- inputs from i on: those up to j are counted
 
@@ -92,12 +110,12 @@ module _ (t : List ℕ) (i end j : ℕ) (h : Counted t i end j) where
   pub count_within : i ≤ j
   count_within = h.from
 
-  pub count_end : end ≤ j → j - i ≡ inputs_from t i (end - i)
+  pub count_end : end ≤ j → end - i ≡ inputs_from t i (end - i)
   unfolding inputs_from
   count_end l =
       let z : end - j ≡ 0 = omega arith in
       let s : inputs_from t j (end - j) ≡ 0 = rw z in
-      omega arith
+      omega (arith, h.rest, inputs_short t i (end - i))
 
   module _ (r : ℕ) (e : r ≡ role_at t j) (l : j < end) where
     pub count_on : r ≡ input_role → Counted t i end (j + 1)

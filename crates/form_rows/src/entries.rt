@@ -26,7 +26,6 @@ pub fn put_word(t: &mut [u32], i: usize, v: u32)
 {
     if i < t.len() {
         t[i] = v;
-        return;
     }
 }
 
@@ -44,10 +43,7 @@ pub fn put_three(t: &mut [u32], b: usize, x: u32, y: u32, z: u32)
 pub fn same_word(library: &[u8], text: &[u8], a: u32, b: u32) -> bool
     ensures { result ≡ same (name_of (joint library.now text.now) a) (name_of (joint library.now text.now) b) }
 {
-    if a == b {
-        return true;
-    }
-    same_name(library, text, a, b)
+    a == b || same_name(library, text, a, b)
 }
 
 // What stands at i.
@@ -75,12 +71,10 @@ pub fn same_name_at(library: &[u8], text: &[u8], tape: &[u32], i: usize, j: usiz
 pub fn last_with(tape: &[u32], role: u32, i: usize) -> usize
     ensures { result ≡ last_with role tape.now i }
 {
-    let mut j = i;
-    while 0 < j {
-        if role_at(tape, j) == role {
-            return j;
+    for j in (0..i).rev() {
+        if role_at(tape, j + 1) == role {
+            return j + 1;
         }
-        j -= 1;
     }
     0
 }
@@ -89,59 +83,44 @@ pub fn last_with(tape: &[u32], role: u32, i: usize) -> usize
 pub fn next_with(tape: &[u32], role: u32, i: usize, end: usize) -> usize
     ensures { result ≡ next_with role tape.now i (end - i) }
 {
-    let mut j = i;
-    while j < end {
+    for j in i..end {
         if role_at(tape, j) == role {
             return j;
         }
-        j += 1;
     }
-    j
+    i.max(end)
 }
 
 // How many inputs stand from i on, before `end`.
 pub fn inputs_from(tape: &[u32], i: usize, end: usize) -> usize
     ensures { result ≡ inputs_from tape.now i (end - i) }
 {
-    let mut j = i;
-    while j < end {
-        if role_at(tape, j) == roles::INPUT {
-            j += 1;
-        } else {
+    for j in i..end {
+        if role_at(tape, j) != roles::INPUT {
             return j - i;
         }
     }
-    j - i
+    end.saturating_sub(i)
 }
 
 pub fn is_function_role(role: u32) -> bool
     ensures { result ≡ is_function_role role }
 {
-    if role == roles::PARAMETER_FUNCTION {
-        return true;
-    }
-    if role == roles::EXPORT_FUNCTION {
-        return true;
-    }
-    role == roles::HIDDEN_FUNCTION
+    role == roles::PARAMETER_FUNCTION
+        || role == roles::EXPORT_FUNCTION
+        || role == roles::HIDDEN_FUNCTION
 }
 
 pub fn is_parameter_role(role: u32) -> bool
     ensures { result ≡ is_parameter_role role }
 {
-    if role == roles::PARAMETER_SORT {
-        return true;
-    }
-    role == roles::PARAMETER_FUNCTION
+    role == roles::PARAMETER_SORT || role == roles::PARAMETER_FUNCTION
 }
 
 pub fn is_export_role(role: u32) -> bool
     ensures { result ≡ is_export_role role }
 {
-    if role == roles::EXPORT_SORT {
-        return true;
-    }
-    role == roles::EXPORT_FUNCTION
+    role == roles::EXPORT_SORT || role == roles::EXPORT_FUNCTION
 }
 
 // How many inputs the function declared at d has.

@@ -21,10 +21,8 @@ fn read_sorts(w: &[u32], b: usize) -> [u32; 9]
     ensures { result ≡ words_from w.now b 9 }
 {
     let mut sorts = [0; 9];
-    let mut i = 0;
-    while i < 9 {
+    for i in 0..9 {
         sorts[i] = word_at(w, b + i);
-        i += 1;
     }
     sorts
 }
@@ -66,10 +64,8 @@ fn write_sorts(w: &mut [u32], b: usize, sorts: [u32; 9])
     requires { b < 2 ^ 40 }
     ensures { w.new ≡ sets w.old b sorts }
 {
-    let mut i = 0;
-    while i < 9 {
+    for i in 0..9 {
         put_word(w, b + i, sorts[i]);
-        i += 1;
     }
 }
 

@@ -11,21 +11,10 @@ use form_sections::Section;
 pub fn same_section(library: &[u8], text: &[u8], a: Section, b: Section) -> bool
     ensures { result ≡ same_section (section_of (joint library.now text.now) a) (section_of (joint library.now text.now) b) }
 {
-    match a {
-        Section::Export => match b {
-            Section::Export => true,
-            Section::Hidden => false,
-            Section::Parameter(_) => false,
-        },
-        Section::Hidden => match b {
-            Section::Export => false,
-            Section::Hidden => true,
-            Section::Parameter(_) => false,
-        },
-        Section::Parameter(p) => match b {
-            Section::Export => false,
-            Section::Hidden => false,
-            Section::Parameter(q) => same_word(library, text, p, q),
-        },
+    match (a, b) {
+        (Section::Export, Section::Export) => true,
+        (Section::Hidden, Section::Hidden) => true,
+        (Section::Parameter(p), Section::Parameter(q)) => same_word(library, text, p, q),
+        _ => false,
     }
 }

@@ -19,7 +19,7 @@ pub fn section_word(s: Section) -> u32
     match s {
         Section::Export => 0,
         Section::Hidden => 1,
-        Section::Parameter(p) => { if p < 4294967294 { p + 2 } else { 1 } }
+        Section::Parameter(p) => p.checked_add(2).unwrap_or(1),
     }
 }
 
@@ -27,11 +27,9 @@ pub fn section_word(s: Section) -> u32
 pub fn word_section(w: u32) -> Section
     ensures { result ≡ word_section w }
 {
-    if w == 0 {
-        return Section::Export;
+    match w {
+        0 => Section::Export,
+        1 => Section::Hidden,
+        _ => Section::Parameter(w - 2),
     }
-    if w == 1 {
-        return Section::Hidden;
-    }
-    Section::Parameter(w - 2)
 }

@@ -2,7 +2,7 @@
 use mathlib.Core.Path.{◌≡◌, refl, sym, ap, ap₂, ◌∙◌}
 use mathlib.Core.Bool.{Bool, true, false}
 use mathlib.Core.List.{List}
-use Prim.Native.Nat.{ℕ, suc, ◌+◌, ◌-◌, ◌*◌, ◌≤◌, ◌<◌}
+use Prim.Native.Nat.{ℕ, zero, suc, ◌+◌, ◌-◌, ◌*◌, ◌≤◌, ◌<◌, max}
 use native.Mathlib.Omega.{arith}
 use borrow.Author.Rules.{rules}
 use borrow.Author.Tests.{lt-ltb, le-ltb, eq-eqb, ne_eqb}
@@ -72,11 +72,22 @@ pub walk_stop : (least : ℕ) (tape : List ℕ) (end i j role : ℕ) (b : Bool) 
 unfolding pick
 walk_stop least tape end i j role b h q e t w = sym (w.same ∙ run_step least tape j false (sym (sym t ∙ e ∙ ap (runs least) q)) (rw w.whole at h))
 
-pub walk_end : (least : ℕ) (tape : List ℕ) (end i j : ℕ) → end ≤ j → Walking least tape end i j → j ≡ run_end least tape i (length tape - i)
+run_within : (least : ℕ) (tape : List ℕ) (c j : ℕ) → run_end least tape j c ≤ j + c
+unfolding run_end pick
+run_within least tape zero j = omega arith
+run_within least tape (suc c) j = go (runs least (role_at tape j)) (run_within least tape c (suc j))
+  where
+    go : (b : Bool) → run_end least tape (suc j) c ≤ suc j + c → pick b (run_end least tape (suc j) c) j ≤ j + suc c
+    go true h = omega arith
+    go false h = omega arith
+
+pub walk_end : (least : ℕ) (tape : List ℕ) (end i j r : ℕ) → end ≤ j → i ≤ j → r ≡ max i end → Walking least tape end i j
+    → r ≡ run_end least tape i (length tape - i)
 unfolding run_end
-walk_end least tape end i j h w =
+walk_end least tape end i j r h l e w =
     let z : length tape - j ≡ 0 = omega (arith, w.whole) in
-    sym (w.same ∙ ap (run_end least tape j) z)
+    let s : run_end least tape j (length tape - j) ≡ j = rw z in
+    omega (arith, w.whole, w.same, run_within least tape (length tape - i) i)
 
 -- ---- clauses
 

@@ -1,5 +1,5 @@
 -- What the clauses of an import expression ask of the memory, and what comes of them (meaning/specs/Evaluate.antt, `clause`, `clauses`).
-use Rattle.std.specs.Prelude.{◌≡◌, Bool, not, ℕ, zero, suc, ◌+◌, ◌-◌, ◌≤◌, ◌<◌, leb, ltb, drop}
+use Rattle.std.specs.Prelude.{◌≡◌, Bool, not, ℕ, zero, suc, ◌+◌, ◌-◌, ◌≤◌, ◌<◌, leb, ltb, drop, Ok, Err}
 use Rattle.std.proofs.Math.Path.{refl, subst}
 use Rattle.std.proofs.Common.{sym, ap, ◌∙◌, arith, le_trans, length-append, length-take}
 use Rattle.std.proofs.Math.Bool.{true, false}
@@ -21,14 +21,12 @@ use Rattle.tape.specs.Tape.{entry, flat_pair, renamed_role, bound_role, old_role
 use Rattle.form_rows.specs.Entries.{role_at, word_at, name_at}
 use Rattle.form.specs.declared.Form.{Form}
 use Rattle.form.specs.declared.Block.{Block}
-use Rattle.form.specs.declared.Culprit.{Culprit}
-use Rattle.form.specs.declared.Made.{Made}
-use Rattle.form.specs.declared.Made.TheVariants.{Done, Refused}
+use Rattle.form.specs.declared.Refusal.{Refusal}
 use Rattle.form.specs.Memory.{part, Kept}
 use Rattle.form.specs.Forms.{Stands}
 use Rattle.form.specs.FormLaws.{kept_all}
 use Rattle.form.specs.Blocks.{BlockLaid, Outside, Fits, Makes, MadeThere, MadeIn}
-use Rattle.form.specs.Verdicts.{culprit_of}
+use Rattle.form.specs.Verdicts.{Made, culprit_of}
 use Rattle.form_frames.specs.Changes.{onward, wider, tape_kept}
 use Rattle.clause_pairs.specs.Pairs.{pairs_at}
 use Rattle.modules.specs.Modules.{declared, Heads}
@@ -104,8 +102,8 @@ module _ (text : List ℕ) (t : ℕ) (w : List ℕ) (h : Heads) where
         → EnvStands text tape_of w names_of env → Stands text tape_of w g n → Makes text (part w' 0 t) w' r (clause env c n)
 
   abbrev pub Sourced : ℕ → Made → Type 0
-  Sourced size (Done f) = Source size f
-  Sourced size (Refused k x) = Unit {0}
+  Sourced size (Ok f) = Source size f
+  Sourced size (Err x) = Unit {0}
 
   pub record ClausesMade (left i : ℕ) (g : Form) (r : Made) (w' : List ℕ) : Type 0 where
     pub kept : Kept first_block.low second_block.high w w'
@@ -417,11 +415,11 @@ end_small least w t i end e h l = omega (arith, run_bounds least (part w 0 t) (l
 module _ (text : List ℕ) (t : ℕ) (w : List ℕ) (h : Heads) (left i : ℕ) (g : Form) where
   -- there are no clauses, or none is looked at
   done_here : (cs : List Clause) → cs ≡ [] → (env : List Evaluated) (n : Normal) → Stands text (part w 0 t) w g n
-      → Makes text (part w 0 t) w (Done g) (clauses env cs n)
+      → Makes text (part w 0 t) w (Ok g) (clauses env cs n)
   unfolding clauses
-  done_here cs e env n s = makes_as text (part w 0 t) w (Done g) (fine n) (clauses env cs n) (ap (λ (ds : List Clause). clauses env ds n) e) s
+  done_here cs e env n s = makes_as text (part w 0 t) w (Ok g) (fine n) (clauses env cs n) (ap (λ (ds : List Clause). clauses env ds n) e) s
 
-  clauses_spent : (first : Bool) → left ≤ 0 → ClausesRoom w t h i g first → ClausesMade text t w h left i g (Done g) w
+  clauses_spent : (first : Bool) → left ≤ 0 → ClausesRoom w t h i g first → ClausesMade text t w h left i g (Ok g) w
   clauses_spent first e c = record {
     kept = kept_all first_block.low second_block.high w;
     source = c.source;
@@ -432,7 +430,7 @@ module _ (text : List ℕ) (t : ℕ) (w : List ℕ) (h : Heads) (left i : ℕ) (
       empty [] l = refl
       empty (d ∷ cs) l = absurd (omega arith)
 
-  clauses_over : (first b : Bool) → b ≡ starts_clause (part w 0 t) i → b ≡ false → ClausesRoom w t h i g first → ClausesMade text t w h left i g (Done g) w
+  clauses_over : (first b : Bool) → b ≡ starts_clause (part w 0 t) i → b ≡ false → ClausesRoom w t h i g first → ClausesMade text t w h left i g (Ok g) w
   clauses_over first b told over c = record {
     kept = kept_all first_block.low second_block.high w;
     source = c.source;
@@ -462,21 +460,21 @@ module _ (text : List ℕ) (t : ℕ) (w : List ℕ) (h : Heads) (left i : ℕ) (
         let there = clause_there text (part w 0 t) i d cs k in
         x.made d env n there (at ∙ clause_ends text (part w 0 t) i d there (starts_within (part w 0 t) i starts)) v s
 
-    clauses_refused : (j : ℕ) (y : Culprit) → r ≡ Refused j y → ClausesMade text t w h left i g (Refused j y) w₁
+    clauses_refused : (y : Refusal) → r ≡ Err y → ClausesMade text t w h left i g (Err y) w₁
     unfolding clauses
-    clauses_refused j y e = record { kept = wide; source = tt; made = go }
+    clauses_refused y e = record { kept = wide; source = tt; made = go }
       where
         go : (cs : List Clause) (env : List Evaluated) (n : Normal) → ClausesAt text (part w 0 t) i cs → length cs ≤ left
             → EnvStands text (part w 0 t) w (names_of text t w h) env → Stands text (part w 0 t) w g n
-            → Makes text (part w₁ 0 t) w₁ (Refused j y) (clauses env cs n)
+            → Makes text (part w₁ 0 t) w₁ (Err y) (clauses env cs n)
         go [] env n k l v s = absurd (false≢true (sym (none_there text (part w 0 t) i k) ∙ starts))
         go (d ∷ cs) env n k l v s =
             let m = subst (λ (z : Made). Makes text (part w₁ 0 t) w₁ z (clause env d n)) e (at_first d cs env n k v s) in
-            refused_makes text (part w₁ 0 t) w₁ j y (clauses env (d ∷ cs) n)
-            (then_stops (clause env d n) (λ (z : Normal). clauses env cs z) j (culprit_of text y) (refused_outcome text (part w₁ 0 t) w₁ j y (clause env d n) m))
+            refused_makes text (part w₁ 0 t) w₁ y (clauses env (d ∷ cs) n)
+            (then_stops (clause env d n) (λ (z : Normal). clauses env cs z) y.number (culprit_of text y.culprit) (refused_outcome text (part w₁ 0 t) w₁ y (clause env d n) m))
 
     -- the clauses behind it, of the form that it made
-    module _ (f : Form) (e : r ≡ Done f) where
+    module _ (f : Form) (e : r ≡ Ok f) where
       there : MadeThere (turn_block first) f
       there = subst (MadeIn (turn_block first)) e x.made_in
 
@@ -533,18 +531,18 @@ module _ (text : List ℕ) (t : ℕ) (w₀ : List ℕ) (h : Heads) (all start : 
   clauses_start first c = record { size = refl; room = c; goes_on = λ r w' x. x }
 
   module _ (left i : ℕ) (g : Form) (first : Bool) (w : List ℕ) (v : ClausesGoing text t w₀ h all start source left i g first w) where
-    pub clauses_ended : left ≤ 0 → ClausesMade text t w₀ h all start source (Done g) w
-    clauses_ended e = v.goes_on (Done g) w (clauses_spent text t w h left i g first e v.room)
+    pub clauses_ended : left ≤ 0 → ClausesMade text t w₀ h all start source (Ok g) w
+    clauses_ended e = v.goes_on (Ok g) w (clauses_spent text t w h left i g first e v.room)
 
-    pub clauses_none : (b : Bool) → b ≡ starts_clause (part w 0 t) i → b ≡ false → ClausesMade text t w₀ h all start source (Done g) w
-    clauses_none b told over = v.goes_on (Done g) w (clauses_over text t w h left i g first b told over v.room)
+    pub clauses_none : (b : Bool) → b ≡ starts_clause (part w 0 t) i → b ≡ false → ClausesMade text t w₀ h all start source (Ok g) w
+    clauses_none b told over = v.goes_on (Ok g) w (clauses_over text t w h left i g first b told over v.room)
 
     module _ (b : Bool) (end : ℕ) (w₁ : List ℕ) (r : Made) (told : b ≡ starts_clause (part w 0 t) i) (goes : b ≡ true)
         (at : end ≡ run_end 14 (part w 0 t) (i + 1) (length (part w 0 t) - (i + 1))) (x : ClauseMade text t w h i end g (turn_block first) r w₁) where
-      pub clauses_stop : (j : ℕ) (y : Culprit) → r ≡ Refused j y → ClausesMade text t w₀ h all start source (Refused j y) w₁
-      clauses_stop j y e = v.goes_on (Refused j y) w₁ (clauses_refused text t w h left i g first b end w₁ r told goes at v.room x j y e)
+      pub clauses_stop : (y : Refusal) → r ≡ Err y → ClausesMade text t w₀ h all start source (Err y) w₁
+      clauses_stop y e = v.goes_on (Err y) w₁ (clauses_refused text t w h left i g first b end w₁ r told goes at v.room x y e)
 
-      pub clauses_again : (f : Form) (next : Bool) → r ≡ Done f → next ≡ not first → ClausesGoing text t w₀ h all start source (left - 1) end f next w₁
+      pub clauses_again : (f : Form) (next : Bool) → r ≡ Ok f → next ≡ not first → ClausesGoing text t w₀ h all start source (left - 1) end f next w₁
       clauses_again f next e o = record {
         size = x.kept.size ∙ v.size;
         room = next_room text t w h left i g first b end w₁ r told goes at v.room x f e next o;

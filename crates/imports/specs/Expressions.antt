@@ -1,5 +1,5 @@
 -- The import expressions of a module, and their results united with what there is so far (meaning/specs/Evaluate.antt, `expressions`, `united`).
-use Rattle.std.specs.Prelude.{◌≡◌, refl, Bool, true, false, ℕ, ◌+◌, ◌-◌, ◌≤◌, ◌<◌, leb}
+use Rattle.std.specs.Prelude.{◌≡◌, refl, Bool, true, false, ℕ, ◌+◌, ◌-◌, ◌≤◌, ◌<◌, leb, Ok, Err}
 use Rattle.std.proofs.Common.{sym, ap, ◌∙◌, arith, le_trans, leb-true, leb-false}
 use Rattle.std.proofs.Math.Path.{subst}
 use Rattle.std.proofs.lemmas.Bool.{false≢true}
@@ -16,14 +16,12 @@ use Rattle.tape.specs.Tape.{flat_clause, import_role}
 use Rattle.form_rows.specs.Entries.{role_at, name_at}
 use Rattle.form.specs.declared.Form.{Form}
 use Rattle.form.specs.declared.Block.{Block}
-use Rattle.form.specs.declared.Culprit.{Culprit}
-use Rattle.form.specs.declared.Made.{Made}
-use Rattle.form.specs.declared.Made.TheVariants.{Done, Refused}
+use Rattle.form.specs.declared.Refusal.{Refusal}
 use Rattle.form.specs.Memory.{part, Kept}
 use Rattle.form.specs.Forms.{Stands}
 use Rattle.form.specs.FormLaws.{kept_all}
 use Rattle.form.specs.Blocks.{Makes, MadeThere, MadeIn}
-use Rattle.form.specs.Verdicts.{culprit_of}
+use Rattle.form.specs.Verdicts.{Made, refusal, culprit_of}
 use Rattle.form_frames.specs.Changes.{onward, wider, tape_kept, still_stands}
 use Rattle.modules.specs.Modules.{declared, Heads}
 use Rattle.form_layout.specs.Layout.{block_at, joining_block, first_block, second_block, kept_start, table_start, Laid}
@@ -132,7 +130,7 @@ joined_between size t f l m =
 
 -- ---- one union
 
-pub join_room : (size t : ℕ) (g f : Form) (b : Block) (so_far : Made) → b ≡ joining_block → so_far ≡ Done f → UnionRoom size t g so_far → JoinRoom size t g f b
+pub join_room : (size t : ℕ) (g f : Form) (b : Block) (so_far : Made) → b ≡ joining_block → so_far ≡ Ok f → UnionRoom size t g so_far → JoinRoom size t g f b
 join_room size t g f b so_far e q c =
     rw e (record {
       room = joining_room size t c.laid;
@@ -142,17 +140,17 @@ join_room size t g f b so_far e q c =
       there = subst (MadeIn joining_block) q c.there;
     })
 
-pub union_waits : (text : List ℕ) (t : ℕ) (w : List ℕ) (g : Form) (so_far : Made) (k : ℕ) (x : Culprit) → so_far ≡ Refused k x → UnionMade text t w g so_far (Refused k x) w
-union_waits text t w g so_far k x e = record {
+pub union_waits : (text : List ℕ) (t : ℕ) (w : List ℕ) (g : Form) (so_far : Made) (x : Refusal) → so_far ≡ Err x → UnionMade text t w g so_far (Err x) w
+union_waits text t w g so_far x e = record {
   kept = kept_all joining_block.low joining_block.high w;
   made_in = tt;
   made = λ n o s m.
-      refused_makes text (part w 0 t) w k x (o >>= λ u. checked (unite u n))
-      (then_stops o (λ (u : Normal). checked (unite u n)) k (culprit_of text x)
-      (refused_outcome text (part w 0 t) w k x o (subst (λ (z : Made). Makes text (part w 0 t) w z o) e m)));
+      refused_makes text (part w 0 t) w x (o >>= λ u. checked (unite u n))
+      (then_stops o (λ (u : Normal). checked (unite u n)) x.number (culprit_of text x.culprit)
+      (refused_outcome text (part w 0 t) w x o (subst (λ (z : Made). Makes text (part w 0 t) w z o) e m)));
 }
 
-pub union_joins : (text : List ℕ) (t : ℕ) (w w' : List ℕ) (g f : Form) (b : Block) (so_far r : Made) → b ≡ joining_block → so_far ≡ Done f
+pub union_joins : (text : List ℕ) (t : ℕ) (w w' : List ℕ) (g f : Form) (b : Block) (so_far r : Made) → b ≡ joining_block → so_far ≡ Ok f
     → JoinedForm text t w g f b r w' → UnionMade text t w g so_far r w'
 union_joins text t w w' g f b so_far r e q y =
     let j : JoinedForm text t w g f joining_block r w' = subst (λ (z : Block). JoinedForm text t w g f z r w') e y in
@@ -274,34 +272,34 @@ module _ (text : List ℕ) (t : ℕ) (w : List ℕ) (h : Heads) (i : ℕ) (so_fa
       wide : Kept joining_block.low second_block.high w w₁
       wide = wider (omega (arith, joining_low)) x.kept
 
-      imports_refused : (left j : ℕ) (y : Culprit) → r ≡ Refused j y → ImportsMade text t w h left i so_far (Refused j y) w₁
+      imports_refused : (left : ℕ) (y : Refusal) → r ≡ Err y → ImportsMade text t w h left i so_far (Err y) w₁
       unfolding expressions
-      imports_refused left j y e = record { kept = wide; made_in = tt; made = go }
+      imports_refused left y e = record { kept = wide; made_in = tt; made = go }
         where
           go : (is : List Import) (env : List Evaluated) (o : Outcome Normal) → ImportsAt text (part w 0 t) i is → length is ≤ left → Every FewClauses is
               → EnvStands text (part w 0 t) w (declared text (part w 0 t) h) env → Makes text (part w 0 t) w so_far o
-              → Makes text (part w₁ 0 t) w₁ (Refused j y) (expressions env is >>= onto o)
+              → Makes text (part w₁ 0 t) w₁ (Err y) (expressions env is >>= onto o)
           go [] env o k l f v m = absurd (none_imported text (part w 0 t) i k (sym told ∙ goes))
           go (z ∷ is) env o k l f v m =
               let one = clauses env z.clauses (normal_of env z.name) in
               let s = subst (λ (q : Made). Makes text (part w₁ 0 t) w₁ q one) e (x.made z env (import_there text (part w 0 t) i z is k) f.0 v) in
-              refused_makes text (part w₁ 0 t) w₁ j y (expressions env (z ∷ is) >>= onto o)
-              (then_stops (expressions env (z ∷ is)) (onto o) j (culprit_of text y)
-              (then_stops one (λ (n : Normal). expressions env is >>= λ ns. fine (n ∷ ns)) j (culprit_of text y)
-              (refused_outcome text (part w₁ 0 t) w₁ j y one s)))
+              refused_makes text (part w₁ 0 t) w₁ y (expressions env (z ∷ is) >>= onto o)
+              (then_stops (expressions env (z ∷ is)) (onto o) y.number (culprit_of text y.culprit)
+              (then_stops one (λ (n : Normal). expressions env is >>= λ ns. fine (n ∷ ns)) y.number (culprit_of text y.culprit)
+              (refused_outcome text (part w₁ 0 t) w₁ y one s)))
 
       -- what there is so far is not touched by the expression
       so_far_stays : (q : Made) (o : Outcome Normal) → MadeIn joining_block q → Makes text (part w 0 t) w q o → Makes text (part w₁ 0 t) w₁ q o
-      so_far_stays (Done f) (fine n) i m =
+      so_far_stays (Ok f) (fine n) i m =
           still_stands laid.first.tape x.kept
           (below_outside first_block.low second_block.high joining_block.low joining_block.high f laid.joining_first
           (joined_between (length w) t f laid i)) m
-      so_far_stays (Done f) (stop k y) i m = absurd m
-      so_far_stays (Refused j y) (fine n) i m = absurd m
-      so_far_stays (Refused j y) (stop k z) i m = m
+      so_far_stays (Ok f) (stop k y) i m = absurd m
+      so_far_stays (Err y) (fine n) i m = absurd m
+      so_far_stays (Err y) (stop k z) i m = m
 
       -- its result, and the union with it
-      module _ (g : Form) (e : r ≡ Done g) where
+      module _ (g : Form) (e : r ≡ Ok g) where
         size : length w₁ ≡ length w
         size = x.kept.size
 
@@ -376,11 +374,11 @@ module _ (text : List ℕ) (t : ℕ) (w₀ : List ℕ) (h : Heads) (all start : 
 
     module _ (role : ℕ) (told : role ≡ role_at (part w 0 t) i) (goes : role ≡ import_role) (end : ℕ) (w₁ : List ℕ) (r : Made)
         (at : end ≡ run_end 12 (part w 0 t) (i + 1) (length (part w 0 t) - (i + 1))) (x : ExpressionMade text t w h i r w₁) where
-      pub imports_stop : (j : ℕ) (y : Culprit) → r ≡ Refused j y → ImportsMade text t w₀ h all start given (Refused j y) w₁
-      imports_stop j y e =
-          v.goes_on (Refused j y) w₁ (imports_refused text t w h i so_far role told goes v.room end w₁ r at x left j y e)
+      pub imports_stop : (y : Refusal) → r ≡ Err y → ImportsMade text t w₀ h all start given (Err y) w₁
+      imports_stop y e =
+          v.goes_on (Err y) w₁ (imports_refused text t w h i so_far role told goes v.room end w₁ r at x left y e)
 
-      pub imports_again : (g : Form) (u : Made) (w₂ : List ℕ) → r ≡ Done g → UnionMade text t w₁ g so_far u w₂
+      pub imports_again : (g : Form) (u : Made) (w₂ : List ℕ) → r ≡ Ok g → UnionMade text t w₁ g so_far u w₂
           → ImportsGoing text t w₀ h all start given (left - 1) end u w₂
       imports_again g u w₂ e y = record {
         size = y.kept.size ∙ x.kept.size ∙ v.size;

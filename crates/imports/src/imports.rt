@@ -10,7 +10,7 @@ ghost use Rattle.imports.specs.Expressions.{ImportRoom, ExpressionMade, UnionRoo
 use super::runs::{named_form, run_end};
 use super::turns::clauses_from;
 use clause::renaming::join;
-use form::{Form, Made};
+use form::{Form, Refusal};
 use form_layout::joining_block;
 use form_rows::entries::role_at;
 use modules::Heads;
@@ -25,7 +25,14 @@ fn imported(library: &[u8], text: &[u8], work: &[u32], t: usize, h: &Heads, i: u
 }
 
 // The import expression at i.
-fn expression(library: &[u8], text: &[u8], work: &mut [u32], t: usize, h: &Heads, i: u32) -> Made
+fn expression(
+    library: &[u8],
+    text: &[u8],
+    work: &mut [u32],
+    t: usize,
+    h: &Heads,
+    i: u32,
+) -> Result<Form, Refusal>
     requires { ImportRoom work.old t (heads_in h.now) i }
     ensures { ExpressionMade (joint library.now text.now) t work.old (heads_in h.now) i result work.new }
 {
@@ -40,18 +47,14 @@ fn united_with(
     work: &mut [u32],
     t: usize,
     g: Form,
-    so_far: Made,
-) -> Made
+    so_far: Result<Form, Refusal>,
+) -> Result<Form, Refusal>
     requires { UnionRoom (length work.old) t g so_far }
     ensures { UnionMade (joint library.now text.now) t work.old g so_far result work.new }
 {
-    match so_far {
-        Made::Refused(k, w) => Made::Refused(k, w),
-        Made::Done(f) => {
-            let b = joining_block();
-            join(library, text, work, t, g, f, b)
-        }
-    }
+    let f = so_far?;
+    let b = joining_block();
+    join(library, text, work, t, g, f, b)
 }
 
 // The import expressions from i on, united with what there is so far.
@@ -63,27 +66,19 @@ pub fn imports_from(
     h: &Heads,
     left: u32,
     i: u32,
-    so_far: Made,
-) -> Made
+    so_far: Result<Form, Refusal>,
+) -> Result<Form, Refusal>
     requires { ImportsRoom work.old t (heads_in h.now) i so_far }
     ensures { ImportsMade (joint library.now text.now) t work.old (heads_in h.now) left i so_far result work.new }
 {
-    let mut n = left;
     let mut at = i;
     let mut made = so_far;
-    while 0 < n {
+    for n in (0..left).rev() {
         if role_at(&work[0..t], at as usize) == roles::IMPORT {
             let end = run_end(&work[0..t], roles::RENAMING, at + 1);
-            match expression(library, text, work, t, h, at) {
-                Made::Refused(k, w) => {
-                    return Made::Refused(k, w);
-                }
-                Made::Done(g) => {
-                    made = united_with(library, text, work, t, g, made);
-                    n -= 1;
-                    at = end;
-                }
-            }
+            let g = expression(library, text, work, t, h, at)?;
+            made = united_with(library, text, work, t, g, made);
+            at = end;
         } else {
             return made;
         }

@@ -30,15 +30,12 @@ pub fn run_end(tape: &[u32], least: u32, i: u32) -> u32
     ensures { result ≡ run_end least tape.now i (length tape.now - i) }
 {
     let end = tape.len() as u32;
-    let mut j = i;
-    while j < end {
-        if is_of_run(least, role_at(tape, j as usize)) {
-            j += 1;
-        } else {
+    for j in i..end {
+        if !is_of_run(least, role_at(tape, j as usize)) {
             return j;
         }
     }
-    j
+    i.max(end)
 }
 
 // The normal form of the module that is named at i.

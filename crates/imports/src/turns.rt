@@ -1,5 +1,5 @@
 // The clauses of an import expression, one after the other, in two blocks in turn.
-ghost use Rattle.std.specs.Prelude.{◌≡◌, not, ◌+◌, ◌≤◌, ◌<◌, length};
+ghost use Rattle.std.specs.Prelude.{◌≡◌, ◌+◌, ◌≤◌, ◌<◌, length};
 ghost use Rattle.text_names.specs.Joint.{joint};
 ghost use Rattle.modules.specs.Modules.{heads_in};
 ghost use Rattle.imports.specs.Clausal.{ClauseRoom, BoundAt, ClauseMade, turn_block, ClausesRoom, ClausesMade, starts_clause};
@@ -7,7 +7,7 @@ ghost use Rattle.imports.specs.Clausal.{ClauseRoom, BoundAt, ClauseMade, turn_bl
 use super::runs::{named_form, run_end};
 use clause::bind;
 use clause::renaming::rename;
-use form::{Block, Form, Made};
+use form::{Block, Form, Refusal};
 use form_layout::{first_block, second_block};
 use form_rows::entries::{name_at, role_at};
 use modules::Heads;
@@ -24,7 +24,7 @@ fn bind_at(
     last: u32,
     g: Form,
     b: Block,
-) -> Made
+) -> Result<Form, Refusal>
     requires { ClauseRoom work.old t (heads_in h.now) i g b }
     ensures { BoundAt (joint library.now text.now) t work.old (heads_in h.now) i last g b result work.new }
 {
@@ -44,7 +44,7 @@ fn clause_at(
     end: u32,
     g: Form,
     b: Block,
-) -> Made
+) -> Result<Form, Refusal>
     requires clause_room { ClauseRoom work.old t (heads_in h.now) i g b }
     requires le_end { 1 ≤ end }
     ensures { ClauseMade (joint library.now text.now) t work.old (heads_in h.now) i end g b result work.new }
@@ -76,7 +76,7 @@ fn clause_turn(
     end: u32,
     g: Form,
     first: bool,
-) -> Made
+) -> Result<Form, Refusal>
     requires clauses_room { ClausesRoom work.old t (heads_in h.now) i g first }
     requires le_end { 1 ≤ end }
     ensures { ClauseMade (joint library.now text.now) t work.old (heads_in h.now) i end g (turn_block first) result work.new }
@@ -96,15 +96,6 @@ fn starts_clause(tape: &[u32], i: u32) -> bool
     role == roles::BINDING
 }
 
-fn other(first: bool) -> bool
-    ensures { result ≡ not first }
-{
-    if first {
-        return false;
-    }
-    true
-}
-
 // The clauses from i on, of g, which is not in the block whose turn it is.
 pub fn clauses_from(
     library: &[u8],
@@ -116,31 +107,22 @@ pub fn clauses_from(
     i: u32,
     g: Form,
     first: bool,
-) -> Made
+) -> Result<Form, Refusal>
     requires { ClausesRoom work.old t (heads_in h.now) i g first }
     ensures { ClausesMade (joint library.now text.now) t work.old (heads_in h.now) left i g result work.new }
 {
-    let mut n = left;
     let mut at = i;
     let mut f = g;
     let mut turn = first;
-    while 0 < n {
+    for n in (0..left).rev() {
         if starts_clause(&work[0..t], at) {
             let end = run_end(&work[0..t], roles::OLD, at + 1);
-            match clause_turn(library, text, work, t, h, at, end, f, turn) {
-                Made::Refused(k, w) => {
-                    return Made::Refused(k, w);
-                }
-                Made::Done(made) => {
-                    n -= 1;
-                    at = end;
-                    f = made;
-                    turn = other(turn);
-                }
-            }
+            f = clause_turn(library, text, work, t, h, at, end, f, turn)?;
+            at = end;
+            turn = !turn;
         } else {
-            return Made::Done(f);
+            return Ok(f);
         }
     }
-    Made::Done(f)
+    Ok(f)
 }

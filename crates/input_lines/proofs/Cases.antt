@@ -19,7 +19,7 @@ use Rattle.meaning.specs.Numbers.{text_size}
 use Rattle.meaning.specs.Tokens.{run_end}
 use Rattle.meaning.specs.Written.{digits, decimal}
 use Rattle.meaning.specs.Answer.{in_line, request, request_end, has_request, library_request, library_request_end, said_by, has_library_line, library_too_long, texts_in}
-use Rattle.text_names.proofs.Runs.{run_on, run_stop, run_ends, run_from, front}
+use Rattle.text_names.proofs.Runs.{run_on, run_stop, run_from, front}
 use Rattle.list_pen.specs.Pen.{Pen, pen, written}
 use Rattle.list_pen.proofs.Laws.{written_kept, laid, reached}
 use Rattle.input_lines.specs.Framed.{AloneFramed, BothFramed}
@@ -37,9 +37,6 @@ module _ (input : List ℕ) (s i : ℕ) where
   pub line_stop : i < length input → get_or input i 0 ≡ 10 → Seeking → i ≡ run_end in_line input s
   unfolding pick
   line_stop h n v = sym (v ∙ run_stop in_line input i h (rw (front input i, eq-eqb (get_or input i 0) 10 n)))
-
-  pub line_out : length input ≤ i → Seeking → i ≡ run_end in_line input s
-  line_out h v = sym (v ∙ run_ends in_line input i h)
 
 -- the name starts behind `normalise=`
 pub request_start : (input : List ℕ) (e : ℕ) → e ≡ request_end input → 10 ≤ e
@@ -263,4 +260,4 @@ module _ (rest : List ℕ) (e : ℕ) (at_end : e ≡ library_request_end rest) w
         }
 
 -- what the answers of this crate hand to `search`
-pub ruleset cases = (line_on, line_stop, line_out, request_start, request_room, request_unended, request_long, request_told, request_ends, request_ends_within, request_fits, behind_request, saying_none, saying_ten, saying_more, saying_again, saying_end, ten_within, decimal_told, library_start, library_room, library_digits, library_unended, library_long, library_other, library_told, framed_none, line_ends_within, line_reaches, line_short, line_fits, library_fits, framed_long, framed_both, framed_few, rules)
+pub ruleset cases = (line_on, line_stop, request_start, request_room, request_unended, request_long, request_told, request_ends, request_ends_within, request_fits, behind_request, saying_none, saying_ten, saying_more, saying_again, saying_end, ten_within, decimal_told, library_start, library_room, library_digits, library_unended, library_long, library_other, library_told, framed_none, line_ends_within, line_reaches, line_short, line_fits, library_fits, framed_long, framed_both, framed_few, rules)

@@ -14,14 +14,12 @@ use meaning::numbers;
 pub fn line_end(input: &[u8], start: usize) -> usize
     ensures { result ≡ run_end in_line input.now start }
 {
-    let mut i = start;
-    while i < input.len() {
+    for i in start..input.len() {
         if input[i] == b'\n' {
             return i;
         }
-        i += 1;
     }
-    i
+    start.max(input.len())
 }
 
 // Does the input begin with a line `normalise=NAME`, whose NAME has at most 40 bytes? That line ends at e.
@@ -45,10 +43,7 @@ fn digit(b: u8) -> usize
     ensures value { result ≡ b - 48 }
     ensures upper_bound { result ≤ 207 }
 {
-    if b < 48 {
-        return 0;
-    }
-    (b - 48) as usize
+    usize::from(b.saturating_sub(48))
 }
 
 // What at most nine digits say.
@@ -57,10 +52,8 @@ fn said_by(written: &[u8]) -> usize
     ensures { result ≡ said_by 0 written.now }
 {
     let mut n: usize = 0;
-    let mut i = 0;
-    while i < written.len() {
-        n = n * 10 + digit(written[i]);
-        i += 1;
+    for b in written {
+        n = n * 10 + digit(*b);
     }
     n
 }
@@ -93,6 +86,7 @@ fn has_library_line(rest: &[u8], e: usize) -> bool
 }
 
 // What follows the first line: the customer's text alone, a library and that text behind it, or a library that is too long.
+// An enum of its own: one match of three names is plainer than a Result of an Option.
 #[derive(Clone, Copy)]
 pub enum Framing {
     Alone,

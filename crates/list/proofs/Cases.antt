@@ -10,7 +10,7 @@ use lib.ListN.{length, drop}
 use Rattle.meaning.specs.Lists.{pick}
 use Rattle.list_pen.specs.Pen.{pen, written}
 use Rattle.list_pen.proofs.Laws.{then, count_over, count_fits, laid, reached, none_written}
-use Rattle.list.specs.declared.Written.TheVariants.{Fits, TooLong}
+use Rattle.std.specs.Prelude.{Some, None}
 use Rattle.list.specs.Fit.{result_of, fitted}
 
 -- all or nothing: k counted, having been lent nothing, and left e
@@ -19,11 +19,11 @@ module _ (bs o e : List ℕ) (k : ℕ) (c : pen k e ≡ written (length o + 1) b
   unchanged : x ≡ o
   unchanged = b ∙ ap (λ (y : List ℕ). y ++ o) (none_written (length o + 1) k 0 bs e c)
 
-  pub too_long : length o < k → result_of TooLong x ≡ fitted bs o
+  pub too_long : length o < k → result_of None x ≡ fitted bs o
   unfolding fitted pick
   too_long h = rw (lt-leb (length bs) (length o) (count_over (length o) k bs e [] c h), unchanged)
 
-  pub all_written : (m : ℕ) (o' : List ℕ) → k ≤ length o → pen m o' ≡ written (length o + 1) bs (pen 0 x) → result_of (Fits m) o' ≡ fitted bs o
+  pub all_written : (m : ℕ) (o' : List ℕ) → k ≤ length o → pen m o' ≡ written (length o + 1) bs (pen 0 x) → result_of (Some m) o' ≡ fitted bs o
   unfolding fitted pick
   all_written m o' h g =
       let size : k ≡ length bs = count_fits (length o) k bs e [] c h in

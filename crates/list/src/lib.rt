@@ -13,13 +13,6 @@ use form::Form;
 use list_lines::put_line;
 use list_parts::{put_hidden, put_visible};
 
-// How writing ended: with so many bytes, or, where they are more than there is room for, with none.
-#[derive(Clone, Copy)]
-pub enum Written {
-    Fits(usize),
-    TooLong,
-}
-
 // The listing of the form f of the module whose name's word is `name`.
 pub fn put_listing(
     out: &mut [u8],
@@ -41,7 +34,7 @@ pub fn put_listing(
     put_line(out, c, limit, library, text, b"end", name)
 }
 
-// The same listing at the front of `out`, if all of it has room there; else `out` stays as it was.
+// The same listing at the front of `out`, and how many bytes it has, if all of it has room there; else `out` stays as it was.
 pub fn write_listing(
     library: &[u8],
     text: &[u8],
@@ -50,7 +43,7 @@ pub fn write_listing(
     name: u32,
     f: Form,
     out: &mut [u8],
-) -> Written
+) -> Option<usize>
     requires t_in_bounds { t ≤ length work.now }
     requires hidden_count_bound { f.hidden_count < 2 ^ 31 }
     ensures { result_of result out.new ≡ fitted (listing_text (joint library.now text.now) (part work.now 0 t) work.now name f) out.old }
@@ -68,8 +61,8 @@ pub fn write_listing(
         f,
     );
     if room < size {
-        return Written::TooLong;
+        return None;
     }
     let end = put_listing(out, 0, room + 1, library, text, &work[0..t], work, name, f);
-    Written::Fits(end)
+    Some(end)
 }

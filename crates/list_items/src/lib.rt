@@ -66,10 +66,8 @@ fn put_others(
     ensures { pen result out.new ≡ written limit (rows_text (marked_name (joint library.now text.now) tape.now) first (end - first)) (pen at out.old) }
 {
     let mut to = at;
-    let mut i = first;
-    while i < end {
+    for i in first..end {
         to = put_marked(out, to, limit, library, text, tape, i);
-        i += 1;
     }
     to
 }

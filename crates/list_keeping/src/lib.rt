@@ -204,15 +204,11 @@ fn kept_form(f: Form, k: Form) -> Form
 {
     Form {
         parameters: k.parameters,
-        parameter_count: f.parameter_count,
         visible: k.visible,
-        visible_count: f.visible_count,
         hidden: k.hidden,
-        hidden_count: f.hidden_count,
         equations: k.equations,
-        equation_count: f.equation_count,
         nodes: k.nodes,
-        node_count: f.node_count,
+        ..f
     }
 }
 

@@ -2,12 +2,14 @@
 use mathlib.Core.Path.{◌≡◌, refl, sym, ap, ap₂, ◌∙◌}
 use mathlib.Core.Bool.{Bool, true, false}
 use mathlib.Core.List.{List}
-use Prim.Native.Nat.{ℕ, ◌+◌, ◌-◌, ◌*◌, ◌^◌, ◌<◌}
+use Prim.Native.Nat.{ℕ, ◌+◌, ◌-◌, ◌*◌}
 use native.Mathlib.Omega.{arith}
 use lib.Dec.{eqb, ltb, leb}
 use lib.ListN.{get_or, take}
 use borrow.Author.Rules.{rules}
 use borrow.Author.Tests.{eq-eqb, ne_eqb, ltb-true, ltb-false, leb-true, leb-false}
+use Rattle.std.specs.declared.cmp.Ordering.{Ordering}
+use Rattle.std.specs.Ordering.{ordering_index, is_eq, is_lt, is_le}
 use Rattle.meaning.specs.Lists.{pick}
 use Rattle.meaning.specs.Names.{bytes_not_after, by_two}
 use Rattle.meaning.specs.Origins.{Item, sort_shape, function_shape, variable_shape}
@@ -15,6 +17,7 @@ use Rattle.meaning.specs.Written.{origin_text, shape_text, shape_rank, standing_
 use Rattle.meaning.specs.ListingOrder.{place_order}
 use Rattle.text_names.specs.Word.{name_of, no_name}
 use Rattle.text_runs.specs.Orders.{compared, bytes_compared}
+use Rattle.text_runs.specs.Codes.{index_eq, index_ne, index_lt}
 use Rattle.form_sections.specs.declared.Section.{Section}
 use Rattle.form_sections.specs.declared.Section.TheVariants as section
 use Rattle.form_rows.specs.declared.Row.{Row}
@@ -28,7 +31,7 @@ use Rattle.list_order.specs.declared.comparing.Order.{Order}
 use Rattle.list_order.specs.declared.comparing.Order.TheVariants as order
 use Rattle.list_terms.specs.Terms.{equation_at}
 use Rattle.list_texts.specs.Parts.{line_size}
-use Rattle.list_order.specs.Orders.{standing_word, kind_rank, by_name_then_type, by_kind_then_name, by_origin_then_type, row_place, by_position_then_line, Countable, item_order, Small, row_order}
+use Rattle.list_order.specs.Orders.{standing_word, kind_rank, by_name_then_type, by_kind_then_name, by_origin_then_type, row_place, by_position_then_line, item_order, row_order}
 use Rattle.text_names.proofs.Compared.{bytes_told}
 
 -- ---- by one thing, then by another
@@ -121,17 +124,17 @@ module _ (text tape : List ℕ) (a b : Row) where
   abbrev other : Item
   other = item_of text tape b
 
-  module _ (c : ℕ) (ec : c ≡ compared (name_of text a.name) (name_of text b.name)) where
-    pub names_level : (w : List ℕ) (r : Bool) → c ≡ 1
+  module _ (o : Ordering) (ec : ordering_index o ≡ compared (name_of text a.name) (name_of text b.name)) (t : Bool) (et : t ≡ is_eq o) where
+    pub names_level : (w : List ℕ) (r : Bool) → t ≡ true
         → r ≡ bytes_not_after (shape_text (items_at text tape w 0 0) (shape_of text tape a.kind a.sorts))
         (shape_text (items_at text tape w 0 0) (shape_of text tape b.kind b.sorts))
         → r ≡ by_name_then_type (item_of text tape a) (item_of text tape b)
     unfolding by_name_then_type by_two item_of items_at compared
-    names_level w r h e = level _ _ c r _ ec h e
+    names_level w r h e = level _ _ (ordering_index o) r _ ec (index_eq o t et h) e
 
-    pub names_decided : (c ≡ 1 → ⊥) → eqb c 0 ≡ by_name_then_type (item_of text tape a) (item_of text tape b)
+    pub names_decided : (r : Bool) → t ≡ false → r ≡ is_lt o → r ≡ by_name_then_type (item_of text tape a) (item_of text tape b)
     unfolding by_name_then_type by_two item_of compared
-    names_decided h = decided _ _ c _ ec h
+    names_decided r h e = e ∙ sym (index_lt o) ∙ decided _ _ (ordering_index o) _ ec (index_ne o t et h)
 
   module _ (k l : ℕ) (ek : k ≡ kind_rank a.kind) (el : l ≡ kind_rank b.kind) where
     first : k ≡ shape_rank one.shape
@@ -160,33 +163,36 @@ module _ (text tape : List ℕ) (a b : Row) where
     unfolding hidden_order
     hidden_decided sorts h = rw (← first, ← second) (ranks_decided k l _ h)
 
-  module _ (x y c : ℕ) (ex : x ≡ standing_word a.standing) (ey : y ≡ standing_word b.standing) (ec : c ≡ compared (name_of text x) (name_of text y)) where
-    told : c ≡ compared (standing_text one.standing) (standing_text other.standing)
+  module _ (x y : ℕ) (o : Ordering) (ex : x ≡ standing_word a.standing) (ey : y ≡ standing_word b.standing)
+      (ec : ordering_index o ≡ compared (name_of text x) (name_of text y)) (t : Bool) (et : t ≡ is_eq o) where
+    told : ordering_index o ≡ compared (standing_text one.standing) (standing_text other.standing)
     unfolding item_of
     told =
         ec
         ∙ ap₂ (λ (u v : List ℕ). compared u v) (ap (name_of text) ex ∙ standing_told text a.standing)
         (ap (name_of text) ey ∙ standing_told text b.standing)
 
-    pub standing_level : (r : Bool) → c ≡ 1 → r ≡ by_kind_then_name (item_of text tape a) (item_of text tape b)
+    pub standing_level : (r : Bool) → t ≡ true → r ≡ by_kind_then_name (item_of text tape a) (item_of text tape b)
         → r ≡ visible_order (item_of text tape a) (item_of text tape b)
     unfolding visible_order by_kind_then_name by_name_then_type compared
-    standing_level r h e = level _ _ c r _ told h e
+    standing_level r h e = level _ _ (ordering_index o) r _ told (index_eq o t et h) e
 
-    pub standing_decided : (c ≡ 1 → ⊥) → eqb c 0 ≡ visible_order (item_of text tape a) (item_of text tape b)
+    pub standing_decided : (r : Bool) → t ≡ false → r ≡ is_lt o → r ≡ visible_order (item_of text tape a) (item_of text tape b)
     unfolding visible_order compared
-    standing_decided h = decided _ _ c _ told h
+    standing_decided r h e = e ∙ sym (index_lt o) ∙ decided _ _ (ordering_index o) _ told (index_ne o t et h)
 
-  module _ (sorts : List Item) (c : ℕ) (ec : c ≡ bytes_compared (origin_text (origin_of text tape a.origin)) (origin_text (origin_of text tape b.origin))) where
-    pub origins_level : (r : Bool) → c ≡ 1
+  module _ (sorts : List Item) (o : Ordering)
+      (ec : ordering_index o ≡ bytes_compared (origin_text (origin_of text tape a.origin)) (origin_text (origin_of text tape b.origin)))
+      (t : Bool) (et : t ≡ is_eq o) where
+    pub origins_level : (r : Bool) → t ≡ true
         → r ≡ bytes_not_after (shape_text sorts (shape_of text tape a.kind a.sorts)) (shape_text sorts (shape_of text tape b.kind b.sorts))
         → r ≡ by_origin_then_type sorts (item_of text tape a) (item_of text tape b)
     unfolding by_origin_then_type by_two item_of bytes_compared
-    origins_level r h e = level _ _ c r _ ec h e
+    origins_level r h e = level _ _ (ordering_index o) r _ ec (index_eq o t et h) e
 
-    pub origins_decided : (c ≡ 1 → ⊥) → eqb c 0 ≡ by_origin_then_type sorts (item_of text tape a) (item_of text tape b)
+    pub origins_decided : (r : Bool) → t ≡ false → r ≡ is_lt o → r ≡ by_origin_then_type sorts (item_of text tape a) (item_of text tape b)
     unfolding by_origin_then_type by_two item_of bytes_compared
-    origins_decided h = decided _ _ c _ ec h
+    origins_decided r h e = e ∙ sym (index_lt o) ∙ decided _ _ (ordering_index o) _ ec (index_ne o t et h)
 
 -- ---- equations
 
@@ -214,39 +220,26 @@ module _ (text w : List ℕ) (v n : ℕ) (a b : EquationRow) where
 -- ---- rows of a table
 
 module _ (by : Order) where
-  pub hidden_countable : (s n : ℕ) → Countable by → by ≡ order.Hidden s n → n < 2 ^ 31
-  hidden_countable s n h e = rw e at h
-
   module _ (text tape w : List ℕ) (base i j : ℕ) (a b : Row) (ea : a ≡ row_at w (base + i * row_size)) (eb : b ≡ row_at w (base + j * row_size)) where
     pub visible_read : (r : Bool) → by ≡ order.Visible → r ≡ visible_order (item_of text tape a) (item_of text tape b)
         → r ≡ item_order text tape w by (row_item text tape w base i) (row_item text tape w base j)
     unfolding item_order
     visible_read r k e = rw (k, ← ea, ← eb) e
 
-    pub sorts_read : (c : ℕ) → by ≡ order.Sorts
-        → c ≡ bytes_compared (origin_text (origin_of text tape a.origin)) (origin_text (origin_of text tape b.origin))
-        → ltb c 2 ≡ item_order text tape w by (row_item text tape w base i) (row_item text tape w base j)
+    pub sorts_read : (o : Ordering) (r : Bool) → by ≡ order.Sorts → r ≡ is_le o
+        → ordering_index o ≡ bytes_compared (origin_text (origin_of text tape a.origin)) (origin_text (origin_of text tape b.origin))
+        → r ≡ item_order text tape w by (row_item text tape w base i) (row_item text tape w base j)
     unfolding item_of item_order
-    sorts_read c k e = rw (k, ← ea, ← eb) (bytes_told _ _ c e)
+    sorts_read o r k g e = rw (k, ← ea, ← eb) (bytes_told _ _ o r g e)
 
     pub hidden_read : (s n : ℕ) (r : Bool) → by ≡ order.Hidden s n → r ≡ hidden_order (items_at text tape w s n) (item_of text tape a) (item_of text tape b)
         → r ≡ item_order text tape w by (row_item text tape w base i) (row_item text tape w base j)
     unfolding item_order
     hidden_read s n r k e = rw (k, ← ea, ← eb) e
 
-pub equations_read : (text w : List ℕ) (v n base i j : ℕ) (a b : EquationRow) → a ≡ equation_row_at w (base + i * equation_size)
-    → b ≡ equation_row_at w (base + j * equation_size)
-    → (r : Bool) → r ≡ place_order (row_place text w v n a) (row_place text w v n b)
-    → r ≡ place_order (row_place text w v n (equation_row_at w (base + i * equation_size)))
-    (row_place text w v n (equation_row_at w (base + j * equation_size)))
-equations_read text w v n base i j a b ea eb r e = rw (ea, eb) at e
-
 -- ---- whichever table it is
 
 module _ (table : Table) where
-  pub hidden_small : (b s n : ℕ) → Small table → table ≡ Hidden b s n → n < 2 ^ 31
-  hidden_small b s n h e = rw e at h
-
   module _ (text tape w : List ℕ) (i j : ℕ) (r : Bool) where
     pub of_visible : (b : ℕ) → table ≡ Visible b → r ≡ item_order text tape w order.Visible (row_item text tape w b i) (row_item text tape w b j)
         → r ≡ row_order text tape w table i j
@@ -275,6 +268,6 @@ pub ruleset levels = (names_level, kinds_level, standing_level, origins_level, h
 
 pub ruleset decisions = (names_decided, kinds_decided, standing_decided, origins_decided, hidden_decided, positions_decided, homes_decided)
 
-pub ruleset readings = (hidden_countable, visible_read, sorts_read, hidden_read, equations_read, hidden_small, of_visible, of_sorts, of_hidden, of_equations)
+pub ruleset readings = (visible_read, sorts_read, hidden_read, of_visible, of_sorts, of_hidden, of_equations)
 
 pub ruleset cases = (words, levels, decisions, readings, rules)

@@ -5,12 +5,12 @@ use mathlib.Core.List.{List}
 use Prim.Native.Nat.{ℕ, ◌+◌, ◌*◌, ◌≤◌, ◌<◌}
 use native.Mathlib.Omega.{arith}
 use lib.Dec.{eqb}
-use lib.ListN.{length, get_or}
+use lib.ListN.{get_or}
 use borrow.Author.Rules.{rules}
 use Rattle.meaning.specs.Lists.{keep, sorted_onto}
 use Rattle.form_rows.specs.Rows.{words_from, row_size}
 use Rattle.form.specs.Memory.{part, Kept}
-use Rattle.form.specs.FormLaws.{kept_all, kept_wider, kept_then}
+use Rattle.form.specs.FormLaws.{kept_all}
 use Rattle.form_order.specs.Order.{upto}
 use Rattle.form_order.specs.Sorting.{yes_below, no_above}
 use Rattle.list_order.specs.declared.Table.{Table}
@@ -39,10 +39,6 @@ module _ (w : List ℕ) (table : Table) (i : ℕ) where
 
 -- ---- `comes_before`
 
-pub before_told : (text tape low w : List ℕ) (table : Table) (p i x k : ℕ) (r : Bool) → k ≡ get_or w (p + i) 0 → r ≡ row_order text tape low table k x
-    → r ≡ row_order text tape low table (get_or w (p + i) 0) x
-before_told text tape low w table p i x k r ek er = rw ek at er
-
 -- ---- `find_place`
 
 -- the rows before lo are not after x, and those from hi on are
@@ -53,9 +49,6 @@ pub record Narrowed (text tape low w : List ℕ) (table : Table) (p m x lo hi : 
   pub behind : (i : ℕ) → hi ≤ i → i < m → row_order text tape low table (get_or w (p + i) 0) x ≡ false
 
 module _ (text tape low w : List ℕ) (table : Table) (p m x : ℕ) where
-  pub narrow_start : Narrowed text tape low w table p m x 0 m
-  narrow_start = record { lower = omega arith; upper = omega arith; before = λ i h. absurd (omega arith); behind = λ i h l. absurd (omega arith) }
-
   module _ (rows : InRows text tape low w table p x m) (lo hi mid : ℕ) (inv : Narrowed text tape low w table p m x lo hi) (l : lo ≤ mid)
       (h : mid < hi) (r : Bool) (er : r ≡ row_order text tape low table (get_or w (p + mid) 0) x) where
     abbrev early : ℕ → Bool
@@ -77,17 +70,7 @@ module _ (text tape low w : List ℕ) (table : Table) (p m x : ℕ) where
       behind = no_above early m (steady text tape low w table p x m rows x) mid (sym er ∙ t);
     }
 
-  pub narrow_end : (lo hi : ℕ) → Narrowed text tape low w table p m x lo hi → hi ≤ lo → Spot text tape low w table p m x lo
-  narrow_end lo hi inv h = record {
-    inside = omega (arith, inv.lower, inv.upper);
-    before = inv.before;
-    behind = λ i g k. inv.behind i (omega arith) k;
-  }
-
 -- ---- `order_row`
-
-pub room_below : (w : List ℕ) (p r : ℕ) → p + r < length w → p ≤ length w
-room_below w p r h = omega arith
 
 -- ---- `order_rows`
 
@@ -104,23 +87,6 @@ module _ (text : List ℕ) (t : ℕ) (w₀ : List ℕ) (table : Table) (p n : �
   begin = record { inside = omega arith; few = omega arith; rows = record { words = refl }; kept = kept_all p (p + n) w₀ }
 
   module _ (w : List ℕ) (r m : ℕ) (inv : Begun text t w₀ w table p n r m) where
-    pub begun_few : m ≤ r
-    begun_few = inv.few
-
-    pub begun_rows : InRows text (part w 0 t) (part w 0 p) w table p r m
-    begun_rows = inv.rows
-
-    pub begun_room : p + n ≤ length w₀ → r < n → p + r < length w
-    begun_room h l = omega (arith, inv.kept.size)
-
-    pub begun_again : (u : List ℕ) (k : ℕ) → r < n → RowPut text t w u table p r k → Begun text t w₀ u table p n (r + 1) k
-    begun_again u k l put = record {
-      inside = omega arith;
-      few = put.few;
-      rows = put.rows;
-      kept = kept_then p (p + n) w₀ w u inv.kept (kept_wider p (p + (r + 1)) p (p + n) w u (omega arith) (omega arith) put.kept);
-    }
-
     pub begun_end : t ≤ p → n ≤ r → RowsOrdered text t w₀ w table p n m
     begun_end ht l =
         let e : r ≡ n = omega (arith, inv.inside) in
@@ -132,10 +98,10 @@ module _ (text : List ℕ) (t : ℕ) (w₀ : List ℕ) (table : Table) (p n : �
           kept = inv.kept;
         }
 
-pub ruleset listings = (listed_visible, listed_sorts, listed_hidden, listed_equations, before_told)
+pub ruleset listings = (listed_visible, listed_sorts, listed_hidden, listed_equations)
 
-pub ruleset narrowings = (narrow_start, narrow_up, narrow_down, narrow_end, room_below)
+pub ruleset narrowings = (narrow_up, narrow_down)
 
-pub ruleset turns = (row_put, row_passed, begin, begun_few, begun_rows, begun_room, begun_again, begun_end)
+pub ruleset turns = (row_put, row_passed, begin, begun_end)
 
 pub ruleset cases = (listings, narrowings, turns, rules)

@@ -18,7 +18,7 @@ use list_texts::{compare_origins, line_not_after, type_not_after};
 use text_names::joint::compare;
 
 // By which order the rows of items are compared: as visible ones; hidden sorts, by their origins alone; hidden items, in whose types the hidden
-// sorts in order are `count` rows from `sorts` on.
+// sorts in order are `count` rows from `sorts` on. An enum: with a closure `item_rows` would be one function for each.
 #[derive(Clone, Copy)]
 pub enum Order {
     Visible,
@@ -56,11 +56,11 @@ fn named_not_after(library: &[u8], text: &[u8], tape: &[u32], work: &[u32], a: R
 {
     let x = a.name;
     let y = b.name;
-    let c = compare(library, text, x, y);
-    if c == 1 {
+    let order = compare(library, text, x, y);
+    if order.is_eq() {
         return type_not_after(library, text, tape, work, 0, 0, a, b);
     }
-    c == 0
+    order.is_lt()
 }
 
 // By kind, then by name and type.
@@ -90,11 +90,11 @@ pub fn visible_not_after(
     let u = b.standing;
     let x = standing_word(s);
     let y = standing_word(u);
-    let c = compare(library, text, x, y);
-    if c == 1 {
+    let order = compare(library, text, x, y);
+    if order.is_eq() {
         return kind_not_after(library, text, tape, work, a, b);
     }
-    c == 0
+    order.is_lt()
 }
 
 // By origin, then by type, in which the hidden sorts in order are `count` rows from `sorts` on.
@@ -111,11 +111,11 @@ fn origin_not_after(
     requires { count < 2 ^ 31 }
     ensures { result ≡ by_origin_then_type (items_at (joint library.now text.now) tape.now work.now sorts count) (item_of (joint library.now text.now) tape.now a) (item_of (joint library.now text.now) tape.now b) }
 {
-    let c = compare_origins(library, text, tape, work, a, b);
-    if c == 1 {
+    let order = compare_origins(library, text, tape, work, a, b);
+    if order.is_eq() {
         return type_not_after(library, text, tape, work, sorts, count, a, b);
     }
-    c == 0
+    order.is_lt()
 }
 
 // Does the hidden item a come not after b?
@@ -199,7 +199,7 @@ fn item_rows(
     let b = read_row(work, base, j);
     match by {
         Order::Visible => visible_not_after(library, text, tape, work, a, b),
-        Order::Sorts => compare_origins(library, text, tape, work, a, b) < 2,
+        Order::Sorts => compare_origins(library, text, tape, work, a, b).is_le(),
         Order::Hidden { sorts, count } => {
             hidden_not_after(library, text, tape, work, sorts, count, a, b)
         }

@@ -26,10 +26,9 @@ fn copy_row(work: &mut [u32], from: u32, r: u32, to: u32, i: u32, size: u32)
     let n = size as usize;
     let a = from as usize + r as usize * n;
     let b = to as usize + i as usize * n;
-    let mut j = 0;
-    while j < n {
+    // not `copy_within`: a row may be read past the memory's end, where words are 0
+    for j in 0..n {
         copy_word(work, a + j, b + j);
-        j += 1;
     }
 }
 
@@ -51,7 +50,6 @@ fn copy_numbered(
     let r = number_in(work, order, i);
     if r < n {
         copy_row(work, from, r, to, i, size);
-        return;
     }
 }
 
@@ -60,10 +58,8 @@ pub fn copy_rows(work: &mut [u32], from: u32, n: u32, order: u32, m: u32, to: u3
     requires { CopyRoom (length work.old) from n order m to size }
     ensures { RowsCopied from n order m to size work.old work.new }
 {
-    let mut i = 0;
-    while i < m {
+    for i in 0..m {
         copy_numbered(work, from, n, order, m, to, size, i);
-        i += 1;
     }
 }
 
@@ -75,7 +71,6 @@ fn note_row(work: &mut [u32], order: u32, m: u32, notes: u32, n: u32, i: u32)
     let r = number_in(work, order, i);
     if r < n {
         put_word(work, notes as usize + r as usize, i);
-        return;
     }
 }
 
@@ -84,10 +79,8 @@ pub fn note_rows(work: &mut [u32], order: u32, m: u32, notes: u32, n: u32)
     requires { NoteRoom (length work.old) order m notes n }
     ensures { NotesPut order m notes n work.old work.new }
 {
-    let mut i = 0;
-    while i < m {
+    for i in 0..m {
         note_row(work, order, m, notes, n, i);
-        i += 1;
     }
 }
 

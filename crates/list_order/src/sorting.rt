@@ -61,6 +61,7 @@ fn find_place(
 {
     let mut lo = 0;
     let mut hi = m;
+    // a while: each turn looks in the middle of what is left
     while lo < hi {
         let mid = middle(lo, hi);
         if comes_before(library, text, tape, low, work, table, p, mid, x) {
@@ -149,10 +150,8 @@ pub fn order_rows(
     ensures { RowsOrdered (joint library.now text.now) t work.old work.new table p n result }
 {
     let mut m = 0;
-    let mut r = 0;
-    while r < n {
+    for r in 0..n {
         m = order_row(library, text, work, t, table, p, m, r);
-        r += 1;
     }
     m
 }

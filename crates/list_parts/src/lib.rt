@@ -60,12 +60,10 @@ fn put_standing(
     ensures { pen result out.new ≡ written limit (standing_text (joint library.now text.now) tape.now work.now base count (section_of (joint library.now text.now) section) sort.now function.now) (pen at out.old) }
 {
     let mut to = at;
-    let mut i: u32 = 0;
-    while i < count {
+    for i in 0..count {
         to = put_standing_row(
             out, to, limit, library, text, tape, work, base, section, sort, function, i,
         );
-        i += 1;
     }
     to
 }
@@ -136,10 +134,8 @@ fn put_parameters(
 {
     let count = f.parameter_count;
     let mut to = at;
-    let mut i: u32 = 0;
-    while i < count {
+    for i in 0..count {
         to = put_parameter_row(out, to, limit, library, text, tape, work, f, i);
-        i += 1;
     }
     to
 }
@@ -225,10 +221,8 @@ fn put_hidden_items(
     ensures { pen result out.new ≡ written limit (rows_text (hidden_row (joint library.now text.now) tape.now work.now base count) 0 count) (pen at out.old) }
 {
     let mut to = at;
-    let mut i: u32 = 0;
-    while i < count {
+    for i in 0..count {
         to = put_hidden_row(out, to, limit, library, text, tape, work, base, count, i);
-        i += 1;
     }
     to
 }
@@ -268,10 +262,8 @@ fn put_equations(
 {
     let count = f.equation_count;
     let mut to = at;
-    let mut i: u32 = 0;
-    while i < count {
+    for i in 0..count {
         to = put_equation_row(out, to, limit, library, text, work, f, i);
-        i += 1;
     }
     to
 }

@@ -1,53 +1,62 @@
 -- One law for each way through the code, in the code's terms; those of digits are apart.
-use mathlib.Core.Path.{◌≡◌, refl, sym, ap, ◌∙◌}
+use mathlib.Core.Path.{◌≡◌, sym, ap, ◌∙◌}
 use mathlib.Core.List.{List, [], ◌∷◌, ◌++◌}
-use Prim.Native.Nat.{ℕ, zero, suc, ◌+◌, ◌-◌, ◌/◌, ◌%◌, ◌<◌, ◌≤◌, min}
-use native.Mathlib.Nat.{not-suc-le-zero}
-use native.Mathlib.Numerals.{sub-one, add-one}
+use Prim.Native.Nat.{ℕ, ◌+◌, ◌-◌, ◌/◌, ◌%◌, ◌<◌, ◌≤◌, min}
+use native.Mathlib.Numerals.{add-one}
 use native.Mathlib.Omega.{arith}
 use borrow.Author.Rules.{rules}
 use lib.ListN.{length, get_or, take, drop, drop_of_length-le, length-drop}
-use lib.Seq.{drop-cons, take-nil, take-length, take_all, drop-append-le, drop-append-add, take-append-le, take-append-add}
+use lib.Seq.{drop-cons, take-nil, take_all, drop-append-le, drop-append-add, take-append-le, take-append-add}
 use Rattle.meaning.specs.Written.{digits, decimal}
 use Rattle.meaning.specs.Names.{bytes}
 use Rattle.meaning.specs.Numbers.{name_size}
 use Rattle.text_names.specs.Word.{token_of, name_of, leading, trailing, name_parts}
 use Rattle.text_names.specs.Joint.{joint}
 use Rattle.list_pen.specs.Pen.{Pen, pen, written, part}
-use Rattle.list_pen.proofs.Laws.{written_append, then}
+use Rattle.list_pen.proofs.Laws.{by_order, written_append, then}
 
--- a loop that copies the text's bytes from `start`, `size` of them: it is at i with n left, the next place is t, the list is o
-pub record Copying (l : ℕ) (s : List ℕ) (start size at : ℕ) (o₀ : List ℕ) (i n t : ℕ) (o : List ℕ) : Type 0 where
+-- a loop that writes the bytes: it is at i, the next place is t, the list is o
+pub record Copying (l : ℕ) (bs : List ℕ) (at : ℕ) (o₀ : List ℕ) (i t : ℕ) (o : List ℕ) : Type 0 where
   pub sized : length o ≡ length o₀
-  pub comes : written l (part s start size) (pen at o₀) ≡ written l (part s i n) (pen t o)
+  pub comes : written l bs (pen at o₀) ≡ written l (drop i bs) (pen t o)
 
-module _ (l : ℕ) (s : List ℕ) where
-  pub copy_start : (i n t : ℕ) (o : List ℕ) → Copying l s i n t o i n t o
-  copy_start i n t o = record { sized = refl; comes = refl }
-
-  module _ (start size at : ℕ) (o₀ : List ℕ) (i n t : ℕ) (o : List ℕ) (v : Copying l s start size at o₀ i n t o) where
-    pub copy_again : (r : ℕ) (o' : List ℕ) → 0 < n → i < length s → length o' ≡ length o → pen r o' ≡ written l (get_or s i 0 ∷ []) (pen t o) → Copying l s start size at o₀ (i + 1) (n - 1) r o'
+module _ (l : ℕ) (bs : List ℕ) where
+  module _ (at : ℕ) (o₀ : List ℕ) (i t : ℕ) (o : List ℕ) (v : Copying l bs at o₀ i t o) where
+    pub copy_again : (r : ℕ) (o' : List ℕ) → i < length bs → length o' ≡ length o → pen r o' ≡ written l (get_or bs i 0 ∷ []) (pen t o)
+        → Copying l bs at o₀ (i + 1) r o'
     unfolding written
-    copy_again r o' z h k e = record { sized = k ∙ v.sized; comes = v.comes ∙ go n z }
-      where
-        go : (n : ℕ) → 0 < n → written l (part s i n) (pen t o) ≡ written l (part s (i + 1) (n - 1)) (pen r o')
-        go zero z = absurd (not-suc-le-zero z)
-        go (suc n) z = rw (drop-cons s i 0 h, e, add-one i, sub-one)
+    copy_again r o' h k e = record { sized = k ∙ v.sized; comes = v.comes ∙ rw (drop-cons bs i 0, e, add-one i) }
 
-    pub copy_end : n ≤ 0 → pen t o ≡ written l (part s start size) (pen at o₀)
+    pub copy_end : length bs ≤ i → pen t o ≡ written l bs (pen at o₀)
     unfolding written
-    copy_end h = sym (v.comes ∙ go n h)
-      where
-        go : (n : ℕ) → n ≤ 0 → written l (part s i n) (pen t o) ≡ pen t o
-        go zero h = refl
-        go (suc n) h = absurd (not-suc-le-zero h)
+    copy_end h = sym (v.comes ∙ rw (drop_of_length-le bs h))
 
-    pub copy_past : length s ≤ i → pen t o ≡ written l (part s start size) (pen at o₀)
-    unfolding written
-    copy_past h = sym (v.comes ∙ rw (drop_of_length-le s h, take-nil n))
+-- the part of a text, where its ends are brought into the text
+module _ (s : List ℕ) (start size first n : ℕ) (f : first ≡ min start (length s)) (e : n ≡ min size (length s - first)) where
+  part_within : start ≤ length s → take n (drop start s) ≡ part s start size
+  part_within h =
+      let long : length (drop start s) ≡ length s - start = length-drop start s in
+      by_order size (length s - start)
+      (λ i. ap (λ (m : ℕ). take m (drop start s)) (omega arith))
+      (λ i. take_all n (drop start s) (omega arith) ∙ sym (take_all size (drop start s) (omega arith)))
 
-pub text_done : (l : ℕ) (s : List ℕ) (p q : Pen) → q ≡ written l (part s 0 (length s)) p → q ≡ written l s p
-text_done l s p q e = e ∙ ap (λ (x : List ℕ). written l x p) (take-length s)
+  part_past : length s ≤ start → take n (drop first s) ≡ part s start size
+  part_past h =
+      let past : length s ≤ first = omega arith in
+      ap (take n) (drop_of_length-le s past) ∙ take-nil n ∙ sym (ap (take size) (drop_of_length-le s h) ∙ take-nil size)
+
+  pub part_cut : take n (drop first s) ≡ part s start size
+  part_cut =
+      by_order start (length s)
+      (λ h. ap (λ (m : ℕ). take n (drop m s)) (omega arith) ∙ part_within (omega arith))
+      part_past
+
+-- what is written of the part, once its bytes are
+pub part_done : (l : ℕ) (s : List ℕ) (start size first n : ℕ) (p q : Pen) → first ≡ min start (length s) → n ≡ min size (length s - first)
+    → q ≡ written l (take (first + n - first) (drop first s)) p → q ≡ written l (part s start size) p
+part_done l s start size first n p q f e h =
+    let whole : first + n - first ≡ n = omega arith in
+    h ∙ ap (λ (bs : List ℕ). written l bs p) (ap (λ (m : ℕ). take m (drop first s)) whole ∙ part_cut s start size first n f e)
 
 -- the token of a name of the text a and the library b behind it: it starts at w / 256 and may have k bytes
 module _ (l : ℕ) (a b : List ℕ) (w k : ℕ) (p : Pen) (e : k ≡ min (w % 64) name_size) where
@@ -93,4 +102,4 @@ unfolding decimal
 number_done l n p q e = e
 
 -- what the answers of this crate hand to `search`, but for those of digits and of tokens
-pub ruleset cases = (copy_start, copy_again, copy_end, copy_past, text_done, name_done, number_done, rules)
+pub ruleset cases = (copy_again, copy_end, part_done, name_done, number_done, rules)

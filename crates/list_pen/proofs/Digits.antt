@@ -15,40 +15,36 @@ use Rattle.list_pen.specs.Pen.{Pen, pen, written, first_power}
 
 -- ---- the power of the first digit
 
--- a loop that multiplies p by ten: so many digits may still stand before that of p
-pub record Raising (n behind p left : ℕ) : Type 0 where
+-- a loop that multiplies p by ten, so many times already
+pub record Raising (n behind p done : ℕ) : Type 0 where
   pub some : 0 < p
-  pub comes : first_power behind n ≡ p * first_power left (n / p)
+  pub comes : first_power behind n ≡ p * first_power (behind - done) (n / p)
 
-pub raise_start : (n behind : ℕ) → Raising n behind 1 behind
-raise_start n behind = record { some = omega arith; comes = rw (div-one n) (omega arith) }
-
-module _ (n behind p left : ℕ) (v : Raising n behind p left) where
-  pub raise_again : 0 < left → p ≤ n / 10 → Raising n behind (p * 10) (left - 1)
+module _ (n behind p done : ℕ) (v : Raising n behind p done) where
+  pub raise_again : done < behind → p ≤ n / 10 → Raising n behind (p * 10) (done + 1)
   unfolding first_power pick
-  raise_again z h = record { some = let s = v.some in omega arith; comes = v.comes ∙ go left z }
+  raise_again z h =
+      let left : behind - done ≡ suc (behind - (done + 1)) = omega arith in
+      record { some = let s = v.some in omega arith; comes = v.comes ∙ rw left (go (behind - (done + 1))) }
     where
-      go : (left : ℕ) → 0 < left → p * first_power left (n / p) ≡ p * 10 * first_power (left - 1) (n / (p * 10))
-      go zero z = absurd (omega arith)
-      go (suc left) z =
-          rw (le-ltb (n / p) 10 ((le-div_iff_mul-le v.some).1 (omega arith)), sub-one, ← div-div-eq-div-mul n p 10)
+      go : (left : ℕ) → p * first_power (suc left) (n / p) ≡ p * 10 * first_power left (n / (p * 10))
+      go left =
+          rw (le-ltb (n / p) 10 ((le-div_iff_mul-le v.some).1 (omega arith)), ← div-div-eq-div-mul n p 10)
           (sym (mul_assoc p 10 (first_power left (n / p / 10))))
 
   pub raise_stop : n / 10 < p → p ≡ first_power behind n
   unfolding first_power pick
-  raise_stop h = sym (v.comes ∙ go left)
+  raise_stop h = sym (v.comes ∙ go (behind - done))
     where
       go : (left : ℕ) → p * first_power left (n / p) ≡ p
       go zero = mul-one p
       go (suc left) = rw (lt-ltb (n / p) 10 ((div-lt_iff_lt-mul v.some).1 (omega arith))) (mul-one p)
 
-  pub raise_end : left ≤ 0 → p ≡ first_power behind n
+  pub raise_end : behind ≤ done → p ≡ first_power behind n
   unfolding first_power
-  raise_end h = sym (v.comes ∙ go left h)
-    where
-      go : (left : ℕ) → left ≤ 0 → p * first_power left (n / p) ≡ p
-      go zero h = mul-one p
-      go (suc left) h = absurd (omega arith)
+  raise_end h =
+      let none : behind - done ≡ 0 = omega arith in
+      sym (v.comes ∙ rw none (mul-one p))
 
 -- ---- the digits from there on
 

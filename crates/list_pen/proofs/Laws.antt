@@ -13,7 +13,7 @@ use Rattle.list_window.specs.Pen.{Pen, pen, places_before, shown, mark, written}
 use Rattle.list_window.proofs.Laws.{shown_in, shown_before, mark_on, mark_off}
 
 -- either a is below b, or not
-by_order : {A : Type 0} (a b : ℕ) → (a < b → A) → (b ≤ a → A) → A
+pub by_order : {A : Type 0} (a b : ℕ) → (a < b → A) → (b ≤ a → A) → A
 by_order {A} a b f g = go (ltb a b) refl
   where
     go : (t : Bool) → ltb a b ≡ t → A

@@ -21,16 +21,11 @@ pub fn put_bytes(
 ) -> usize
     ensures { pen result out.new ≡ written limit (part text.now start size) (pen at out.old) }
 {
+    let first = start.min(text.len());
+    let end = first + size.min(text.len() - first);
     let mut to = at;
-    let mut i = start;
-    let mut left = size;
-    while 0 < left {
-        if text.len() <= i {
-            return to;
-        }
-        to = put(out, to, limit, text[i]);
-        i += 1;
-        left -= 1;
+    for byte in &text[first..end] {
+        to = put(out, to, limit, *byte);
     }
     to
 }
@@ -81,19 +76,17 @@ fn first_power(n: usize, behind: usize) -> usize
     ensures { result ≡ first_power behind n }
 {
     let mut power = 1;
-    let mut left = behind;
-    while 0 < left {
+    for _ in 0..behind {
         // ten times the power may not fit, so n is divided
         if n / 10 < power {
             return power;
         }
         power *= 10;
-        left -= 1;
     }
     power
 }
 
-// The digits of n, `size` of them at most.
+// The digits of n, `size` of them at most. By hand, since each byte goes through the window, which std's formatting knows nothing of.
 pub fn put_digits(out: &mut [u8], at: usize, limit: usize, n: usize, size: usize) -> usize
     ensures { pen result out.new ≡ written limit (digits size n) (pen at out.old) }
 {
@@ -102,6 +95,7 @@ pub fn put_digits(out: &mut [u8], at: usize, limit: usize, n: usize, size: usize
     }
     let mut to = at;
     let mut power = first_power(n, size - 1);
+    // a while: each turn divides the power
     while 0 < power {
         to = put(out, to, limit, (48 + n / power % 10) as u8);
         power /= 10;

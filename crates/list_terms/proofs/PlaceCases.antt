@@ -10,7 +10,7 @@ use denote.Ref.{at_last}
 use Rattle.list_pen.specs.Pen.{pen, written}
 use Rattle.list_pen.proofs.Laws.{then}
 use Rattle.list_terms.specs.declared.Printed.{Printed}
-use Rattle.list_terms.specs.Terms.{Spelt, spelt, item_at, alone, opened, term_at, Shown, reached, Lent, Placed}
+use Rattle.list_terms.specs.Terms.{Spelt, spelt, item_at, alone, opened, term_at, Shown, Lent, Placed}
 use Rattle.list_terms.specs.Terms.{followed, heads_at, down_at, closed, back_at, Applied, Headed}
 use Rattle.list_terms.proofs.TermCases.{term_leaf, heads_next, down_back, applied_again}
 
@@ -72,9 +72,13 @@ module _ (text w : List ℕ) (d : ℕ) (p₀ : List ℕ) (o₀ : Lent) where
           placed = placed_then p₀ o₀ a p o v.heads (term_at text w b (d - n) a.next) p₁ o₁ last;
         }
 
-    pub heading_end : d ≤ n → Headed text w d n p₀ o₀ p o
+    pub heading_end : d ≤ n → Headed text w d d p₀ o₀ p o
     unfolding term_at
-    heading_end y = let z : d - n ≡ 0 = omega arith in heading_down p o (rw z (unmoved p o))
+    heading_end y =
+        let within = v.within in
+        let z : d - n ≡ 0 = omega arith in
+        let all : n ≡ d = omega arith in
+        rw all at (heading_down p o (rw z (unmoved p o)))
 
     module _ (k : ℕ) (e : k ≡ get_or w (get_or p 1 0) 0 % 16) (y : n < d) where
       pub heading_leaf : (p₁ : List ℕ) (o₁ : Lent) → k ≡ 0 → Placed (item_at text w (get_or p 3 0) (get_or p 1 0)) p o p₁ o₁ → Headed text w d n p₀ o₀ p₁ o₁
@@ -102,9 +106,6 @@ pub record Leaving (s : Spelt) (p₀ : List ℕ) (o₀ : Lent) (t : Spelt) (p : 
   pub goes_on : (p' : List ℕ) (o' : Lent) → Placed t p o p' o' → Placed s p₀ o₀ p' o'
 
 module _ (s : Spelt) (p₀ : List ℕ) (o₀ : Lent) where
-  pub leaving_first : Leaving s p₀ o₀ s p₀ o₀
-  leaving_first = record { visible = refl; goes_on = λ p' o' h. h }
-
   leaving_then : (t u : Spelt) (p : List ℕ) (o : Lent) (p₁ : List ℕ) (o₁ : Lent) → Leaving s p₀ o₀ (followed t u) p o → Placed t p o p₁ o₁
       → Leaving s p₀ o₀ u p₁ o₁
   leaving_then t u p o p₁ o₁ v h = record {
@@ -139,13 +140,6 @@ pub record Backing (text w : List ℕ) (d i n₀ : ℕ) (p₀ : List ℕ) (o₀ 
   pub leaving : Leaving (back_at text w (get_or p₀ 3 0) d n₀ i (get_or p₀ 1 0)) p₀ o₀ (back_at text w (get_or p₀ 3 0) d n i (get_or p 1 0)) p o
 
 module _ (text w : List ℕ) (d n₀ : ℕ) (q : List ℕ) (u : Lent) (p₀ : List ℕ) (o₀ : Lent) (g : Headed text w d n₀ q u p₀ o₀) where
-  pub backing_first : Backing text w d (get_or q 1 0) n₀ p₀ o₀ n₀ p₀ o₀
-  backing_first = record {
-    within = g.within;
-    applied = g.applied;
-    leaving = leaving_first (back_at text w (get_or p₀ 3 0) d n₀ (get_or q 1 0) (get_or p₀ 1 0)) p₀ o₀;
-  }
-
   pub backing_end : (n : ℕ) (p : List ℕ) (o : Lent) → Backing text w d (get_or q 1 0) n₀ p₀ o₀ n p o → n ≤ 0
       → Placed (term_at text w (get_or q 3 0) d (get_or q 1 0)) q u p o
   unfolding back_at
@@ -158,9 +152,6 @@ module _ (text w : List ℕ) (d n₀ : ℕ) (q : List ℕ) (u : Lent) (p₀ : Li
       rw (down_back text w b d i n₀ g.within g.applied) (placed_then q u a p₀ o₀ g.placed (back_at text w b d n₀ i a.next) p o back)
 
 module _ (text w : List ℕ) (d i n₀ : ℕ) (p₀ : List ℕ) (o₀ : Lent) (n : ℕ) (p : List ℕ) (o : Lent) (v : Backing text w d i n₀ p₀ o₀ n p o) (y : 0 < n) where
-  pub backing_some : 0 < get_or w (i + (n - 1)) 0 % 16
-  backing_some = let some = v.applied (n - 1) (omega arith) in omega arith
-
   pub backing_again : (k : ℕ) (p₁ : List ℕ) (o₁ : Lent) → k ≡ get_or w (i + (n - 1)) 0 % 16 - 1
       → Placed (closed (term_at text w (get_or p 3 0) (d - (n - 1) - 1)) k (get_or p 1 0)) p o p₁ o₁ → Backing text w d i n₀ p₀ o₀ (n - 1) p₁ o₁
   unfolding back_at
@@ -175,10 +166,5 @@ module _ (text w : List ℕ) (d i n₀ : ℕ) (p₀ : List ℕ) (o₀ : Lent) (n
         applied = λ m z. v.applied m (omega arith);
         leaving = rw turn.shown.node (leaving_then whole p₀ o₀ a (back_at text w b d (n - 1) i a.next) p o p₁ o₁ (rw x at v.leaving) turn);
       }
-
--- the output comes back as the reference that is handed back shows it, since both have one name
-pub came_back : (s : Spelt) (p : List ℕ) (o : Lent) (p' : List ℕ) (o' : Lent) (r : List ℕ) → (o.ghost_name ≡ o'.ghost_name → r ≡ o'.now) → Placed s p o p' o'
-    → Shown (get_or p 2 0) (get_or p 0 0) s o.now (reached p') r
-came_back s p o p' o' r f h = rw (f (sym (ap (λ x. x.ghost_name) h.same))) h.shown
 
 pub ruleset places = (placed, marked, opened_placed, heading_first, heading_end, heading_leaf, heading_again, rules)

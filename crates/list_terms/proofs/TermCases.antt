@@ -1,5 +1,5 @@
 -- One law for each way through the code that writes terms and equations, in the code's terms.
-use mathlib.Core.Path.{◌≡◌, refl, sym, ap, ◌∙◌}
+use mathlib.Core.Path.{◌≡◌, refl, ap, ◌∙◌}
 use mathlib.Core.Logic.{⊎_elim}
 use mathlib.Core.List.{List, [], ◌∷◌, ◌++◌, append-nil, append_assoc}
 use Prim.Native.Nat.{ℕ, zero, suc, ◌+◌, ◌-◌, ◌*◌, ◌/◌, ◌%◌, ◌<◌, ◌≤◌}
@@ -9,7 +9,7 @@ use native.Mathlib.Omega.{arith}
 use borrow.Author.Rules.{rules}
 use borrow.Author.Tests.{eq-eqb, ne_eqb, lt-ltb, le-ltb}
 use lib.Dec.{eqb-suc-zero}
-use lib.ListN.{length, get_or, get_or-eq_default}
+use lib.ListN.{length, get_or}
 use Rattle.meaning.specs.Lists.{pick}
 use Rattle.meaning.specs.Names.{bytes}
 use Rattle.meaning.specs.Written.{numbered}
@@ -21,10 +21,6 @@ use Rattle.list_pen.proofs.Laws.{then}
 use Rattle.list_terms.specs.declared.Printed.{Printed}
 use Rattle.list_terms.specs.Terms.{Spelt, spelt, node_text, item_at, alone, opened, listed, term_by, term_at, sides_at, when_at, rule_at, equation_at}
 use Rattle.list_terms.specs.Terms.{followed, heads_at, down_at, closed, back_at, Shown, Applied}
-
--- past the end is no name
-pub name_none : (w : List ℕ) (b r : ℕ) → length w ≤ b → 0 ≡ get_or w (b + r * row_size + 1) 0
-name_none w b r h = sym (get_or-eq_default w 0 {n = b + r * row_size + 1} (omega arith))
 
 -- only a node has arguments
 pub node_there : (w : List ℕ) (i : ℕ) → 0 < get_or w i 0 % 16 → i < length w
@@ -53,9 +49,6 @@ pub record Listing (l : ℕ) (one : ℕ → Spelt) (at : ℕ) (o₀ : List ℕ) 
   pub goes_on : (r : Printed) (o' : List ℕ) → Shown l t (listed one m j) o r o' → Shown l at (listed one k i) o₀ r o'
 
 module _ (l : ℕ) (one : ℕ → Spelt) (at : ℕ) (o₀ : List ℕ) (k i : ℕ) where
-  pub listing_first : Listing l one at o₀ k i k i at o₀
-  listing_first = record { size = refl; goes_on = λ r o' s. s }
-
   module _ (m j t : ℕ) (o : List ℕ) (v : Listing l one at o₀ k i m j t o) where
     pub listing_none : m ≤ 0 → Shown l at (listed one k i) o₀ (record { at = t; next = j }) o
     unfolding listed written
@@ -63,21 +56,21 @@ module _ (l : ℕ) (one : ℕ → Spelt) (at : ℕ) (o₀ : List ℕ) (k i : ℕ
         let z : m ≡ 0 = omega arith in
         v.goes_on (record { at = t; next = j }) o (rw z (record { node = refl; content = refl }))
 
-    module _ (r : Printed) (o₁ : List ℕ) (h : Shown l t (one j) o r o₁) where
-      pub listing_last : m ≡ 1 → Shown l at (listed one k i) o₀ r o₁
+    module _ (r : Printed) (o₁ : List ℕ) (h : Shown l t (one j) o r o₁) (y : 0 < m) where
+      pub listing_last : m - 1 ≡ 0 → Shown l at (listed one k i) o₀ r o₁
       unfolding listed pick
-      listing_last z = v.goes_on r o₁ (rw z h)
+      listing_last z = let x : m ≡ 1 = omega arith in v.goes_on r o₁ (rw x h)
 
-      pub listing_again : (t' : ℕ) (o₂ : List ℕ) → 0 < m → (m ≡ 1 → ⊥) → length o₂ ≡ length o → pen t' o₂ ≡ written l (44 ∷ []) (pen r.at o₁)
+      pub listing_again : (t' : ℕ) (o₂ : List ℕ) → (m - 1 ≡ 0 → ⊥) → length o₂ ≡ length o → pen t' o₂ ≡ written l (44 ∷ []) (pen r.at o₁)
           → Listing l one at o₀ k i (m - 1) r.next t' o₂
       unfolding listed pick
-      listing_again t' o₂ y z s e = record {
+      listing_again t' o₂ z s e = record {
         size = s ∙ v.size;
         goes_on = λ q o₃ f.
             let x : m ≡ suc (m - 1) = omega arith in
             let g = rw h.node at f in
             let rest = (listed one (m - 1) (one j).next).bytes in
-            v.goes_on q o₃ (rw (x, ne_eqb (m - 1) 0 (λ u. z (x ∙ ap suc u)))
+            v.goes_on q o₃ (rw (x, ne_eqb (m - 1) 0 z)
             (record {
               node = g.node;
               content =
@@ -200,4 +193,4 @@ equation_done l text w b n row p a c e q f g h k =
     let name = name_of text row.tag in
     then l (bytes "[") (name ++ (bytes "] " ++ rule)) p a q f (then l name (bytes "] " ++ rule) a c q g (then l (bytes "] ") rule c e q h k))
 
-pub ruleset terms = (name_none, item_visible, item_hidden, item_there, item_past, listing_first, listing_none, listing_last, listing_again, sides_done, when_none, when_some, rule_done, equation_done, rules)
+pub ruleset terms = (item_visible, item_hidden, item_there, item_past, listing_none, listing_last, listing_again, sides_done, when_none, when_some, rule_done, equation_done, rules)

@@ -46,16 +46,14 @@ fn put_conditions(
 {
     let mut to = at;
     let mut node = i;
-    let mut more = left;
-    while 0 < more {
+    for more in (0..left).rev() {
         let p = put_sides(out, to, limit, library, text, work, visible, depth, node);
-        if more == 1 {
+        if more == 0 {
             return p;
         }
         let filled = p.at;
         node = p.next;
         to = list_pen::put(out, filled, limit, b',');
-        more -= 1;
     }
     Printed { at: to, next: node }
 }

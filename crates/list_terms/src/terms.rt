@@ -75,7 +75,9 @@ fn put_single(
 
 // The same at four places, which are those of the output, the node, the limit and the visible rows.
 fn put_node(out: &mut &mut [u8], source: &Source, places: &mut [usize; 4])
-    ensures { Placed (item_at (joint source.now.library.now source.now.text.now) source.now.work.now (get_or places.old 3 0) (get_or places.old 1 0)) places.old out.old places.new out.new }
+    ensures { let text = joint source.now.library.now source.now.text.now in
+        let item = item_at text source.now.work.now (get_or places.old 3 0) (get_or places.old 1 0) in
+        Placed item places.old out.old places.new out.new }
 {
     let at = places[0];
     let i = places[1];
@@ -126,7 +128,9 @@ fn others_at(work: &[u32], i: usize, n: usize) -> usize
 
 // An item that has arguments, and the bracket before them.
 fn put_opened(out: &mut &mut [u8], source: &Source, places: &mut [usize; 4])
-    ensures { Placed (opened (item_at (joint source.now.library.now source.now.text.now) source.now.work.now (get_or places.old 3 0) (get_or places.old 1 0))) places.old out.old places.new out.new }
+    ensures { let text = joint source.now.library.now source.now.text.now in
+        let item = item_at text source.now.work.now (get_or places.old 3 0) (get_or places.old 1 0) in
+        Placed (opened item) places.old out.old places.new out.new }
 {
     put_node(out, source, places);
     put_mark(out, places, b'(');
@@ -137,17 +141,15 @@ fn put_opened(out: &mut &mut [u8], source: &Source, places: &mut [usize; 4])
 fn put_heads(out: &mut &mut [u8], source: &Source, places: &mut [usize; 4], depth: usize) -> usize
     ensures { Headed (joint source.now.library.now source.now.text.now) source.now.work.now depth result places.old out.old places.new out.new }
 {
-    let mut n = 0;
-    while n < depth {
+    for n in 0..depth {
         let i = places[1];
         if arguments_at(source.work, i) == 0 {
             put_node(out, source, places);
             return n;
         }
         put_opened(out, source, places);
-        n += 1;
     }
-    n
+    depth
 }
 
 // What follows an item's first argument: the others from the node on, `left` of them, each behind a comma, and the closing bracket.
@@ -159,13 +161,14 @@ fn put_more(
     depth: usize,
     left: usize,
 )
-    ensures { Placed (closed (term_at (joint source.now.library.now source.now.text.now) source.now.work.now (get_or places.old 3 0) depth) left (get_or places.old 1 0)) places.old out.old places.new out.new }
+    ensures { let text = joint source.now.library.now source.now.text.now in
+        let term = term_at text source.now.work.now (get_or places.old 3 0) depth in
+        Placed (closed term left (get_or places.old 1 0)) places.old out.old places.new out.new }
 {
-    let mut more = left;
-    while 0 < more {
+    // counted down, so that a level keeps one word for it
+    for _ in (0..left).rev() {
         put_mark(out, places, b',');
         put_deep(out, source, places, depth);
-        more -= 1;
     }
     put_mark(out, places, b')');
 }
@@ -174,12 +177,13 @@ fn put_more(
 // only the other arguments take a level.
 #[cycle(writing)]
 fn put_deep(out: &mut &mut [u8], source: &Source, places: &mut [usize; 4], depth: usize)
-    ensures { Placed (term_at (joint source.now.library.now source.now.text.now) source.now.work.now (get_or places.old 3 0) depth (get_or places.old 1 0)) places.old out.old places.new out.new }
+    ensures { let text = joint source.now.library.now source.now.text.now in
+        let term = term_at text source.now.work.now (get_or places.old 3 0) depth (get_or places.old 1 0) in
+        Placed term places.old out.old places.new out.new }
 {
     let i = places[1];
-    let mut n = put_heads(out, source, places, depth);
-    while 0 < n {
-        n -= 1;
+    let heads = put_heads(out, source, places, depth);
+    for n in (0..heads).rev() {
         let left = others_at(source.work, i, n);
         put_more(out, source, places, depth - n - 1, left);
     }
@@ -195,7 +199,8 @@ fn put_lent<'a>(
     places: &mut [usize; 4],
     depth: usize,
 ) -> &'a mut [u8]
-    ensures { Placed (term_at (joint library.now text.now) work.now (get_or places.old 3 0) depth (get_or places.old 1 0)) places.old out.entry places.new result }
+    ensures { let term = term_at (joint library.now text.now) work.now (get_or places.old 3 0) depth (get_or places.old 1 0) in
+        Placed term places.old out.entry places.new result }
 {
     let source = Source {
         library,

@@ -2,7 +2,7 @@
 use mathlib.Core.Path.{◌≡◌, refl, sym, ap, ap₂, ◌∙◌}
 use mathlib.Core.Bool.{Bool, true, false, false≢true}
 use mathlib.Core.List.{List, [], ◌∷◌}
-use Prim.Native.Nat.{ℕ, zero, suc, ◌+◌, ◌-◌, ◌*◌, ◌^◌, ◌<◌, ◌≤◌, min}
+use Prim.Native.Nat.{ℕ, zero, suc, ◌+◌, ◌-◌, ◌*◌, ◌<◌, ◌≤◌, min}
 use native.Mathlib.Omega.{arith}
 use native.Mathlib.Nat.{zero-add, suc-add}
 use lib.Dec.{eqb, ltb, leb}
@@ -10,11 +10,15 @@ use lib.ListN.{length, take, drop, length-take, drop_of_length-le}
 use lib.Seq.{take_all, take-nil, take-take, drop-drop}
 use borrow.Author.Rules.{rules}
 use borrow.Author.Tests.{eq-eqb, ne_eqb, ltb-true, ltb-false}
+use Rattle.std.proofs.Common.{Option, Some, None}
+use Rattle.std.specs.declared.cmp.Ordering.{Ordering}
+use Rattle.std.specs.Ordering.{ordering_index, is_eq, is_le}
 use Rattle.meaning.specs.Lists.{pick}
 use Rattle.meaning.specs.Names.{same, bytes_not_after}
 use Rattle.meaning.specs.Written.{origin_text, shape_text}
 use Rattle.meaning.specs.OrderLaws.{same_equal}
 use Rattle.text_runs.specs.Orders.{bytes_compared}
+use Rattle.text_runs.specs.Codes.{seen_index, index_few, index_eq, index_ne}
 use Rattle.text_names.proofs.Compared.{bytes_told}
 use Rattle.form_rows.specs.declared.Row.{Row}
 use Rattle.form_rows.specs.Rows.{origin_of, shape_of}
@@ -25,7 +29,7 @@ use Rattle.list_pen.proofs.Laws.{window_size, window_shows}
 use Rattle.list_texts.specs.declared.Part.{Part}
 use Rattle.list_texts.specs.declared.Facet.{Facet}
 use Rattle.list_texts.specs.declared.Facet.TheVariants.{Origin, Shape}
-use Rattle.list_texts.specs.Parts.{line_size, part_size, facet_text, Countable, PartOf, parts_compared}
+use Rattle.list_texts.specs.Parts.{line_size, part_size, facet_text, PartOf, parts_compared}
 use Rattle.list_texts.specs.Sizes.{origin_size, shape_size}
 
 -- ---- a facet, whichever it is
@@ -40,9 +44,6 @@ module _ (text tape w : List ℕ) (by : Facet) (row : Row) (p q : Pen) (l : ℕ)
       → q ≡ written l (facet_text text tape w by row) p
   unfolding facet_text
   shape_put b n e h = rw e h
-
-pub shape_countable : (by : Facet) (b n : ℕ) → Countable by → by ≡ Shape b n → n < 2 ^ 31
-shape_countable by b n h e = rw e at h
 
 -- ---- a part
 
@@ -59,9 +60,6 @@ module _ (before n k : ℕ) (bs o o' : List ℕ) (size : length o ≡ part_size)
     sized = es ∙ en ∙ window_size before 32 k bs o o' size limit;
   }
 
-pub part_fits : (x : Part) (before : ℕ) (bs : List ℕ) → PartOf x before bs → x.size ≤ length x.bytes
-part_fits x before bs h = h.fits
-
 module _ (a b : Part) (c : ℕ) (ec : c ≡ bytes_compared (part a.bytes 0 a.size) (part b.bytes 0 b.size)) where
   abbrev x : List ℕ
   x = take a.size a.bytes
@@ -75,17 +73,31 @@ module _ (a b : Part) (c : ℕ) (ec : c ≡ bytes_compared (part a.bytes 0 a.siz
       let u : b.size - 0 ≡ b.size = omega arith in
       ec ∙ ap₂ (λ (i j : ℕ). bytes_compared (take i a.bytes) (take j b.bytes)) z u
 
-  pub parts_level : a.size ≡ 32 → c ≡ 1 → 3 ≡ parts_compared a.size (take a.size a.bytes) (take b.size b.bytes)
+  level_parts : a.size ≡ 32 → c ≡ 1 → 3 ≡ parts_compared a.size (take a.size a.bytes) (take b.size b.bytes)
   unfolding parts_compared pick
-  parts_level h k = rw (eq-eqb a.size part_size h, eq-eqb (bytes_compared x y) 1 (sym told ∙ k))
+  level_parts h k = rw (eq-eqb a.size part_size h, eq-eqb (bytes_compared x y) 1 (sym told ∙ k))
 
-  pub parts_differ : a.size ≡ 32 → (c ≡ 1 → ⊥) → c ≡ parts_compared a.size (take a.size a.bytes) (take b.size b.bytes)
+  different_parts : a.size ≡ 32 → (c ≡ 1 → ⊥) → c ≡ parts_compared a.size (take a.size a.bytes) (take b.size b.bytes)
   unfolding parts_compared pick
-  parts_differ h k = rw (eq-eqb a.size part_size h, ne_eqb (bytes_compared x y) 1 (λ e. k (told ∙ e))) told
+  different_parts h k = rw (eq-eqb a.size part_size h, ne_eqb (bytes_compared x y) 1 (λ e. k (told ∙ e))) told
 
-  pub parts_last : (a.size ≡ 32 → ⊥) → c ≡ parts_compared a.size (take a.size a.bytes) (take b.size b.bytes)
+  last_parts : (a.size ≡ 32 → ⊥) → c ≡ parts_compared a.size (take a.size a.bytes) (take b.size b.bytes)
   unfolding parts_compared pick
-  parts_last h = rw (ne_eqb a.size part_size h) told
+  last_parts h = rw (ne_eqb a.size part_size h) told
+
+module _ (a b : Part) (o : Ordering) (eo : ordering_index o ≡ bytes_compared (part a.bytes 0 a.size) (part b.bytes 0 b.size)) where
+  pub parts_last : (a.size ≡ 32 → ⊥) → seen_index (Some o) ≡ parts_compared a.size (take a.size a.bytes) (take b.size b.bytes)
+  unfolding seen_index
+  parts_last h = last_parts a b (ordering_index o) eo h
+
+  module _ (t : Bool) (et : t ≡ is_eq o) (h : a.size ≡ 32) where
+    pub parts_level : t ≡ true → seen_index None ≡ parts_compared a.size (take a.size a.bytes) (take b.size b.bytes)
+    unfolding seen_index
+    parts_level k = level_parts a b (ordering_index o) eo h (index_eq o t et k)
+
+    pub parts_differ : t ≡ false → seen_index (Some o) ≡ parts_compared a.size (take a.size a.bytes) (take b.size b.bytes)
+    unfolding seen_index
+    parts_differ k = different_parts a b (ordering_index o) eo h (index_ne o t et k)
 
 -- ---- lines by their fronts
 
@@ -169,9 +181,6 @@ pub record Level (a b : List ℕ) (i : ℕ) : Type 0 where
   pub level : bytes_compared (take line_size a) (take line_size b) ≡ bytes_compared (left_of i a) (left_of i b)
 
 module _ (a b : List ℕ) where
-  pub level_start : Level a b 0
-  level_start = record { level = refl }
-
   module _ (i : ℕ) (v : Level a b i) where
     pub level_end : 128 ≤ i → 1 ≡ bytes_compared (take line_size a) (take line_size b)
     unfolding bytes_compared same pick
@@ -201,14 +210,14 @@ module _ (a b : List ℕ) where
           let second = eq.shows ∙ sym (part_of_left b) in
           rw (e, first, second) (parts_told p.size here there)
 
-      pub level_on : 3 ≤ c → Level a b (i + 1)
-      level_on k = record {
+      level_passed : 3 ≤ c → Level a b (i + 1)
+      level_passed k = record {
         level = v.level ∙ front_passed 32 (left_of i a) (left_of i b) (tells.0 k) ∙ ap₂ bytes_compared (after_part a) (after_part b);
       }
 
-      pub level_decided : c < 3 → c ≡ bytes_compared (take line_size a) (take line_size b)
+      level_told : c < 3 → c ≡ bytes_compared (take line_size a) (take line_size b)
       unfolding bytes_compared pick
-      level_decided k = go (same here there) refl
+      level_told k = go (same here there) refl
         where
           go : (s : Bool) → same here there ≡ s → c ≡ bytes_compared (take line_size a) (take line_size b)
           go true g =
@@ -218,30 +227,42 @@ module _ (a b : List ℕ) where
               tells.2 k ∙ rw g (sym (v.level ∙ short_same 32 (left_of i a) (left_of i b) g short))
           go false g = tells.2 k ∙ sym (v.level ∙ front_decides 32 (left_of i a) (left_of i b) g)
 
+    module _ (r : Option Ordering) (p q : Part) (h : i < 128) (ep : PartOf p (i * 32) a) (eq : PartOf q (i * 32) b)
+        (e : seen_index r ≡ parts_compared p.size (take p.size p.bytes) (take q.size q.bytes)) where
+      pub level_on : r ≡ None → Level a b (i + 1)
+      unfolding seen_index
+      level_on w = level_passed 3 p q h ep eq (rw w at e) (omega arith)
+
+      pub level_decided : (o : Ordering) → r ≡ Some o → ordering_index o ≡ bytes_compared (take line_size a) (take line_size b)
+      unfolding seen_index
+      level_decided o w = level_told (ordering_index o) p q h ep eq (rw w at e) (index_few o)
+
 -- ---- what is bytes-compared
 
-module _ (text tape w : List ℕ) (c : ℕ) where
-  whole_compared : (a b : List ℕ) → length a ≤ line_size → length b ≤ line_size → c ≡ bytes_compared (take line_size a) (take line_size b) → c ≡ bytes_compared a b
+module _ (text tape w : List ℕ) (o : Ordering) where
+  whole_compared : (a b : List ℕ) → length a ≤ line_size → length b ≤ line_size → ordering_index o ≡ bytes_compared (take line_size a) (take line_size b)
+      → ordering_index o ≡ bytes_compared a b
   whole_compared a b h k e = e ∙ ap₂ bytes_compared (take_all line_size a h) (take_all line_size b k)
 
-  pub origins_compared : (r s : Row) → c ≡ bytes_compared (take line_size (facet_text text tape w Origin r)) (take line_size (facet_text text tape w Origin s))
-      → c ≡ bytes_compared (origin_text (origin_of text tape r.origin)) (origin_text (origin_of text tape s.origin))
+  pub origins_compared : (r s : Row)
+      → ordering_index o ≡ bytes_compared (take line_size (facet_text text tape w Origin r)) (take line_size (facet_text text tape w Origin s))
+      → ordering_index o ≡ bytes_compared (origin_text (origin_of text tape r.origin)) (origin_text (origin_of text tape s.origin))
   unfolding facet_text
   origins_compared r s e = whole_compared _ _ (origin_size text tape r.origin) (origin_size text tape s.origin) e
 
-  pub types_told : (r s : Row) (b n : ℕ)
-      → c ≡ bytes_compared (take line_size (facet_text text tape w (Shape b n) r)) (take line_size (facet_text text tape w (Shape b n) s))
+  pub types_told : (r s : Row) (b n : ℕ) (t : Bool) → t ≡ is_le o
+      → ordering_index o ≡ bytes_compared (take line_size (facet_text text tape w (Shape b n) r)) (take line_size (facet_text text tape w (Shape b n) s))
       → length r.sorts ≡ 9 → length s.sorts ≡ 9
-      → ltb c 2 ≡ bytes_not_after (shape_text (items_at text tape w b n) (shape_of text tape r.kind r.sorts))
+      → t ≡ bytes_not_after (shape_text (items_at text tape w b n) (shape_of text tape r.kind r.sorts))
       (shape_text (items_at text tape w b n) (shape_of text tape s.kind s.sorts))
   unfolding facet_text
-  types_told r s b n e h k =
+  types_told r s b n t g e h k =
       let first = shape_size text tape (items_at text tape w b n) r.kind r.sorts h in
       let second = shape_size text tape (items_at text tape w b n) s.kind s.sorts k in
-      bytes_told _ _ c (whole_compared _ _ first second e)
+      bytes_told _ _ o t g (whole_compared _ _ first second e)
 
-pub ruleset parts = (origin_put, shape_put, shape_countable, part_written, part_fits, parts_level, parts_differ, parts_last)
+pub ruleset parts = (origin_put, shape_put, part_written, parts_level, parts_differ, parts_last)
 
-pub ruleset levels = (level_start, level_end, level_on, level_decided, origins_compared, types_told, bytes_told)
+pub ruleset levels = (level_end, level_on, level_decided, origins_compared, types_told, bytes_told)
 
 pub ruleset cases = (parts, levels, rules)

@@ -3,9 +3,11 @@
 #![tactic(auto)]
 
 ghost use Rattle.std.specs.Prelude.{◌≡◌, ◌-◌, ◌^◌, ◌<◌, ◌≤◌, min, length, take};
+ghost use Rattle.std.specs.Ordering.{ordering_index};
 ghost use Rattle.meaning.specs.Names.{bytes_not_after};
 ghost use Rattle.meaning.specs.Written.{origin_text, shape_text};
 ghost use Rattle.text_runs.specs.Orders.{bytes_compared};
+ghost use Rattle.text_runs.specs.Codes.{seen_index};
 ghost use Rattle.text_names.specs.Joint.{joint};
 ghost use Rattle.list_pen.specs.Pen.{pen, written};
 ghost use Rattle.form_rows.specs.Rows.{origin_of, shape_of};
@@ -18,9 +20,11 @@ use form_rows::Row;
 use list_items::put_origin;
 use list_terms::equations::put_equation;
 use list_types::put_shape;
+use std::cmp::Ordering;
 use text_names::compare_bytes;
 
-// A part of a written line: the first `size` bytes.
+// A part of a written line: the first `size` bytes. An array with its size beside, since there is no heap, and both parts that are compared
+// are in memory at once.
 #[derive(Clone, Copy)]
 pub struct Part {
     pub bytes: [u8; 32],
@@ -28,7 +32,7 @@ pub struct Part {
 }
 
 // What of two items is compared as it is written: their origins; or what follows their names, where the hidden sorts in order are `count` rows
-// from `base` on.
+// from `base` on. An enum: a closure that writes would have to promise in its own clause what `facet_text` says of both.
 #[derive(Clone, Copy)]
 pub enum Facet {
     Origin,
@@ -61,11 +65,7 @@ fn put_facet(
 fn size_of_part(before: usize, end: usize) -> usize
     ensures { result ≡ min (end - before) 32 }
 {
-    if end <= before {
-        return 0;
-    }
-    let left = end - before;
-    if left < 32 { left } else { 32 }
+    end.saturating_sub(before).min(32)
 }
 
 // The part of an item's facet that begins at `before`.
@@ -117,26 +117,26 @@ fn equation_part(
     Part { bytes, size }
 }
 
-// 3 if both parts are full and the same, else 1 if they are the same, 0 if a comes first, 2 if b does.
-fn compare_parts(a: Part, b: Part) -> u8
+// Which of two parts comes first, `Equal` if they are the same; none if both are full and the same.
+fn compare_parts(a: Part, b: Part) -> Option<Ordering>
     requires size_in_bounds { a.size ≤ length a.bytes }
     requires size_in_bounds_2 { b.size ≤ length b.bytes }
-    ensures { result ≡ parts_compared a.size (take a.size a.bytes) (take b.size b.bytes) }
+    ensures { seen_index result ≡ parts_compared a.size (take a.size a.bytes) (take b.size b.bytes) }
 {
     let x = a.bytes;
     let y = b.bytes;
     let n = a.size;
     let m = b.size;
-    let c = compare_bytes(&x[0..n], &y[0..m]);
+    let order = compare_bytes(&x[0..n], &y[0..m]);
     if n == 32 {
-        if c == 1 {
-            return 3;
+        if order.is_eq() {
+            return None;
         }
     }
-    c
+    Some(order)
 }
 
-// 1 if the facets of a and b are written alike, 0 if a's comes first, 2 if b's does: up to more bytes than any has.
+// Which of the facets of a and b comes first as they are written, `Equal` if they are written alike: up to more bytes than any has.
 fn compare_items(
     library: &[u8],
     text: &[u8],
@@ -145,24 +145,21 @@ fn compare_items(
     by: Facet,
     a: Row,
     b: Row,
-) -> u8
+) -> Ordering
     requires { Countable by }
-    ensures { result ≡ bytes_compared (take line_size (facet_text (joint library.now text.now) tape.now work.now by a)) (take line_size (facet_text (joint library.now text.now) tape.now work.now by b)) }
+    ensures { ordering_index result ≡ bytes_compared (take line_size (facet_text (joint library.now text.now) tape.now work.now by a)) (take line_size (facet_text (joint library.now text.now) tape.now work.now by b)) }
 {
-    let mut i: usize = 0;
-    while i < 128 {
+    for i in 0..128 {
         let x = item_part(library, text, tape, work, by, a, i * 32);
         let y = item_part(library, text, tape, work, by, b, i * 32);
-        let c = compare_parts(x, y);
-        if c < 3 {
-            return c;
+        if let Some(order) = compare_parts(x, y) {
+            return order;
         }
-        i += 1;
     }
-    1
+    Ordering::Equal
 }
 
-// 1 if a and b are written alike, 0 if a comes first, 2 if b does: up to more bytes than any equation has.
+// Which of a and b comes first as they are written, `Equal` if they are written alike: up to more bytes than any equation has.
 fn compare_equations(
     library: &[u8],
     text: &[u8],
@@ -171,23 +168,20 @@ fn compare_equations(
     nodes: u32,
     a: EquationRow,
     b: EquationRow,
-) -> u8
-    ensures { result ≡ bytes_compared (take line_size (equation_at (joint library.now text.now) work.now visible nodes a)) (take line_size (equation_at (joint library.now text.now) work.now visible nodes b)) }
+) -> Ordering
+    ensures { ordering_index result ≡ bytes_compared (take line_size (equation_at (joint library.now text.now) work.now visible nodes a)) (take line_size (equation_at (joint library.now text.now) work.now visible nodes b)) }
 {
-    let mut i: usize = 0;
-    while i < 128 {
+    for i in 0..128 {
         let x = equation_part(library, text, work, visible, nodes, a, i * 32);
         let y = equation_part(library, text, work, visible, nodes, b, i * 32);
-        let c = compare_parts(x, y);
-        if c < 3 {
-            return c;
+        if let Some(order) = compare_parts(x, y) {
+            return order;
         }
-        i += 1;
     }
-    1
+    Ordering::Equal
 }
 
-// 1 if the origins of a and b are written alike, 0 if a's comes first, 2 if b's does.
+// Which of the origins of a and b comes first as they are written, `Equal` if they are written alike.
 pub fn compare_origins(
     library: &[u8],
     text: &[u8],
@@ -195,8 +189,8 @@ pub fn compare_origins(
     work: &[u32],
     a: Row,
     b: Row,
-) -> u8
-    ensures { result ≡ bytes_compared (origin_text (origin_of (joint library.now text.now) tape.now a.origin)) (origin_text (origin_of (joint library.now text.now) tape.now b.origin)) }
+) -> Ordering
+    ensures { ordering_index result ≡ bytes_compared (origin_text (origin_of (joint library.now text.now) tape.now a.origin)) (origin_text (origin_of (joint library.now text.now) tape.now b.origin)) }
 {
     compare_items(library, text, tape, work, Facet::Origin, a, b)
 }
@@ -216,7 +210,7 @@ pub fn type_not_after(
     ensures { result ≡ bytes_not_after (shape_text (items_at (joint library.now text.now) tape.now work.now base count) (shape_of (joint library.now text.now) tape.now a.kind a.sorts)) (shape_text (items_at (joint library.now text.now) tape.now work.now base count) (shape_of (joint library.now text.now) tape.now b.kind b.sorts)) }
 {
     let by = Facet::Shape { base, count };
-    compare_items(library, text, tape, work, by, a, b) < 2
+    compare_items(library, text, tape, work, by, a, b).is_le()
 }
 
 // Does the equation a come not after b by what they are written as, up to more bytes than any equation has?
@@ -231,5 +225,5 @@ pub fn line_not_after(
 ) -> bool
     ensures { result ≡ bytes_not_after (take line_size (equation_at (joint library.now text.now) work.now visible nodes a)) (take line_size (equation_at (joint library.now text.now) work.now visible nodes b)) }
 {
-    compare_equations(library, text, work, visible, nodes, a, b) < 2
+    compare_equations(library, text, work, visible, nodes, a, b).is_le()
 }

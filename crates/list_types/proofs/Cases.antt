@@ -1,5 +1,5 @@
 -- One law for each way through the code that writes sorts and types, in the code's terms: p is where the pen stands before, q after.
-use mathlib.Core.Path.{◌≡◌, refl, sym, ap, ap₂, ◌∙◌}
+use mathlib.Core.Path.{◌≡◌, refl, sym, ap, ◌∙◌}
 use mathlib.Core.Bool.{Bool, true, false, ◌&&◌, and-true, and-false}
 use mathlib.Core.List.{List, ◌∷◌, ◌++◌, map}
 use Prim.Native.Nat.{ℕ, zero, suc, ◌+◌, ◌-◌, ◌*◌, ◌/◌, ◌%◌, ◌<◌, ◌≤◌, min}
@@ -8,7 +8,7 @@ use native.Mathlib.Numerals.{add-one}
 use borrow.Author.Rules.{rules}
 use borrow.Author.Tests.{eq-eqb, ne_eqb}
 use lib.Dec.{eqb}
-use lib.ListN.{length, get_or, take, drop, get_or-eq_default}
+use lib.ListN.{length, get_or, take, drop}
 use lib.Seq.{drop-cons}
 use Rattle.meaning.specs.Lists.{pick, before}
 use Rattle.meaning.specs.Names.{Name, same, bytes}
@@ -71,9 +71,6 @@ module _ (text tape : List ℕ) (d : ℕ) (o : Origin) where
   unfolding section_of
   there_told h x r a c e f = rw (← a, ← c, e) f
 
-  pub elsewhere : (h : ℕ) (x : Bool) → h ≡ home_at tape d → x ≡ same (name_of text h) (name_of text o.home) → x ≡ false → false ≡ there
-  elsewhere h x a c e = rw (← a, ← c, e)
-
   module _ (k : ℕ) (h : k ≡ kind_at tape o.place) where
     pub sort_named : (m r : Bool) → k ≡ 0 → m ≡ same (name_at text tape d) (name_at text tape o.place) → m ≡ true → r ≡ there
         → r ≡ same_origin (hidden_origin text tape d) (origin_of text tape o)
@@ -101,13 +98,6 @@ pub record Numbering (text tape w : List ℕ) (b n d i : ℕ) : Type 0 where
   pub comes : sort_number text tape w b n d ≡ i + sort_number text tape w (b + i * row_size) (n - i) d
 
 module _ (text tape w : List ℕ) (b n d : ℕ) where
-  pub number_start : Numbering text tape w b n d 0
-  number_start =
-      let z : b ≡ b + 0 * row_size = omega arith in
-      let m : n ≡ n - 0 = omega arith in
-      let e : sort_number text tape w (b + 0 * row_size) (n - 0) d ≡ 0 + sort_number text tape w (b + 0 * row_size) (n - 0) d = omega arith in
-      record { within = omega arith; comes = ap₂ (λ (x y : ℕ). sort_number text tape w x y d) z m ∙ e }
-
   module _ (i : ℕ) where
     none_left : n ≤ i → sort_number text tape w (b + i * row_size) (n - i) d ≡ 1
     unfolding sort_number items_at before
@@ -129,8 +119,8 @@ module _ (text tape w : List ℕ) (b n d : ℕ) where
       further e = rw (left, ← f, e, next) (omega arith)
 
   module _ (i : ℕ) (v : Numbering text tape w b n d i) where
-    pub number_end : n ≤ i → i + 1 ≡ sort_number text tape w b n d
-    number_end h = sym (v.comes ∙ ap (λ (m : ℕ). i + m) (none_left i h))
+    pub number_end : n ≤ i → n + 1 ≡ sort_number text tape w b n d
+    number_end h = let within = v.within in omega (arith, v.comes, none_left i h)
 
     module _ (h : i < n) (r : Bool) (f : r ≡ same_origin (hidden_origin text tape d) (item_of text tape (row_at w (b + i * row_size))).origin) where
       pub number_found : r ≡ true → i + 1 ≡ sort_number text tape w b n d
@@ -148,9 +138,6 @@ sorts_rows f g xs i zero h = refl
 sorts_rows f g xs i (suc m) h =
     let l : i < length xs = omega arith in
     rw (drop-cons xs i 0 l, add-one i) (ap (λ (ys : List (List ℕ)). f (g (get_or xs i 0)) ∷ ys) (sorts_rows f g xs (suc i) m (omega arith)))
-
-pub past_nine : (xs : List ℕ) (i : ℕ) → length xs ≡ 9 → 9 ≤ i → 0 ≡ get_or xs i 0
-past_nine xs i l h = let k : length xs ≤ i = omega arith in sym (get_or-eq_default xs 0 k)
 
 module _ (l : ℕ) (text tape w : List ℕ) (b n : ℕ) (p q : Pen) where
   abbrev hidden : List Item
@@ -219,4 +206,4 @@ module _ (l : ℕ) (text tape w : List ℕ) (b n : ℕ) (p q : Pen) where
       unfolding shape_text shape_of pick
       shape_function y z e = rw (ne_eqb kind 0 y, ne_eqb kind 1 z) e
 
-pub ruleset cases = (there_told, elsewhere, sort_named, sort_unnamed, no_sort, row_told, number_start, number_end, number_found, number_again, past_nine, sort_visible, sort_hidden, marked_done, sorts_none, sorts_some, type_done, shape_sort, shape_variable, shape_function, rows_start, rows_again, rows_end, rules)
+pub ruleset cases = (there_told, sort_named, sort_unnamed, no_sort, row_told, number_end, number_found, number_again, sort_visible, sort_hidden, marked_done, sorts_none, sorts_some, type_done, shape_sort, shape_variable, shape_function, rows_start, rows_again, rows_end, rules)

@@ -78,14 +78,12 @@ fn number_of_sort(
     requires { count < 2 ^ 31 }
     ensures { result ≡ sort_number (joint library.now text.now) tape.now work.now base count d }
 {
-    let mut i: u32 = 0;
-    while i < count {
+    for i in 0..count {
         if is_sort_row(library, text, tape, work, base, i, d) {
             return i + 1;
         }
-        i += 1;
     }
-    i + 1
+    count + 1
 }
 
 // The sort s.
@@ -161,12 +159,10 @@ fn put_others(
     ensures { pen result out.new ≡ written limit (rows_text (marked_sort (joint library.now text.now) tape.now work.now base count sorts) 1 (end - 1)) (pen at out.old) }
 {
     let mut to = at;
-    let mut i = 1;
-    while i < end {
+    for i in 1..end {
         to = put_marked(
             out, to, limit, library, text, tape, work, base, count, sorts, i,
         );
-        i += 1;
     }
     to
 }

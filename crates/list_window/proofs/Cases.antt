@@ -2,19 +2,11 @@
 use mathlib.Core.Path.{◌≡◌, sym, ap, ◌∙◌}
 use mathlib.Core.List.{List, [], ◌∷◌}
 use Prim.Native.Nat.{ℕ, ◌+◌, ◌-◌, ◌<◌, ◌≤◌}
-use native.Mathlib.Omega.{arith}
 use borrow.Author.Rules.{rules}
 use lib.ListN.{length, set}
 use lib.Seq.{set_out}
 use Rattle.list_window.specs.Pen.{pen, places_before, shown, written}
 use Rattle.list_window.proofs.Laws.{shown_in, shown_before, mark_on, mark_off}
-
-module _ (l n : ℕ) where
-  pub places_left : n < l → l - n - 1 ≡ l - (n + 1)
-  places_left h = omega arith
-
-  pub no_places : l ≤ n → 0 ≡ l - (n + 1)
-  no_places h = omega arith
 
 module _ (s at b : ℕ) (o : List ℕ) where
   pub show_in : s ≤ at → set o (at - s) b ≡ shown s at b o
@@ -36,4 +28,4 @@ module _ (l : ℕ) (b at : ℕ) (o : List ℕ) where
   put_full h = sym (mark_off l b (pen at o) h)
 
 -- what the answers of this crate hand to `search`
-pub ruleset cases = (places_left, no_places, show_in, show_past, show_before, put_in, put_full, rules)
+pub ruleset cases = (show_in, show_past, show_before, put_in, put_full, rules)

@@ -9,10 +9,7 @@ ghost use Rattle.list_window.specs.Pen.{shown, pen, written};
 fn places_before(limit: usize, size: usize) -> usize
     ensures { result ≡ limit - (size + 1) }
 {
-    if size < limit {
-        return limit - size - 1;
-    }
-    0
+    limit.saturating_sub(size).saturating_sub(1)
 }
 
 // One byte at `at`, through a window behind so many places.

@@ -16,9 +16,5 @@ pub fn memory_size() -> usize
 pub fn zero_all(work: &mut [u32])
     ensures { work.new ≡ memory_after work.old }
 {
-    let mut i = 0;
-    while i < work.len() {
-        work[i] = 0;
-        i += 1;
-    }
+    work.fill(0);
 }

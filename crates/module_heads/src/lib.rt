@@ -20,20 +20,15 @@ pub fn find_heads(tape: &[u32], n: u32, h: &mut Heads)
     ensures { HeadsOf tape.now n (heads_in h.new) }
 {
     let mut count: u32 = 0;
-    let mut j: u32 = 0;
-    while j < n {
+    for j in 0..n {
         if is_module(role_at(tape, j as usize)) {
-            if count < 64 {
-                h[count as usize] = j;
-                count += 1;
-                j += 1;
-            } else {
+            if 64 <= count {
                 h[64] = n;
                 h[COUNT] = 64;
                 return;
             }
-        } else {
-            j += 1;
+            h[count as usize] = j;
+            count += 1;
         }
     }
     h[count as usize] = n;

@@ -4,6 +4,7 @@ use mathlib.Core.Bool.{Bool, true, false}
 use mathlib.Core.List.{List}
 use Prim.Native.Nat.{ℕ, zero, suc, ◌+◌, ◌-◌, ◌<◌, ◌≤◌}
 use native.Mathlib.Omega.{arith}
+use Rattle.std.specs.Prelude.{Result, Ok, Err}
 use borrow.Author.Rules.{rules}
 use lib.ListN.{length, get_or, take}
 use Rattle.meaning.specs.Lists.{pick, before}
@@ -13,10 +14,8 @@ use Rattle.meaning.specs.Evaluate.{missing, too_late, names_right}
 use Rattle.meaning.specs.Numbers.{named_absent, named_late}
 use Rattle.text_names.specs.Word.{name_of}
 use Rattle.form_rows.specs.Entries.{role_at, word_at}
-use Rattle.form.specs.declared.Culprit.{Culprit}
-use Rattle.form.specs.declared.Verdict.{Verdict}
-use Rattle.form.specs.declared.Verdict.TheVariants.{Fine, Stop}
-use Rattle.form.specs.Verdicts.{lone_of, told}
+use Rattle.form.specs.declared.Refusal.{Refusal}
+use Rattle.form.specs.Verdicts.{Verdict, refusal, lone_of, told}
 use Rattle.modules.specs.Modules.{names_module, names_of, declared, picked, named_in, Heads}
 use Rattle.modules.specs.Members.{member_found, member_absent, member_early, member_late}
 use Rattle.modules.proofs.Cases.{picked_none, picked_other, picked_here}
@@ -34,7 +33,7 @@ module _ (text tape : List ℕ) (h : Heads) (k w p count : ℕ) (c : count ≡ h
   unfolding declared
   number = length_names text tape h.places 0 h.count ∙ sym c
 
-  pub right_absent : count ≤ p → told text (Stop named_absent (record { name = w; actual = 0 })) ≡ name_right (declared text tape h) k (name_of text w)
+  pub right_absent : count ≤ p → told text (Err (refusal named_absent (record { name = w; actual = 0 }))) ≡ name_right (declared text tape h) k (name_of text w)
   unfolding name_right names_right missing told pick
   right_absent l = rw (lone_of text w, member_absent (name_of text w) (declared text tape h) (omega (arith, number)))
 
@@ -42,11 +41,11 @@ module _ (text tape : List ℕ) (h : Heads) (k w p count : ℕ) (c : count ≡ h
     there : member (name_of text w) (declared text tape h) ≡ true
     there = member_found (name_of text w) (declared text tape h) (omega (arith, number))
 
-    pub right_late : k ≤ p → told text (Stop named_late (record { name = w; actual = 0 })) ≡ name_right (declared text tape h) k (name_of text w)
+    pub right_late : k ≤ p → told text (Err (refusal named_late (record { name = w; actual = 0 }))) ≡ name_right (declared text tape h) k (name_of text w)
     unfolding name_right names_right missing too_late told pick
     right_late m = rw (lone_of text w, there, member_late (name_of text w) (declared text tape h) k (omega arith))
 
-    pub right_fine : p < k → told text Fine ≡ name_right (declared text tape h) k (name_of text w)
+    pub right_fine : p < k → told text (Ok tt) ≡ name_right (declared text tape h) k (name_of text w)
     unfolding name_right names_right missing too_late told pick
     right_fine m = rw (there, member_early (name_of text w) (declared text tape h) k (omega arith) (omega (arith, number)))
 
@@ -58,7 +57,7 @@ module _ (text tape : List ℕ) (h : Heads) (k a end : ℕ) (e : a ≡ get_or h.
   right_start ds es = rw (e, f)
 
 module _ (text tape : List ℕ) (ds : List Name) (k j end : ℕ) where
-  pub right_none : end ≤ j → names_right ds (take k ds) (picked names_module text tape j (end - j)) ≡ told text Fine
+  pub right_none : end ≤ j → names_right ds (take k ds) (picked names_module text tape j (end - j)) ≡ told text (Ok tt)
   unfolding names_right told
   right_none h = rw (picked_none names_module text tape j end h)
 
@@ -72,11 +71,11 @@ module _ (text tape : List ℕ) (ds : List Name) (k j end : ℕ) where
       unfolding name_right
       checked = rw (picked_here names_module text tape j end h r e b f q x g, names_step ds (take k ds) (name_of text x), ← i)
 
-      pub right_stop : (m : ℕ) (w : Culprit) → v ≡ Stop m w → names_right ds (take k ds) (picked names_module text tape j (end - j)) ≡ told text (Stop m w)
+      pub right_stop : (w : Refusal) → v ≡ Err w → names_right ds (take k ds) (picked names_module text tape j (end - j)) ≡ told text (Err w)
       unfolding told ◌>>◌
-      right_stop m w d = checked ∙ rw d
+      right_stop w d = checked ∙ rw d
 
-      pub right_on : v ≡ Fine
+      pub right_on : v ≡ Ok tt
           → names_right ds (take k ds) (picked names_module text tape j (end - j)) ≡ names_right ds (take k ds) (picked names_module text tape (j + 1) (end - (j + 1)))
       unfolding told ◌>>◌
       right_on d = checked ∙ rw d

@@ -3,12 +3,13 @@ use mathlib.Core.Path.{◌≡◌, refl, sym, ap, ap₂, ◌∙◌}
 use mathlib.Core.Bool.{Bool, true, false}
 use Prim.Native.Nat.{ℕ, zero, suc, ◌+◌, ◌-◌, ◌*◌, ◌/◌, ◌%◌, ◌^◌, ◌<◌, ◌≤◌, max}
 use native.Mathlib.Omega.{arith}
-use native.Mathlib.Nat.{pow-suc, mul-mod_left, div-eq_of_lt, one-mul, zero-div}
-use native.Mathlib.Numerals.{add-one}
+use native.Mathlib.Nat.{pow-suc, mul-mod_left, div-eq_of_lt, one-mul, zero-div, mod-lt, mod-eq_of_lt, mod-one}
+use native.Mathlib.Numerals.{one-add}
 use borrow.Author.Rules.{rules}
 use borrow.Author.Tests.{lt-ltb, le-ltb, eq-eqb, ne_eqb, ltb-true, ltb-false, eqb-true}
 use lib.Dec.{eqb, ltb}
-use lib.Pow.{pow-add, pow-lt, shl-shr, shl_exact}
+use lib.Pow.{pow-add, pow-lt, pow_pos, shl-shr, shl_exact, mod-pow-add}
+use lib.Count.{ones, ones_cat}
 use lib.Bits.{bit_or, bit_and, or_step, or_shr, and_mask}
 use Rattle.meaning.specs.Lists.{pick}
 use Rattle.module_set.specs.ModuleSet.{holds, nothing, added, either, counted}
@@ -114,33 +115,25 @@ module _ (set k : ℕ) where
       let one : (1 * 2 ^ k) % 2 ^ 64 ≡ 2 ^ k = shl_exact 1 k 64 (omega arith) (omega arith) ∙ one-mul (2 ^ k) in
       ap (λ (m : ℕ). holds (bit_or set m)) one ∙ joined_both set (2 ^ k) ∙ alone h
 
--- ---- counting: n of the first k modules are in the set
+-- ---- counting: the digits below place n that are 1
 
-pub record Counting (set n k : ℕ) : Type 0 where
-  pub within : k ≤ 64
-  pub few : n ≤ k
-  pub so_far : n ≡ counted (holds set) k
+digit_counted : (d : ℕ) → d < 2 → ones d ≡ pick (eqb d 1) 1 0
+unfolding ones pick
+digit_counted zero h = refl
+digit_counted (suc zero) h = refl
+digit_counted (suc (suc d)) h = absurd (omega arith)
 
-pub count_none : (set : ℕ) → Counting set 0 0
-unfolding counted
-count_none set = record { within = omega arith; few = omega arith; so_far = refl }
+low_counted : (set n : ℕ) → n ≤ 64 → ones (set % 2 ^ n) ≡ counted (holds set) n
+unfolding counted holds pick
+low_counted set zero h = rw (mod-one set) (digit_counted 0 (omega arith))
+low_counted set (suc n) h =
+    let d = set / 2 ^ n % 2 in
+    let r = set % 2 ^ n in
+    let split : set % 2 ^ suc n ≡ d * 2 ^ n + r = ap (λ (i : ℕ). set % 2 ^ i) (sym (one-add n)) ∙ mod-pow-add set 1 n in
+    let here : ones d ≡ pick (pick (ltb n 64) (eqb d 1) false) 1 0 = rw (lt-ltb n 64 (omega arith)) (digit_counted d (omega arith)) in
+    ap ones split ∙ ones_cat n d r (mod-lt set (pow_pos n)) ∙ ap₂ (λ (i j : ℕ). i + j) here (low_counted set n (omega arith))
 
-module _ (set n k : ℕ) (h : Counting set n k) (l : k < 64) where
-  turn : (t : Bool) (m : ℕ) → t ≡ holds set k → m ≤ k + 1 → m ≡ pick t 1 0 + n → Counting set m (k + 1)
-  unfolding counted
-  turn t m e f g = record { within = omega arith; few = f; so_far = rw (add-one k) (g ∙ ap₂ (λ (b : Bool) (i : ℕ). pick b 1 0 + i) e h.so_far) }
+pub all_counted : (set : ℕ) → set < 2 ^ 64 → ones set ≡ counted (holds set) 64
+all_counted set h = ap ones (sym (mod-eq_of_lt h)) ∙ low_counted set 64 (omega arith)
 
-  pub count_in : (t : Bool) → t ≡ holds set k → t ≡ true → Counting set (n + 1) (k + 1)
-  unfolding pick
-  count_in t e f = turn true (n + 1) (sym f ∙ e) (omega (arith, h.few)) (omega arith)
-
-  pub count_out : (t : Bool) → t ≡ holds set k → t ≡ false → Counting set n (k + 1)
-  unfolding pick
-  count_out t e f = turn false n (sym f ∙ e) (omega (arith, h.few)) (omega arith)
-
-pub count_done : (set n k : ℕ) → Counting set n k → 64 ≤ k → n ≡ counted (holds set) 64
-count_done set n k h l =
-    let e : k ≡ 64 = omega (arith, h.within) in
-    h.so_far ∙ ap (counted (holds set)) e
-
-pub ruleset cases = (empty_none, has_in, has_out, with_in, with_out, joined_both, count_none, count_in, count_out, count_done, rules)
+pub ruleset cases = (empty_none, has_in, has_out, with_in, with_out, joined_both, all_counted, rules)

@@ -42,15 +42,5 @@ pub fn joined(a: u64, b: u64) -> u64
 pub fn count(set: u64) -> u32
     ensures { result ≡ counted (holds set) 64 }
 {
-    let mut n = 0;
-    let mut k = 0;
-    while k < 64 {
-        if has(set, k) {
-            n += 1;
-            k += 1;
-        } else {
-            k += 1;
-        }
-    }
-    n
+    set.count_ones()
 }

@@ -52,6 +52,9 @@ module _ (p : Name → Bool) (text tape : List ℕ) (h : Heads) (count k : ℕ) 
   unfolding names_of before
   seek_none l = let z : count - k ≡ 0 = omega arith in sym (s.rest ∙ rw z (omega arith))
 
+  pub seek_all : count ≤ k → count ≡ before p (declared text tape h)
+  seek_all l = let e : count ≡ k = omega (arith, s.within) in e ∙ seek_none l
+
   module _ (l : k < count) (x : ℕ) (e : x ≡ word_at tape (get_or h.places k 0)) (b : Bool) (f : b ≡ p (name_of text x)) where
     now : count - k ≡ suc (count - (k + 1))
     now = omega arith
@@ -182,7 +185,7 @@ module _ (text tape : List ℕ) (h : Heads) (k : ℕ) where
 
 pub ruleset heads = (place_there, past_places, count_there, module_name, rules)
 
-pub ruleset numbers = (seek_start, seek_none, seek_here, seek_on, with_early, with_late, rules)
+pub ruleset numbers = (seek_start, seek_none, seek_all, seek_here, seek_on, with_early, with_late, rules)
 
 pub ruleset scans = (named_start, named_none, named_other, named_on, rules)
 

@@ -27,10 +27,7 @@ pub const COUNT: usize = 65;
 pub fn names_module(role: u32) -> bool
     ensures { result ≡ names_module role }
 {
-    if role == roles::IMPORT {
-        return true;
-    }
-    role == roles::ACTUAL
+    role == roles::IMPORT || role == roles::ACTUAL
 }
 
 // Where module k begins; 0 past the last place.
@@ -62,14 +59,12 @@ pub fn find_number(library: &[u8], text: &[u8], tape: &[u32], h: &Heads, w: u32)
     ensures { result ≡ before (same (name_of (joint library.now text.now) w)) (declared (joint library.now text.now) tape.now (heads_in h.now)) }
 {
     let count = module_count(h);
-    let mut k = 0;
-    while k < count {
+    for k in 0..count {
         if text_names::joint::same_name(library, text, w, name_of_module(tape, h, k)) {
             return k;
         }
-        k += 1;
     }
-    k
+    count
 }
 
 // The number of the module with the asked name; the number of modules if there is none.
@@ -77,14 +72,12 @@ pub fn find_asked(library: &[u8], text: &[u8], tape: &[u32], h: &Heads, asked: &
     ensures { result ≡ before (λ (w : Name). same w asked.now) (declared (joint library.now text.now) tape.now (heads_in h.now)) }
 {
     let count = module_count(h);
-    let mut k = 0;
-    while k < count {
+    for k in 0..count {
         if text_names::joint::is_called(library, text, name_of_module(tape, h, k), asked) {
             return k;
         }
-        k += 1;
     }
-    k
+    count
 }
 
 // The set with the module called w, if it stands before module k.
@@ -102,15 +95,12 @@ fn with_name(library: &[u8], text: &[u8], tape: &[u32], h: &Heads, k: u32, set: 
 pub fn named_set(library: &[u8], text: &[u8], tape: &[u32], h: &Heads, k: u32) -> u64
     ensures { holds result ≡ named_set (joint library.now text.now) tape.now (heads_in h.now) k }
 {
-    let mut j = place_at(h, k as usize);
+    let start = place_at(h, k as usize);
     let end = place_at(h, k as usize + 1);
     let mut set = module_set::empty();
-    while j < end {
+    for j in start..end {
         if names_module(role_at(tape, j as usize)) {
             set = with_name(library, text, tape, h, k, set, name_at(tape, j as usize));
-            j += 1;
-        } else {
-            j += 1;
         }
     }
     set
@@ -131,10 +121,8 @@ fn gathered(library: &[u8], text: &[u8], tape: &[u32], h: &Heads, n: u32, set: u
     ensures { holds result ≡ gathered (named_set (joint library.now text.now) tape.now (heads_in h.now)) (holds set) 0 n }
 {
     let mut all = set;
-    let mut k = n;
-    while 0 < k {
-        all = turned(library, text, tape, h, k - 1, all);
-        k -= 1;
+    for k in (0..n).rev() {
+        all = turned(library, text, tape, h, k, all);
     }
     all
 }

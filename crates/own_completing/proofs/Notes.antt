@@ -24,9 +24,6 @@ module _ (w₀ : List ℕ) (o n : ℕ) where
   note_start = record { inside = omega arith; words = λ k h. absurd (omega arith); kept = kept_all o (o + 0) w₀ }
 
   module _ (w : List ℕ) (i : ℕ) (inv : Noting w₀ o n w i) where
-    pub note_sized : length w ≡ length w₀
-    note_sized = inv.kept.size
-
     pub note_end : n ≤ i → SameNoted w₀ o n w
     note_end h = record {
       words = λ k l. inv.words k (omega arith);
@@ -55,4 +52,4 @@ module _ (w₀ : List ℕ) (o n : ℕ) where
             (kept_wider (o + i) (o + i + 1) o (o + (i + 1)) w w' (omega arith) (omega arith) stored);
       }
 
-pub ruleset notes = (note_start, note_sized, note_again, note_end, note_room, hidden_room, hidden_joined, rules)
+pub ruleset notes = (note_start, note_again, note_end, note_room, hidden_room, hidden_joined, rules)

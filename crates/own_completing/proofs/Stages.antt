@@ -6,7 +6,7 @@ use borrow.Author.Rules.{rules}
 use lib.ListN.{length}
 use Rattle.form.specs.declared.Form.{Form}
 use Rattle.form.specs.declared.Block.{Block}
-use Rattle.form.specs.declared.Made.{Made}
+use Rattle.form.specs.Verdicts.{Made}
 use Rattle.own_declarations.specs.declared.Own.{Own}
 use Rattle.own_items.specs.declared.OwnRows.{OwnRows}
 use Rattle.own_equations.specs.Own.{owned, own_at}

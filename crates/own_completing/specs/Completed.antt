@@ -1,6 +1,6 @@
 -- A module's own declarations joined to what it imports, up to room (meaning/specs/Evaluate.antt, `joined_own`): what it asks of places, and what
 -- comes of it.
-use Rattle.std.specs.Prelude.{◌≡◌, refl, List, ℕ, ◌+◌, ◌-◌, ◌≤◌, length}
+use Rattle.std.specs.Prelude.{◌≡◌, refl, List, ℕ, ◌+◌, ◌-◌, ◌≤◌, length, Result, Ok, Err}
 use Rattle.meaning.specs.Syntax.{Module}
 use Rattle.meaning.specs.Origins.{ResolvedEquation}
 use Rattle.meaning.specs.OrderLaws.{Every}
@@ -10,14 +10,13 @@ use Rattle.meaning.specs.Checks.{Outcome, fine, stop, ◌>>=◌, ◌>>◌, Check
 use Rattle.meaning.specs.Evaluate.{seen_sorts, joined_visible, own_checks, own_equations, joined_hidden, joined_own}
 use Rattle.invariants.specs.Limits.{Limited}
 use Rattle.tape.specs.Tape.{flat_module}
+use Rattle.form.specs.declared.Refusal.{Refusal}
 use Rattle.form.specs.declared.Form.{Form}
 use Rattle.form.specs.declared.Block.{Block}
-use Rattle.form.specs.declared.Made.{Made}
-use Rattle.form.specs.declared.Made.TheVariants.{Done, Refused}
 use Rattle.form.specs.Memory.{part, Kept}
 use Rattle.form.specs.Forms.{Stands}
 use Rattle.form.specs.Blocks.{BlockLaid, Makes, MadeThere, MadeIn}
-use Rattle.form.specs.Verdicts.{culprit_of}
+use Rattle.form.specs.Verdicts.{Made, culprit_of}
 use Rattle.own_declarations.specs.Spelled.{Spells}
 use Rattle.own_declarations.specs.declared.Own.{Own}
 use Rattle.own_items.specs.declared.OwnRows.{OwnRows}
@@ -25,8 +24,6 @@ use Rattle.own_items.specs.Joined.{OwnStands}
 use Rattle.own_typing.specs.Typed.{Seen}
 use Rattle.form_layout.specs.Layout.{joining_block, second_block, Laid}
 use Rattle.own_completing.specs.declared.Totals.{Totals}
-use Rattle.own_completing.specs.declared.complete.Joined.{Joined}
-use Rattle.own_completing.specs.declared.complete.Joined.TheVariants as Rows
 use Rattle.own_completing.specs.Room.{StillRight, TotalsMeant, in_room}
 
 -- ---- the meaning
@@ -110,8 +107,8 @@ pub record CompleteRoom (size t from end : ℕ) (f : Form) : Type 0 where
 
 -- where a form is made, nothing else has changed
 abbrev pub KeptDone : ℕ → ℕ → List ℕ → List ℕ → Made → Type 0
-KeptDone low high w w' (Done f) = Kept low high w w'
-KeptDone low high w w' (Refused k x) = Unit {0}
+KeptDone low high w w' (Ok f) = Kept low high w w'
+KeptDone low high w w' (Err x) = Unit {0}
 
 pub record MakesIn (text : List ℕ) (t low high : ℕ) (w w' : List ℕ) (r : Made) (o : Outcome Normal) : Type 0 where
   pub makes : Makes text (part w' 0 t) w' r o
@@ -137,14 +134,18 @@ pub record ItemsStand (text : List ℕ) (t : ℕ) (w : List ℕ) (own : Own) (f 
   pub checked : items_checked m n ≡ fine tt
   pub prepared : Prepared text t w own f counts m n
 
+-- how they are joined: how many rows there are of each kind, or the refusal
+abbrev pub Joined : Type 0
+Joined = Result OwnRows Refusal
+
 abbrev pub RowsMeant : List ℕ → ℕ → List ℕ → Own → Form → Module → Normal → Joined → Type 0
-RowsMeant text t w own f m n (Rows.Done counts) = ItemsStand text t w own f counts m n
-RowsMeant text t w own f m n (Rows.Refused k x) = items_checked m n ≡ stop k (culprit_of text x)
+RowsMeant text t w own f m n (Ok counts) = ItemsStand text t w own f counts m n
+RowsMeant text t w own f m n (Err x) = items_checked m n ≡ stop x.number (culprit_of text x.culprit)
 
 -- they are no more than there are entries
 abbrev pub RowsCounted : Own → Form → Joined → Type 0
-RowsCounted own f (Rows.Done counts) = Counted own f counts
-RowsCounted own f (Rows.Refused k x) = Unit {0}
+RowsCounted own f (Ok counts) = Counted own f counts
+RowsCounted own f (Err x) = Unit {0}
 
 pub record ItemsJoined (text : List ℕ) (t : ℕ) (w : List ℕ) (from end : ℕ) (f : Form) (r : Joined) (w' : List ℕ) : Type 0 where
   pub kept : Kept joining_block.low second_block.high w w'

@@ -1,5 +1,5 @@
 -- The equations stage: a module's equations typed, and all joined.
-use Rattle.std.specs.Prelude.{◌≡◌, List, ℕ, ◌+◌, ◌≤◌}
+use Rattle.std.specs.Prelude.{◌≡◌, List, ℕ, ◌+◌, ◌≤◌, Result, Ok, Err}
 use Rattle.std.proofs.Math.Path.{refl, ap}
 use Rattle.std.proofs.Common.{sym, ◌∙◌, subst, arith}
 use Rattle.std.proofs.Math.Logic.{inl}
@@ -15,9 +15,8 @@ use Rattle.meaning.specs.Evaluate.{seen_sorts, joined_visible, own_equations, jo
 use Rattle.tape.specs.Tape.{flat_equation}
 use Rattle.form.specs.declared.Form.{Form}
 use Rattle.form.specs.declared.Block.{Block}
-use Rattle.form.specs.declared.Culprit.{Culprit}
-use Rattle.form.specs.declared.Made.{Made}
-use Rattle.form.specs.declared.Made.TheVariants.{Done, Refused}
+use Rattle.form.specs.declared.Refusal.{Refusal}
+use Rattle.form.specs.Verdicts.{Made}
 use Rattle.form.specs.Memory.{part, Kept}
 use Rattle.form.specs.Forms.{visible_at, Stands}
 use Rattle.form_frames.specs.Changes.{onward, wider, outside, still_stands}
@@ -25,7 +24,6 @@ use Rattle.form.specs.Blocks.{Outside, Makes, MadeIn}
 use Rattle.own_declarations.specs.declared.Own.{Own}
 use Rattle.own_items.specs.declared.OwnRows.{OwnRows}
 use Rattle.own_typing.specs.declared.Equated.{Equated}
-use Rattle.own_typing.specs.declared.Equated.TheVariants.{All, Stop}
 use Rattle.own_typing.specs.Typed.{with_equations, own_made, OwnLaid, OwnTyped}
 use Rattle.own_equations.specs.Placed.{in_front, module_split, equations_size}
 use Rattle.own_equations.specs.Own.{Owned, owned, own_at, own_form, own_equations_stand}
@@ -40,26 +38,26 @@ use Rattle.own_completing.specs.Completed.{all_of, equations_joined, Rooms, Coun
 
 -- ---- what is made of a form is that form with equations
 
-made_form : (f g : Form) (a : Equated) → Done g ≡ own_made f a → g ≡ with_equations f g.equation_count g.node_count
+made_form : (f g : Form) (a : Result Equated ℕ) → Ok g ≡ own_made f a → g ≡ with_equations f g.equation_count g.node_count
 unfolding own_made
-made_form f g (Stop tag) e = absurd (subst IsDone e tt)
-made_form f g (All count free) e =
+made_form f g (Err tag) e = absurd (subst IsDone e tt)
+made_form f g (Ok a) e =
     let is = ap (form_or g) e in is ∙ sym (ap (λ (z : Form). with_equations f z.equation_count z.node_count) is)
 
 pub kept_done : (low high : ℕ) (w w' : List ℕ) (r : Made) → Kept low high w w' → KeptDone low high w w' r
-kept_done low high w w' (Done f) k = k
-kept_done low high w w' (Refused k x) l = tt
+kept_done low high w w' (Ok f) k = k
+kept_done low high w w' (Err x) l = tt
 
 -- ---- one outcome after the other
 
 module _ (text : List ℕ) {A : Type 0} (h : A → Normal) (then : A → Outcome Normal) (tape w tape' w' : List ℕ) where
-  refused_on : (o : Outcome A) (k : ℕ) (x : Culprit) → Makes text tape w (Refused k x) (o >>= (λ a. fine (h a)))
-      → Makes text tape' w' (Refused k x) (o >>= then)
+  refused_on : (o : Outcome A) (x : Refusal) → Makes text tape w (Err x) (o >>= (λ a. fine (h a)))
+      → Makes text tape' w' (Err x) (o >>= then)
   unfolding ◌>>=◌
-  refused_on (fine a) k x m = absurd m
-  refused_on (stop j c) k x m = m
+  refused_on (fine a) x m = absurd m
+  refused_on (stop j c) x m = m
 
-  done_on : (o : Outcome A) (g : Form) (r : Made) → Makes text tape w (Done g) (o >>= (λ a. fine (h a)))
+  done_on : (o : Outcome A) (g : Form) (r : Made) → Makes text tape w (Ok g) (o >>= (λ a. fine (h a)))
       → ((a : A) → Stands text tape w g (h a) → Makes text tape' w' r (then a)) → Makes text tape' w' r (o >>= then)
   unfolding ◌>>=◌
   done_on (fine a) g r m more = more a m
@@ -110,7 +108,7 @@ module _ (t : ℕ) (own : Own) (f : Form) (counts : OwnRows) (b : Block) (scratc
 
   module _ (text : List ℕ) (w : List ℕ) (home : ℕ) (room : Rooms (length w) t own f b scratch) (made : Made) (w₁ : List ℕ)
       (typed : owned made w₁ ≡ own_at text t said home own.from own.end w) where
-    said_with : (g : Form) → made ≡ Done g → g ≡ with_equations said g.equation_count g.node_count
+    said_with : (g : Form) → made ≡ Ok g → g ≡ with_equations said g.equation_count g.node_count
     unfolding own_at
     said_with g e = made_form said g _ (sym e ∙ ap (λ (x : Owned). x.answer) typed)
 
@@ -179,15 +177,15 @@ module _ (t : ℕ) (own : Own) (f : Form) (counts : OwnRows) (b : Block) (scratc
       joined_in = go made refl
         where
           go : (a : Made) → made ≡ a → MadeIn b r
-          go (Refused k y) e = subst (MadeIn b) (sym (x.refused k y e)) tt
-          go (Done g) e = (x.done g e).made_in
+          go (Err y) e = subst (MadeIn b) (sym (x.refused y e)) tt
+          go (Ok g) e = (x.done g e).made_in
 
       joined_right : StillRight totals r
       joined_right = go made refl
         where
           go : (a : Made) → made ≡ a → StillRight totals r
-          go (Refused k y) e = subst (StillRight totals) (sym (x.refused k y e)) tt
-          go (Done g) e = (x.done g e).right
+          go (Err y) e = subst (StillRight totals) (sym (x.refused y e)) tt
+          go (Ok g) e = (x.done g e).right
 
       joined_meant : (m : Module) (n : Normal) (total : Size) → TotalsMeant totals total → Prepared text t w own f counts m n
           → MakesIn text t b.low (scratch + 131072) w w' r (equations_joined home total m n)
@@ -202,18 +200,18 @@ module _ (t : ℕ) (own : Own) (f : Form) (counts : OwnRows) (b : Block) (scratc
 
           go : (a : Made) → made ≡ a → OwnTyped text t said (scratch + 131072) w w₁ made (o >>= (λ rs. fine (h rs)))
               → MakesIn text t b.low (scratch + 131072) w w' r (o >>= (λ rs. in_room total (all_of m n rs)))
-          go (Refused k y) q z =
-              let is = x.refused k y q in
+          go (Err y) q z =
+              let is = x.refused y q in
               subst (λ (u : Made). MakesIn text t b.low (scratch + 131072) w w' u (o >>= (λ rs. in_room total (all_of m n rs)))) (sym is)
               (record {
-                makes = refused_on text h (λ rs. in_room total (all_of m n rs)) (part w₁ 0 t) w₁ (part w' 0 t) w' o k y
+                makes = refused_on text h (λ rs. in_room total (all_of m n rs)) (part w₁ 0 t) w₁ (part w' 0 t) w' o y
                     (subst (λ (u : Made). Makes text (part w₁ 0 t) w₁ u (o >>= (λ rs. fine (h rs)))) q z.makes);
                 kept = tt;
               })
-          go (Done g) q z =
+          go (Ok g) q z =
               let c = g.equation_count in
               let k = g.node_count in
-              let is : made ≡ Done (with_equations said c k) = q ∙ ap Done (said_with g q) in
+              let is : made ≡ Ok (with_equations said c k) = q ∙ ap Ok (said_with g q) in
               let there = subst (λ (u : Made). OwnTyped text t said (scratch + 131072) w w₁ u (o >>= (λ rs. fine (h rs)))) is z in
               let kept = there.made.1 in
               let nodes = there.made.2 in

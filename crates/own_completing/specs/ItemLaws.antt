@@ -1,5 +1,5 @@
 -- The items stage: a module's own items joined to what it imports, and checked. And both stages where the layout has them.
-use Rattle.std.specs.Prelude.{◌≡◌, refl, List, ℕ, ◌+◌, ◌≤◌, length}
+use Rattle.std.specs.Prelude.{◌≡◌, refl, List, ℕ, ◌+◌, ◌≤◌, length, Ok, Err}
 use Rattle.std.proofs.Common.{sym, ◌∙◌, subst, subst₂, inl, inr}
 use Rattle.std.proofs.Math.Path.{ap}
 use native.Mathlib.Omega.{arith}
@@ -8,15 +8,11 @@ use Rattle.meaning.specs.Normal.{Visible, Normal}
 use Rattle.meaning.specs.Checks.{stop}
 use Rattle.form.specs.declared.Form.{Form}
 use Rattle.form.specs.declared.Block.{Block}
-use Rattle.form.specs.declared.Culprit.{Culprit}
-use Rattle.form.specs.declared.Made.{Made}
-use Rattle.form.specs.declared.Made.TheVariants.{Done, Refused}
-use Rattle.form.specs.declared.Verdict.{Verdict}
-use Rattle.form.specs.declared.Verdict.TheVariants.{Fine, Stop}
+use Rattle.form.specs.declared.Refusal.{Refusal}
 use Rattle.form.specs.Memory.{part, Kept}
 use Rattle.form.specs.Forms.{visible_at, Stands}
 use Rattle.form.specs.Blocks.{Outside}
-use Rattle.form.specs.Verdicts.{culprit_of, told}
+use Rattle.form.specs.Verdicts.{Verdict, Made, culprit_of, told}
 use Rattle.form_frames.specs.Changes.{onward, wider, around, outside, still_stands, still_stands_two}
 use Rattle.own_declarations.specs.Sorts.{Ready}
 use Rattle.own_declarations.specs.ItemLaws.{few_inputs}
@@ -27,7 +23,6 @@ use Rattle.own_items.specs.Checking.{CheckRoom, OwnChecked}
 use Rattle.own_items.specs.JoinLaws.{own_stands_kept}
 use Rattle.form_layout.specs.Layout.{block_at, joining_block, first_block, second_block}
 use Rattle.own_completing.specs.declared.Totals.{Totals}
-use Rattle.own_completing.specs.declared.complete.Joined.TheVariants as Rows
 use Rattle.own_completing.specs.Completed.{items_checked, own_of, Rooms, Counted, CompleteRoom, KeptDone, Given, Prepared, ItemsStand, ItemsJoined, EquationsJoined}
 
 module _ (t : ℕ) (own : Own) (f : Form) (b : Block) (scratch : ℕ) where
@@ -131,12 +126,12 @@ module _ (t : ℕ) (own : Own) (f : Form) (b : Block) (scratch : ℕ) where
               seen = g.seen;
             }
 
-        stopped : (k : ℕ) (z : Culprit) → v ≡ Stop k z → (m : Module) (n : Normal) → Given text t w own.from own.end f m n
-            → items_checked m n ≡ stop k (culprit_of text z)
+        stopped : (z : Refusal) → v ≡ Err z → (m : Module) (n : Normal) → Given text t w own.from own.end f m n
+            → items_checked m n ≡ stop z.number (culprit_of text z.culprit)
         unfolding told
-        stopped k z e m n g = verdict_meant m n g ∙ ap (told text) e
+        stopped z e m n g = verdict_meant m n g ∙ ap (told text) e
 
-        standing : v ≡ Fine → (m : Module) (n : Normal) → Given text t w own.from own.end f m n → ItemsStand text t w₂ own f counts m n
+        standing : v ≡ Ok tt → (m : Module) (n : Normal) → Given text t w own.from own.end f m n → ItemsStand text t w₂ own f counts m n
         unfolding told
         standing e m n g = record { checked = verdict_meant m n g ∙ ap (told text) e; prepared = prepared m n g }
 
@@ -190,14 +185,14 @@ module _ (t from end : ℕ) (f : Form) (own : Own) (b : Block) (eo : own ≡ own
         unfolding own_of
         given_there m n g = rw eo g
 
-        pub items_refused : (k : ℕ) (z : Culprit) → v ≡ Stop k z → ItemsJoined text t w from end f (Rows.Refused k z) w₂
-        items_refused k z e = record {
+        pub items_refused : (z : Refusal) → v ≡ Err z → ItemsJoined text t w from end f (Err z) w₂
+        items_refused z e = record {
           kept = kept_laid;
           counted = tt;
-          meant = λ m n g. stopped t own f b first_block.low text w rooms counts w₁ x v w₂ y k z e m n (given_there m n g);
+          meant = λ m n g. stopped t own f b first_block.low text w rooms counts w₁ x v w₂ y z e m n (given_there m n g);
         }
 
-        pub items_fine : v ≡ Fine → ItemsJoined text t w from end f (Rows.Done counts) w₂
+        pub items_fine : v ≡ Ok tt → ItemsJoined text t w from end f (Ok counts) w₂
         items_fine e = record {
           kept = kept_laid;
           counted = subst (λ (u : Own). Counted u f counts) eo (counted t own f b first_block.low text w rooms counts w₁ x);
@@ -215,8 +210,8 @@ module _ (t from end : ℕ) (f : Form) (own : Own) (b : Block) (eo : own ≡ own
 
     kept_high : (r : Made) (w w' : List ℕ) → KeptDone joining_block.low (c.low + 131072) w w' r
         → KeptDone joining_block.low second_block.high w w' r
-    kept_high (Done h) w w' k = wider (omega (arith, scratch_high, ap (λ (z : Block). z.low) ec)) k
-    kept_high (Refused j z) w w' k = tt
+    kept_high (Ok h) w w' k = wider (omega (arith, scratch_high, ap (λ (z : Block). z.low) ec)) k
+    kept_high (Err z) w w' k = tt
 
     pub equations_laid : (text w : List ℕ) (home : ℕ) (counts : OwnRows) (totals : Totals) (r : Made) (w' : List ℕ)
         → EquationsJoined text t w home own f counts b (c.low + 131072) totals r w'

@@ -1,6 +1,6 @@
 -- Room, 18 (meaning/specs/Checks.antt, `room` and `total_room`): of a form, and of all forms together with it. A form that was cut short has no
 -- room, as what it was cut from.
-use Rattle.std.specs.Prelude.{◌≡◌, ◌⊎◌, Bool, ◌&&◌, List, ℕ, ◌+◌, ◌≤◌, ◌<◌, ltb, take}
+use Rattle.std.specs.Prelude.{◌≡◌, ◌⊎◌, Bool, ◌&&◌, List, ℕ, ◌+◌, ◌≤◌, ◌<◌, ltb, take, Ok, Err}
 use Rattle.std.proofs.Math.Path.{refl, ap, subst}
 use Rattle.std.proofs.Common.{sym, ap₂, ◌∙◌, inl, inr, ⊎_elim, arith, length-take-le, take_all}
 use Rattle.std.proofs.Math.Bool.{true, false}
@@ -13,12 +13,10 @@ use Rattle.meaning.specs.Normal.{Visible, Hidden, Normal, unite_hidden}
 use Rattle.meaning.specs.Checks.{Outcome, fine, ◌>>◌, Size, size, add_sizes, needs, fits, room, total_room}
 use Rattle.form.specs.declared.Form.{Form}
 use Rattle.form.specs.declared.Block.{Block}
-use Rattle.form.specs.declared.Made.{Made}
-use Rattle.form.specs.declared.Made.TheVariants.{Done, Refused}
 use Rattle.form.specs.Memory.{part}
 use Rattle.form.specs.Forms.{visible_at, Stands}
 use Rattle.form.specs.FormLaws.{length_items}
-use Rattle.form.specs.Verdicts.{nobody_of}
+use Rattle.form.specs.Verdicts.{Made, refusal, nobody_of}
 use Rattle.form.specs.Blocks.{Lies, Makes, MadeIn}
 use Rattle.unite_checks.specs.Consistent.{nobody}
 use Rattle.unite_checks.specs.Checked.{enough, length_slots, and_true, enough_fits}
@@ -47,17 +45,17 @@ together f totals =
     && leb (totals.nodes + f.node_count) node_total
 
 unfoldable pub fitting_together : Form → Totals → Made
-fitting_together f totals = pick (together f totals) (Done f) (Refused no_room nobody)
+fitting_together f totals = pick (together f totals) (Ok f) (Err (refusal no_room nobody))
 
 unfoldable pub fitting_all : Form → Totals → Made
-fitting_all f totals = pick (enough f) (fitting_together f totals) (Refused no_room nobody)
+fitting_all f totals = pick (enough f) (fitting_together f totals) (Err (refusal no_room nobody))
 
 -- with the form that is made, all together are no more than fits
 abbrev pub StillRight : Totals → Made → Type 0
-StillRight totals (Done f) =
+StillRight totals (Ok f) =
     (totals.items + (f.visible_count + f.hidden_count) ≤ item_total) × (totals.equations + f.equation_count ≤ equation_total)
     × (totals.nodes + f.node_count ≤ node_total)
-StillRight totals (Refused k x) = Unit {0}
+StillRight totals (Err x) = Unit {0}
 
 -- ---- what comes of it
 
@@ -66,7 +64,7 @@ module _ (f : Form) (totals : Totals) where
   unfolding fitting_all fitting_together together pick
   all_right = go (enough f) (together f totals) refl
     where
-      go : (a c : Bool) → together f totals ≡ c → StillRight totals (pick a (pick c (Done f) (Refused no_room nobody)) (Refused no_room nobody))
+      go : (a c : Bool) → together f totals ≡ c → StillRight totals (pick a (pick c (Ok f) (Err (refusal no_room nobody))) (Err (refusal no_room nobody)))
       go true true e =
           let last = and_true _ _ e in
           let front = and_true _ _ last.0 in (
@@ -81,7 +79,7 @@ module _ (f : Form) (totals : Totals) where
   unfolding fitting_all fitting_together pick
   all_in b l nodes = go (enough f) refl (together f totals)
     where
-      go : (a : Bool) → enough f ≡ a → (c : Bool) → MadeIn b (pick a (pick c (Done f) (Refused no_room nobody)) (Refused no_room nobody))
+      go : (a : Bool) → enough f ≡ a → (c : Bool) → MadeIn b (pick a (pick c (Ok f) (Err (refusal no_room nobody))) (Err (refusal no_room nobody)))
       go true e true = record { lies = l; fits = enough_fits f e; nodes = nodes }
       go true e false = tt
       go false e c = tt
@@ -203,12 +201,12 @@ module _ (text : List ℕ) (t : ℕ) (w : List ℕ) (g f : Form) (b : Block) (r 
   fitted totals total e = rw room_meant (go (enough r) refl)
     where
       go : (a : Bool) → enough r ≡ a
-          → Makes text tape w' (pick a (pick (together r totals) (Done r) (Refused no_room nobody)) (Refused no_room nobody))
+          → Makes text tape w' (pick a (pick (together r totals) (Ok r) (Err (refusal no_room nobody))) (Err (refusal no_room nobody)))
           (fits a >> (total_room (add_sizes total (size all)) >> fine all))
       go true q =
           rw (together_meant text tape w' r all totals total e (all_stands q)) (inner (together r totals) (all_stands q))
         where
-          inner : (c : Bool) → Stands text tape w' r all → Makes text tape w' (pick c (Done r) (Refused no_room nobody)) (fits c >> fine all)
+          inner : (c : Bool) → Stands text tape w' r all → Makes text tape w' (pick c (Ok r) (Err (refusal no_room nobody))) (fits c >> fine all)
           inner true z = z
           inner false z = (refl, nobody_of text)
       go false q = (refl, nobody_of text)

@@ -1,5 +1,5 @@
 -- What a module itself says, as a form; and that form joined to what the module imports: what is made of it.
-use Rattle.std.specs.Prelude.{◌≡◌, Bool, true, false, List, ℕ, ◌+◌, ◌*◌, ◌≤◌, leb, length}
+use Rattle.std.specs.Prelude.{◌≡◌, Bool, true, false, List, ℕ, ◌+◌, ◌*◌, ◌≤◌, leb, length, Ok, Err}
 use Rattle.std.proofs.Common.{sym, ◌∙◌, arith, leb-true, le-leb}
 use Rattle.std.proofs.Math.Path.{ap, subst}
 use Rattle.std.proofs.lemmas.Bool.{false≢true}
@@ -9,9 +9,8 @@ use Rattle.meaning.specs.Numbers.{no_room}
 use Rattle.form_rows.specs.Rows.{row_size}
 use Rattle.form.specs.declared.Form.{Form}
 use Rattle.form.specs.declared.Block.{Block}
-use Rattle.form.specs.declared.Culprit.{Culprit}
-use Rattle.form.specs.declared.Made.{Made}
-use Rattle.form.specs.declared.Made.TheVariants.{Done, Refused}
+use Rattle.form.specs.declared.Refusal.{Refusal}
+use Rattle.form.specs.Verdicts.{Made, refusal}
 use Rattle.form.specs.Memory.{part, Kept}
 use Rattle.form.specs.Forms.{Stands}
 use Rattle.form.specs.FormLaws.{kept_all}
@@ -56,11 +55,11 @@ pub record SaidJoined (text : List ℕ) (t : ℕ) (w : List ℕ) (g f : Form) (b
 
 -- where something was made, it has its place, and is joined
 pub record RoomMade (size t : ℕ) (made : Made) (f : Form) (b : Block) : Type 0 where
-  pub room : (g : Form) → made ≡ Done g → JoinRoom size t g f b
+  pub room : (g : Form) → made ≡ Ok g → JoinRoom size t g f b
 
 pub record MadeJoined (text : List ℕ) (t : ℕ) (w : List ℕ) (made : Made) (f : Form) (b : Block) (totals : Totals) (r : Made) (w' : List ℕ) : Type 0 where
-  pub refused : (k : ℕ) (x : Culprit) → made ≡ Refused k x → r ≡ Refused k x
-  pub done : (g : Form) → made ≡ Done g → SaidJoined text t w g f b totals r w'
+  pub refused : (x : Refusal) → made ≡ Err x → r ≡ Err x
+  pub done : (g : Form) → made ≡ Ok g → SaidJoined text t w g f b totals r w'
 
 -- ---- laws
 
@@ -68,7 +67,7 @@ pub nodes_few : (g : Form) (few : Bool) → few ≡ leb g.node_count 65536 → f
 nodes_few g few e h = leb-true g.node_count 65536 (sym e ∙ h)
 
 module _ (text : List ℕ) (t : ℕ) (w : List ℕ) (g f : Form) (b : Block) (totals : Totals) where
-  pub said_many : (few : Bool) → few ≡ leb g.node_count 65536 → few ≡ false → SaidJoined text t w g f b totals (Refused no_room nobody) w
+  pub said_many : (few : Bool) → few ≡ leb g.node_count 65536 → few ≡ false → SaidJoined text t w g f b totals (Err (refusal no_room nobody)) w
   said_many few e h = record {
     made_in = tt;
     right = tt;
@@ -104,23 +103,23 @@ module _ (text : List ℕ) (t : ℕ) (w : List ℕ) (g f : Form) (b : Block) (to
 
 -- what was made is one thing
 abbrev pub form_or : Form → Made → Form
-form_or g (Done h) = h
-form_or g (Refused k x) = g
+form_or g (Ok h) = h
+form_or g (Err x) = g
 
 abbrev pub IsDone : Made → Type 0
-IsDone (Done g) = Unit {0}
-IsDone (Refused k x) = ⊥
+IsDone (Ok g) = Unit {0}
+IsDone (Err x) = ⊥
 
 module _ (text : List ℕ) (t : ℕ) (w : List ℕ) (made : Made) (f : Form) (b : Block) (totals : Totals) where
-  pub joined_refused : (k : ℕ) (x : Culprit) → made ≡ Refused k x → MadeJoined text t w made f b totals (Refused k x) w
-  joined_refused k x e = record { refused = λ j y q. sym e ∙ q; done = λ g q. absurd (subst IsDone (sym q ∙ e) tt) }
+  pub joined_refused : (x : Refusal) → made ≡ Err x → MadeJoined text t w made f b totals (Err x) w
+  joined_refused x e = record { refused = λ y q. sym e ∙ q; done = λ g q. absurd (subst IsDone (sym q ∙ e) tt) }
 
-  pub joined_done : (g : Form) (r : Made) (w' : List ℕ) → made ≡ Done g → SaidJoined text t w g f b totals r w'
+  pub joined_done : (g : Form) (r : Made) (w' : List ℕ) → made ≡ Ok g → SaidJoined text t w g f b totals r w'
       → MadeJoined text t w made f b totals r w'
   joined_done g r w' e x = record {
-    refused = λ j y q. absurd (subst IsDone (sym e ∙ q) tt);
+    refused = λ y q. absurd (subst IsDone (sym e ∙ q) tt);
     done = λ h q. subst (λ (z : Form). SaidJoined text t w z f b totals r w') (ap (form_or g) (sym e ∙ q)) x;
   }
 
-  pub made_room : (size : ℕ) (g : Form) → RoomMade size t made f b → made ≡ Done g → JoinRoom size t g f b
+  pub made_room : (size : ℕ) (g : Form) → RoomMade size t made f b → made ≡ Ok g → JoinRoom size t g f b
   made_room size g room e = room.room g e

@@ -7,20 +7,13 @@ ghost use Rattle.own_completing.specs.Completed.{Counted, Rooms, own_of, Complet
 
 use super::Totals;
 use super::said::{join_made, said_form, seen_form};
-use form::{Block, Culprit, Form, Made, Verdict};
+use form::{Block, Form, Refusal};
 use form_layout::{first_block, joining_block};
 use own_declarations::Own;
 use own_equations::type_own;
 use own_items::OwnRows;
 use own_items::checking::own_checks;
 use own_items::items::own_items;
-
-// How the module's own items are joined: how many rows there are of each kind, or the refusal.
-#[derive(Clone, Copy)]
-pub enum Joined {
-    Refused(u32, Culprit),
-    Done(OwnRows),
-}
 
 // The entries from `from` up to `end`, with the visible rows of f.
 fn own_of(from: u32, end: u32, f: Form) -> Own
@@ -34,7 +27,8 @@ fn own_of(from: u32, end: u32, f: Form) -> Own
     }
 }
 
-// The own items of the module whose entries stand from `from` up to `end` joined to those of f, which lies in the block for it, and checked.
+// The own items of the module whose entries stand from `from` up to `end` joined to those of f, which lies in the block for it, and checked:
+// how many rows there are of each kind.
 pub fn join_items(
     library: &[u8],
     text: &[u8],
@@ -43,7 +37,7 @@ pub fn join_items(
     from: u32,
     end: u32,
     f: Form,
-) -> Joined
+) -> Result<OwnRows, Refusal>
     requires { CompleteRoom (length work.old) t from end f }
     ensures { ItemsJoined (joint library.now text.now) t work.old from end f result work.new }
 {
@@ -53,10 +47,8 @@ pub fn join_items(
     let names = f.parameter_count;
     let order = b.order;
     let counts = own_items(library, text, work, t, own, parameters, names);
-    match own_checks(library, text, work, t, own, parameters, counts, order) {
-        Verdict::Stop(k, w) => Joined::Refused(k, w),
-        Verdict::Fine => Joined::Done(counts),
-    }
+    own_checks(library, text, work, t, own, parameters, counts, order)?;
+    Ok(counts)
 }
 
 // What is visible and the module's own hidden items stand there: the equations typed, 17, and all joined, 18.
@@ -72,7 +64,7 @@ fn complete_equations(
     b: Block,
     scratch: u32,
     totals: Totals,
-) -> Made
+) -> Result<Form, Refusal>
     requires rooms { Rooms (length work.old) t own f b scratch }
     requires counted { Counted own f counts }
     requires totals_right { TotalsRight totals }
@@ -107,7 +99,7 @@ pub fn join_equations(
     f: Form,
     counts: OwnRows,
     totals: Totals,
-) -> Made
+) -> Result<Form, Refusal>
     requires complete_room { CompleteRoom (length work.old) t from end f }
     requires counted { Counted (own_of from end f) f counts }
     requires totals_right { TotalsRight totals }

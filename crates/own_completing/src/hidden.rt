@@ -13,10 +13,8 @@ fn note_same(work: &mut [u32], base: u32, n: u32)
     requires { base + n ≤ length work.old }
     ensures { SameNoted work.old base n work.new }
 {
-    let mut i: u32 = 0;
-    while i < n {
+    for i in 0..n {
         put_word(work, base as usize + i as usize, i);
-        i += 1;
     }
 }
 

@@ -10,7 +10,7 @@ ghost use Rattle.own_completing.specs.Said.{said_form, SaidRoom, RoomMade, SaidJ
 use super::Totals;
 use super::hidden::join_hidden;
 use super::room::fitting_all;
-use form::{Block, Culprit, Form, Made};
+use form::{Block, Culprit, Form, Refusal};
 use form_rows::ROW_SIZE;
 use meaning::numbers;
 use own_items::OwnRows;
@@ -41,16 +41,9 @@ pub fn seen_form(f: Form, counts: OwnRows) -> Form
     ensures { result ≡ with_items f counts.parameter_count counts.visible_count f.hidden_count }
 {
     Form {
-        parameters: f.parameters,
         parameter_count: counts.parameter_count,
-        visible: f.visible,
         visible_count: counts.visible_count,
-        hidden: f.hidden,
-        hidden_count: f.hidden_count,
-        equations: f.equations,
-        equation_count: f.equation_count,
-        nodes: f.nodes,
-        node_count: f.node_count,
+        ..f
     }
 }
 
@@ -71,7 +64,7 @@ fn join_said(
     f: Form,
     b: Block,
     totals: Totals,
-) -> Made
+) -> Result<Form, Refusal>
     requires join_room { JoinRoom (length work.old) t g f b }
     requires totals_right { TotalsRight totals }
     ensures { SaidJoined (joint library.now text.now) t work.old g f b totals result work.new }
@@ -80,7 +73,10 @@ fn join_said(
         let h = join_hidden(library, text, work, t, g, f, b);
         return fitting_all(h, totals);
     }
-    Made::Refused(numbers::NO_ROOM, Culprit { name: 0, actual: 0 })
+    Err(Refusal {
+        number: numbers::NO_ROOM,
+        culprit: Culprit { name: 0, actual: 0 },
+    })
 }
 
 // The same, where the equations could be typed.
@@ -89,17 +85,15 @@ pub fn join_made(
     text: &[u8],
     work: &mut [u32],
     t: usize,
-    made: Made,
+    made: Result<Form, Refusal>,
     f: Form,
     b: Block,
     totals: Totals,
-) -> Made
+) -> Result<Form, Refusal>
     requires room_made { RoomMade (length work.old) t made f b }
     requires totals_right { TotalsRight totals }
     ensures { MadeJoined (joint library.now text.now) t work.old made f b totals result work.new }
 {
-    match made {
-        Made::Refused(k, x) => Made::Refused(k, x),
-        Made::Done(g) => join_said(library, text, work, t, g, f, b, totals),
-    }
+    let g = made?;
+    join_said(library, text, work, t, g, f, b, totals)
 }

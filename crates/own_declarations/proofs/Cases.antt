@@ -2,12 +2,13 @@
 use mathlib.Core.Path.{◌≡◌, refl, sym, ◌∙◌}
 use mathlib.Core.Bool.{Bool, true, false}
 use mathlib.Core.List.{List}
-use Prim.Native.Nat.{ℕ, zero, suc, ◌+◌, ◌-◌, ◌*◌, ◌/◌, ◌%◌, ◌<◌, ◌≤◌}
+use Prim.Native.Nat.{ℕ, zero, suc, ◌+◌, ◌-◌, ◌*◌, ◌/◌, ◌%◌, ◌<◌, ◌≤◌, max}
+use lib.Dec.{leb}
 use lib.ListN.{get_or}
 use native.Mathlib.Omega.{arith}
 use native.Mathlib.Numerals.{add-one}
 use borrow.Author.Rules.{rules}
-use borrow.Author.Tests.{lt-ltb, le-ltb, eq-eqb, ne_eqb}
+use borrow.Author.Tests.{lt-ltb, le-ltb, eq-eqb, ne_eqb, leb-true, leb-false}
 use Rattle.meaning.specs.Lists.{pick}
 use Rattle.meaning.specs.Names.{Name, same}
 use Rattle.meaning.specs.Origins as meant
@@ -23,10 +24,17 @@ use Rattle.own_declarations.specs.declared.Own.{Own}
 
 -- ---- the sort that a name means
 
+first_none : (p : ℕ → Bool) (i e : ℕ) → e ≤ i → first_of p i (e - i) ≡ i
+unfolding first_of
+first_none p i e h = let z : e - i ≡ 0 = omega arith in rw z
+
 module _ (p : ℕ → Bool) (i e : ℕ) where
-  pub first_none : e ≤ i → first_of p i (e - i) ≡ i
-  unfolding first_of
-  first_none h = let z : e - i ≡ 0 = omega arith in rw z
+  pub first_none_from : (a : ℕ) → (a ≤ e → i ≤ e) → e ≤ i → first_of p a (e - a) ≡ first_of p i (e - i) → max a e ≡ first_of p a (e - a)
+  first_none_from a to_end h inv = go (leb a e) refl
+    where
+      go : (q : Bool) → leb a e ≡ q → max a e ≡ first_of p a (e - a)
+      go true q = let l = leb-true a e q in let k = to_end l in let m : max a e ≡ i = omega arith in m ∙ sym (inv ∙ first_none p i e h)
+      go false q = let l = leb-false a e q in let m : max a e ≡ a = omega arith in m ∙ sym (first_none p a e (omega arith))
 
   module _ (b : Bool) (h : i < e) (f : b ≡ p i) where
     pub first_here : b ≡ true → first_of p i (e - i) ≡ i
@@ -134,4 +142,27 @@ pub resolved_there : (text tape m : List ℕ) (own : Own) (i x r : ℕ) → x �
     → sort_of text tape r ≡ resolved_in text tape m own (name_of text (x / 32)) → sort_of text tape r ≡ resolved_in text tape m own (name_at text tape i)
 resolved_there text tape m own i x r e h = rw (← e) h
 
-pub ruleset cases = (on, done, found_none, found_here, found_on, first_none, first_here, first_on, found_start, named_there, named_not, row_there, row_not, hidden_found, declares_told, inside_seen, inside_hidden, resolved_seen, resolved_hidden, resolved_other, resolved_there, rules)
+pub ruleset cases = (
+  on,
+  done,
+  found_none,
+  found_here,
+  found_on,
+  first_none_from,
+  first_here,
+  first_on,
+  found_start,
+  named_there,
+  named_not,
+  row_there,
+  row_not,
+  hidden_found,
+  declares_told,
+  inside_seen,
+  inside_hidden,
+  resolved_seen,
+  resolved_hidden,
+  resolved_other,
+  resolved_there,
+  rules,
+)

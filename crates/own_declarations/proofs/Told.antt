@@ -1,4 +1,5 @@
 -- The ways through the checks 13 and 12, one law each: b, c, r, x and y are callees' answers.
+use Rattle.std.specs.Prelude.{Ok, Err}
 use mathlib.Core.Path.{◌≡◌}
 use mathlib.Core.Bool.{Bool, true, false}
 use mathlib.Core.List.{List}
@@ -12,8 +13,7 @@ use Rattle.meaning.specs.Numbers.{bad_variable, bad_sort}
 use Rattle.text_names.specs.Word.{name_of}
 use Rattle.tape.specs.Tape.{hidden_function, variable_role}
 use Rattle.form_rows.specs.Entries.{role_at, word_at, is_function_role, arity_at, sort_place}
-use Rattle.form.specs.declared.Verdict.TheVariants.{Fine, Stop}
-use Rattle.form.specs.Verdicts.{lone_of, told}
+use Rattle.form.specs.Verdicts.{refusal, lone_of, told}
 use Rattle.own_repeats.specs.Scans.{found, first_of}
 use Rattle.own_repeats.proofs.Cases.{on, done, found_none, found_here, found_on, walked_all, walked_on, walked_stop}
 use Rattle.own_declarations.specs.Sorts.{is_named, is_row, is_seen, is_inside}
@@ -61,11 +61,11 @@ module _ (text tape w : List ℕ) (own : Own) where
     lack_nothing q h = rw (← e, ← f, q, ne_eqb r variable_role h)
 
   module _ (d : ℕ) (b : Bool) (e : b ≡ lacks_sort text tape w own d) where
-    pub available_not : (x : ℕ) → b ≡ true → x ≡ word_at tape d → told text (Stop bad_sort (record { name = x; actual = 0 })) ≡ available_at text tape w own d
+    pub available_not : (x : ℕ) → b ≡ true → x ≡ word_at tape d → told text (Err (refusal bad_sort (record { name = x; actual = 0 }))) ≡ available_at text tape w own d
     unfolding available_at told pick
     available_not x q f = rw (lone_of text x, f, ← e, q)
 
-    pub available_there : b ≡ false → told text Fine ≡ available_at text tape w own d
+    pub available_there : b ≡ false → told text (Ok tt) ≡ available_at text tape w own d
     unfolding available_at told pick
     available_there q = rw (← e, q)
 
@@ -84,17 +84,17 @@ module _ (text tape w : List ℕ) (own : Own) where
       wrong_hidden d q k = rw (← e, ← f, le-ltb y i h, ← g, q) k
 
   module _ (b n i r : ℕ) (e : r ≡ role_at tape i) where
-    pub variable_other : (r ≡ variable_role → ⊥) → told text Fine ≡ variable_at text tape w own b n i
+    pub variable_other : (r ≡ variable_role → ⊥) → told text (Ok tt) ≡ variable_at text tape w own b n i
     unfolding variable_at told pick
     variable_other h = rw (← e, ne_eqb r variable_role h)
 
     module _ (c : Bool) (h : r ≡ variable_role) (f : c ≡ wrong_at text tape w own b n i) where
       pub variable_wrong : (x : ℕ) → c ≡ true → x ≡ word_at tape i
-          → told text (Stop bad_variable (record { name = x; actual = 0 })) ≡ variable_at text tape w own b n i
+          → told text (Err (refusal bad_variable (record { name = x; actual = 0 }))) ≡ variable_at text tape w own b n i
       unfolding variable_at told pick
       variable_wrong x q g = rw (lone_of text x, g, ← e, eq-eqb r variable_role h, ← f, q)
 
-      pub variable_right : c ≡ false → told text Fine ≡ variable_at text tape w own b n i
+      pub variable_right : c ≡ false → told text (Ok tt) ≡ variable_at text tape w own b n i
       unfolding variable_at told pick
       variable_right q = rw (← e, eq-eqb r variable_role h, ← f, q)
 

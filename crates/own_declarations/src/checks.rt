@@ -10,7 +10,7 @@ ghost use Rattle.own_declarations.specs.Checked.{lacks, lacks_function, lacks_va
 
 use super::Own;
 use super::sorts::{first_named, has_row, is_inside, is_seen};
-use form::{Culprit, Verdict};
+use form::{Culprit, Refusal};
 use form_rows::entries::{arity_at, is_function_role, name_at, role_at, sort_place};
 use form_rows::kinds;
 use meaning::numbers;
@@ -56,12 +56,10 @@ fn lacks_one(
     requires { Ready work.now t own }
     ensures { result ≡ found (lacks (joint library.now text.now) (part work.now 0 t) work.now own hidden) i (end - i) }
 {
-    let mut j = i;
-    while j < end {
+    for j in i..end {
         if lacks(library, text, work, t, own, hidden, j) {
             return true;
         }
-        j += 1;
     }
     false
 }
@@ -109,33 +107,43 @@ fn lacks_sort(library: &[u8], text: &[u8], work: &[u32], t: usize, own: Own, d: 
     false
 }
 
-fn available_at(library: &[u8], text: &[u8], work: &[u32], t: usize, own: Own, d: u32) -> Verdict
+fn available_at(
+    library: &[u8],
+    text: &[u8],
+    work: &[u32],
+    t: usize,
+    own: Own,
+    d: u32,
+) -> Result<(), Refusal>
     requires { Ready work.now t own }
     ensures { told (joint library.now text.now) result ≡ available_at (joint library.now text.now) (part work.now 0 t) work.now own d }
 {
     if lacks_sort(library, text, work, t, own, d) {
         let name = name_at(&work[0..t], d as usize);
-        return Verdict::Stop(numbers::BAD_SORT, Culprit { name, actual: 0 });
+        return Err(Refusal {
+            number: numbers::BAD_SORT,
+            culprit: Culprit { name, actual: 0 },
+        });
     }
-    Verdict::Fine
+    Ok(())
 }
 
 // 13, told at the first function or variable in text order.
-pub fn available(library: &[u8], text: &[u8], work: &[u32], t: usize, own: Own) -> Verdict
+pub fn available(
+    library: &[u8],
+    text: &[u8],
+    work: &[u32],
+    t: usize,
+    own: Own,
+) -> Result<(), Refusal>
     requires { Ready work.now t own }
     ensures { told (joint library.now text.now) result ≡ walked (available_at (joint library.now text.now) (part work.now 0 t) work.now own) own.from (own.end - own.from) }
 {
     let end = own.end;
-    let mut i = own.from;
-    while i < end {
-        match available_at(library, text, work, t, own, i) {
-            Verdict::Stop(k, w) => return Verdict::Stop(k, w),
-            Verdict::Fine => {
-                i += 1;
-            }
-        }
+    for i in own.from..end {
+        available_at(library, text, work, t, own, i)?;
     }
-    Verdict::Fine
+    Ok(())
 }
 
 // Is the variable at i called like one before it, or like a constant among the visible rows or the n rows from b on?
@@ -174,18 +182,21 @@ fn variable_at(
     b: u32,
     n: u32,
     i: u32,
-) -> Verdict
+) -> Result<(), Refusal>
     requires { Ready work.now t own }
     ensures { told (joint library.now text.now) result ≡ variable_at (joint library.now text.now) (part work.now 0 t) work.now own b n i }
 {
     if role_at(&work[0..t], i as usize) == roles::VARIABLE {
         if wrong_at(library, text, work, t, own, b, n, i) {
             let name = name_at(&work[0..t], i as usize);
-            return Verdict::Stop(numbers::BAD_VARIABLE, Culprit { name, actual: 0 });
+            return Err(Refusal {
+                number: numbers::BAD_VARIABLE,
+                culprit: Culprit { name, actual: 0 },
+            });
         }
-        return Verdict::Fine;
+        return Ok(());
     }
-    Verdict::Fine
+    Ok(())
 }
 
 // 12, told at the first variable in text order. The rows of `own` are all that is visible, the module's own among them; its own hidden items
@@ -198,19 +209,13 @@ pub fn variables_right(
     own: Own,
     b: u32,
     n: u32,
-) -> Verdict
+) -> Result<(), Refusal>
     requires { Ready work.now t own }
     ensures { told (joint library.now text.now) result ≡ walked (variable_at (joint library.now text.now) (part work.now 0 t) work.now own b n) own.from (own.end - own.from) }
 {
     let end = own.end;
-    let mut i = own.from;
-    while i < end {
-        match variable_at(library, text, work, t, own, b, n, i) {
-            Verdict::Stop(k, w) => return Verdict::Stop(k, w),
-            Verdict::Fine => {
-                i += 1;
-            }
-        }
+    for i in own.from..end {
+        variable_at(library, text, work, t, own, b, n, i)?;
     }
-    Verdict::Fine
+    Ok(())
 }

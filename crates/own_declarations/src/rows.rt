@@ -27,10 +27,8 @@ fn input_sorts(
     ensures { InputSorts (joint library.now text.now) (part work.now 0 t) work.now own d n result }
 {
     let mut sorts = [0; 9];
-    let mut i = 0;
-    while i < n {
+    for i in 0..n {
         sorts[i as usize] = sort_at(library, text, work, t, own, d as usize + 1 + i as usize);
-        i += 1;
     }
     sorts
 }
@@ -154,15 +152,12 @@ pub fn own_rows(
 {
     let end = own.end;
     let mut k = n;
-    let mut i = own.from;
-    while i < end {
-        if is_own(&work[0..t], hidden, i) {
-            put_own(library, text, work, t, own, base, k, i);
-            k += 1;
-            i += 1;
-        } else {
-            i += 1;
+    for i in own.from..end {
+        if !is_own(&work[0..t], hidden, i) {
+            continue;
         }
+        put_own(library, text, work, t, own, base, k, i);
+        k += 1;
     }
     k
 }

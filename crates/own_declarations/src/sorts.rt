@@ -35,14 +35,12 @@ pub fn first_named(
 ) -> u32
     ensures { result ≡ first_of (is_named (joint library.now text.now) tape.now role (name_of (joint library.now text.now) w)) a (e - a) }
 {
-    let mut i = a;
-    while i < e {
+    for i in a..e {
         if is_named(library, text, tape, role, w, i) {
             return i;
         }
-        i += 1;
     }
-    i
+    a.max(e)
 }
 
 // Word k of row i of the table that starts at b.
@@ -66,12 +64,10 @@ fn is_row(library: &[u8], text: &[u8], work: &[u32], b: u32, kind: u32, w: u32, 
 pub fn has_row(library: &[u8], text: &[u8], work: &[u32], b: u32, n: u32, kind: u32, w: u32) -> bool
     ensures { result ≡ found (is_row (joint library.now text.now) work.now b kind (name_of (joint library.now text.now) w)) 0 n }
 {
-    let mut i = 0;
-    while i < n {
+    for i in 0..n {
         if is_row(library, text, work, b, kind, w, i) {
             return true;
         }
-        i += 1;
     }
     false
 }
@@ -90,12 +86,10 @@ fn declares_at(library: &[u8], text: &[u8], tape: &[u32], w: u32, i: u32) -> boo
 fn declares_one(library: &[u8], text: &[u8], tape: &[u32], w: u32, a: u32, e: u32) -> bool
     ensures { result ≡ found (declares_at (joint library.now text.now) tape.now (name_of (joint library.now text.now) w)) a (e - a) }
 {
-    let mut i = a;
-    while i < e {
+    for i in a..e {
         if declares_at(library, text, tape, w, i) {
             return true;
         }
-        i += 1;
     }
     false
 }

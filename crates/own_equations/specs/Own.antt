@@ -16,7 +16,7 @@ use Rattle.invariants.specs.Limits.{NodesWithin}
 use Rattle.tape.specs.Tape.{tag_role, flat_equation, flat_module}
 use Rattle.form_rows.specs.Entries.{next_with}
 use Rattle.form.specs.declared.Form.{Form}
-use Rattle.form.specs.declared.Made.{Made}
+use Rattle.form.specs.Verdicts.{Made}
 use Rattle.form.specs.Memory.{part}
 use Rattle.own_declarations.specs.Spelled.{Spells}
 use Rattle.own_typing.specs.Equations.{equations_from}

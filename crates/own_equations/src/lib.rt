@@ -7,7 +7,7 @@ ghost use Rattle.own_typing.specs.Equations.{told, equations_from};
 ghost use Rattle.own_typing.specs.Typed.{known_in, module_in, own_made};
 ghost use Rattle.own_equations.specs.Own.{owned, own_at};
 
-use form::{Culprit, Form, Made};
+use form::{Culprit, Form, Refusal};
 use form_rows::entries::next_with;
 use meaning::numbers;
 use own_finding::Known;
@@ -25,7 +25,7 @@ fn type_placed(
     home: u32,
     i: usize,
     end: usize,
-) -> Equated
+) -> Result<Equated, u32>
     requires { (t ≤ length work.old) × (t ≤ 65536) × (end ≤ t) × (f.visible_count + f.hidden_count ≤ 65536) }
     ensures { told result work.new ≡ equations_from (joint library.now text.now) (known_in t f) (module_in f home end) t 0 i f.nodes work.old }
 {
@@ -51,21 +51,21 @@ fn type_placed(
 }
 
 // What is made of the form.
-fn made_of(f: Form, r: Equated) -> Made
+fn made_of(f: Form, r: Result<Equated, u32>) -> Result<Form, Refusal>
     ensures { result ≡ own_made f r }
 {
     match r {
-        Equated::Stop(tag) => Made::Refused(
-            numbers::ILL_TYPED,
-            Culprit {
+        Err(tag) => Err(Refusal {
+            number: numbers::ILL_TYPED,
+            culprit: Culprit {
                 name: tag,
                 actual: 0,
             },
-        ),
-        Equated::All { count, free } => {
+        }),
+        Ok(equated) => {
             let nodes = f.nodes as usize;
-            let node_count = span(free, nodes);
-            Made::Done(Form {
+            let node_count = span(equated.free, nodes);
+            Ok(Form {
                 parameters: f.parameters,
                 parameter_count: f.parameter_count,
                 visible: f.visible,
@@ -73,7 +73,7 @@ fn made_of(f: Form, r: Equated) -> Made
                 hidden: f.hidden,
                 hidden_count: f.hidden_count,
                 equations: f.equations,
-                equation_count: count,
+                equation_count: equated.count,
                 nodes: f.nodes,
                 node_count,
             })
@@ -91,7 +91,7 @@ pub fn type_own(
     home: u32,
     from: usize,
     end: usize,
-) -> Made
+) -> Result<Form, Refusal>
     requires { (t ≤ length work.old) × (t ≤ 65536) × (end ≤ t) × (f.visible_count + f.hidden_count ≤ 65536) }
     ensures { owned result work.new ≡ own_at (joint library.now text.now) t f home from end work.old }
 {

@@ -54,12 +54,9 @@ fn takes(
     ensures { result ≡ agree same_sort (map (sort_of (joint library.now text.now) (part work.now 0 t)) (take n sorts.now)) (map (sort_of (joint library.now text.now) (part work.now 0 t)) (take n (row_at work.now (b + i * row_size)).sorts)) }
 {
     let place = b as usize + i as usize * ROW_STEP + 6;
-    let mut j = 0;
-    while j < n {
+    for j in 0..n {
         let own = word_at(work, place + j);
-        if same_sort(library, text, &work[0..t], sorts[j], own) {
-            j += 1;
-        } else {
+        if !same_sort(library, text, &work[0..t], sorts[j], own) {
             return false;
         }
     }
@@ -107,12 +104,10 @@ pub fn find_variable(
     requires { t ≤ length work.now }
     ensures { result ≡ before (variable_called (name_of (joint library.now text.now) w)) (items_at (joint library.now text.now) (part work.now 0 t) work.now b n) }
 {
-    let mut i = 0;
-    while i < n {
+    for i in 0..n {
         if is_such_variable(library, text, work, t, b, i, w) {
             return i;
         }
-        i += 1;
     }
     n
 }
@@ -132,12 +127,10 @@ pub fn find_function(
     requires { (t ≤ length work.now) × (count ≤ 9) × (length sorts.now ≡ 9) }
     ensures { result ≡ before (function_called (name_of (joint library.now text.now) w) (map (sort_of (joint library.now text.now) (part work.now 0 t)) (take count sorts.now))) (items_at (joint library.now text.now) (part work.now 0 t) work.now b n) }
 {
-    let mut i = 0;
-    while i < n {
+    for i in 0..n {
         if is_such_function(library, text, work, t, b, i, w, sorts, count) {
             return i;
         }
-        i += 1;
     }
     n
 }

@@ -76,9 +76,6 @@ module _ (text : List ℕ) (t : ℕ) (own : Own) (base n : ℕ) (w₀ w : List �
   pub joining_ready : Ready w t own
   joining_ready = record { tape = omega (arith, g.kept.size, g.ready.tape); small = g.ready.small }
 
-  pub joining_part : t ≤ length w
-  joining_part = joining_ready.tape
-
   same_tape : part w 0 t ≡ part w₀ 0 t
   same_tape = tape_same w₀ w t g.kept.size (λ j h l. g.kept.below j (omega (arith, g.roomy.behind)))
 
@@ -146,4 +143,4 @@ module _ (text : List ℕ) (t : ℕ) (own : Own) (base n : ℕ) (w₀ w : List �
                 ∙ old;
           }
 
-pub ruleset joins = (item_space, join_found, join_new, joining_start, joining_ready, joining_part, joining_end, joining_skip, joining_room, rules)
+pub ruleset joins = (item_space, join_found, join_new, joining_start, joining_ready, joining_end, joining_skip, joining_room, rules)

@@ -7,8 +7,6 @@ use native.Mathlib.Numerals.{add-one}
 use native.Mathlib.Omega.{arith}
 use borrow.Author.Rules.{rules}
 use borrow.Author.Tests.{eq-eqb, ne_eqb}
-use mir.Syntax.{w32}
-use mir.Val.{Fits}
 use lib.ListN.{length, set}
 use lib.Seq.{get_or-set_same, get_or-set_other}
 use Rattle.meaning.specs.Lists.{pick}
@@ -56,9 +54,6 @@ naming_start t own base n w h l = record {
 }
 
 module _ (t from end base n : ℕ) (w₀ w : List ℕ) (k i : ℕ) (g : Naming t from end base n w₀ w k i) where
-  pub naming_part : t ≤ length w
-  naming_part = omega (arith, g.kept.size, g.tape)
-
   same_tape : part w 0 t ≡ part w₀ 0 t
   same_tape = tape_same w₀ w t g.kept.size (λ j h l. g.kept.below j (omega (arith, g.room.behind)))
 
@@ -86,9 +81,6 @@ module _ (t from end base n : ℕ) (w₀ w : List ℕ) (k i : ℕ) (g : Naming t
       kept = g.kept;
       so_far = λ text. rw (one_less, role_there, ne_eqb x 2 q, ← add-one i) at (g.so_far text);
     }
-
-    pub naming_fits : Fits w32 (k + 1)
-    naming_fits = omega (arith, g.left, g.small, g.room.few)
 
     pub naming_put : x ≡ 2 → (w' : List ℕ) → SlotPut t (base + k * slot_size) i w w' → Naming t from end base n w₀ w' (k + 1) (i + 1)
     unfolding declared_slots declared_slot slot_at pick
@@ -118,4 +110,4 @@ module _ (t from end base n : ℕ) (w₀ w : List ℕ) (k i : ℕ) (g : Naming t
           so_far = λ text. rw (all text, append_assoc) (old text);
         }
 
-pub ruleset naming = (slot_put, naming_start, naming_part, naming_end, naming_fits, rules)
+pub ruleset naming = (slot_put, naming_start, naming_end, rules)

@@ -1,4 +1,5 @@
 -- The ways through the checks of a module's own declarations, one law each: r and s are callees' verdicts.
+use Rattle.std.specs.Prelude.{Ok, Err}
 use mathlib.Core.Path.{◌≡◌, sym, ap, ◌∙◌}
 use mathlib.Core.List.{List}
 use Prim.Native.Nat.{ℕ, ◌+◌, ◌-◌, ◌*◌}
@@ -10,11 +11,9 @@ use Rattle.meaning.specs.Checks.{◌>>◌, consistent}
 use Rattle.meaning.specs.Own.{own_hidden_items}
 use Rattle.meaning.specs.Evaluate.{seen_sorts, joined_visible}
 use Rattle.form_rows.specs.Rows.{row_size}
-use Rattle.form.specs.declared.Culprit.{Culprit}
-use Rattle.form.specs.declared.Verdict.{Verdict}
-use Rattle.form.specs.declared.Verdict.TheVariants.{Fine, Stop}
+use Rattle.form.specs.declared.Refusal.{Refusal}
 use Rattle.form.specs.Memory.{part}
-use Rattle.form.specs.Verdicts.{told}
+use Rattle.form.specs.Verdicts.{Verdict, told}
 use Rattle.unite_checks.specs.Consistent.{Checked, checked_own}
 use Rattle.own_repeats.specs.Scans.{walked}
 use Rattle.own_declarations.specs.Checked.{available_at, variable_at}
@@ -34,11 +33,11 @@ module _ (text tape w : List ℕ) (own : Own) (visible hidden : ℕ) (r : Verdic
   variables_so e = e
 
   module _ (e : told text r ≡ walked (available_at text tape w own) own.from (own.end - own.from)) where
-    pub declared_stop : (k : ℕ) (x : Culprit) → r ≡ Stop k x → told text (Stop k x) ≡ declarations_by text tape w own visible hidden
+    pub declared_stop : (x : Refusal) → r ≡ Err x → told text (Err x) ≡ declarations_by text tape w own visible hidden
     unfolding declarations_by told ◌>>◌
-    declared_stop k x q = rw (← e, q)
+    declared_stop x q = rw (← e, q)
 
-    pub declared_fine : (s : Verdict) → r ≡ Fine → told text s ≡ variables_by text tape w own visible hidden
+    pub declared_fine : (s : Verdict) → r ≡ Ok tt → told text s ≡ variables_by text tape w own visible hidden
         → told text s ≡ declarations_by text tape w own visible hidden
     unfolding declarations_by told ◌>>◌
     declared_fine s q f = rw (← e, q) f
@@ -58,21 +57,21 @@ module _ (text w w' : List ℕ) (t : ℕ) (own : Own) (q : ℕ) (c : OwnRows) (p
         own_stands_kept text w w' t p (p + (c.parameter_count + (c.visible_count + c.hidden_count))) checked.kept room.laid.tape own q c m v
         room.imported room.laid.parameters room.laid.rows stands
 
-  pub checks_stop : (k : ℕ) (x : Culprit) → r ≡ Stop k x → OwnChecked text t own q c p w w' (Stop k x)
+  pub checks_stop : (x : Refusal) → r ≡ Err x → OwnChecked text t own q c p w w' (Err x)
   unfolding told ◌>>◌
-  checks_stop k x e = record {
+  checks_stop x e = record {
     kept = checked.kept;
     verdict = λ m v stands few.
-        declarations_told text (part w 0 t) w own q c m v few stands (told text (Stop k x)) (ap (told text) (sym e) ∙ consistent_told m v stands);
+        declarations_told text (part w 0 t) w own q c m v few stands (told text (Err x)) (ap (told text) (sym e) ∙ consistent_told m v stands);
   }
 
-  pub checks_fine : (s : Verdict) → r ≡ Fine → told text s ≡ declarations_by text (part w' 0 t) w' own c.visible_count c.hidden_count
+  pub checks_fine : (s : Verdict) → r ≡ Ok tt → told text s ≡ declarations_by text (part w' 0 t) w' own c.visible_count c.hidden_count
       → OwnChecked text t own q c p w w' s
   unfolding told ◌>>◌
   checks_fine s e f = record {
     kept = checked.kept;
     verdict = λ m v stands few.
-        f ∙ declarations_told text (part w' 0 t) w' own q c m v few (stands_behind m v stands) (told text Fine)
+        f ∙ declarations_told text (part w' 0 t) w' own q c m v few (stands_behind m v stands) (told text (Ok tt))
         (ap (told text) (sym e) ∙ consistent_told m v stands);
   }
 

@@ -5,9 +5,8 @@ use Rattle.meaning.specs.Normal.{Visible}
 use Rattle.meaning.specs.Checks.{Check, ◌>>◌}
 use Rattle.meaning.specs.Evaluate.{seen_sorts, joined_visible, own_checks}
 use Rattle.form_rows.specs.Rows.{row_size}
-use Rattle.form.specs.declared.Verdict.{Verdict}
 use Rattle.form.specs.Memory.{part, Kept}
-use Rattle.form.specs.Verdicts.{told}
+use Rattle.form.specs.Verdicts.{Verdict, told}
 use Rattle.unite_checks.specs.Consistent.{Laid}
 use Rattle.own_repeats.specs.Scans.{walked}
 use Rattle.own_declarations.specs.Checked.{available_at, variable_at}

@@ -7,7 +7,7 @@ ghost use Rattle.own_declarations.specs.Sorts.{Ready};
 ghost use Rattle.own_items.specs.Checking.{variables_by, declarations_by, RowsSmall, CheckRoom, OwnChecked};
 
 use super::OwnRows;
-use form::Verdict;
+use form::Refusal;
 use form_rows::ROW_SIZE;
 use own_declarations::Own;
 use own_declarations::checks::{available, variables_right};
@@ -22,7 +22,7 @@ fn check_variables(
     own: Own,
     visible: u32,
     hidden: u32,
-) -> Verdict
+) -> Result<(), Refusal>
     requires ready { Ready work.now t own }
     requires rows_small { RowsSmall own visible }
     ensures { told (joint library.now text.now) result ≡ variables_by (joint library.now text.now) (part work.now 0 t) work.now own visible hidden }
@@ -56,15 +56,13 @@ fn check_declarations(
     own: Own,
     visible: u32,
     hidden: u32,
-) -> Verdict
+) -> Result<(), Refusal>
     requires ready { Ready work.now t own }
     requires rows_small { RowsSmall own visible }
     ensures { told (joint library.now text.now) result ≡ declarations_by (joint library.now text.now) (part work.now 0 t) work.now own visible hidden }
 {
-    match available(library, text, work, t, own) {
-        Verdict::Stop(k, w) => Verdict::Stop(k, w),
-        Verdict::Fine => check_variables(library, text, work, t, own, visible, hidden),
-    }
+    available(library, text, work, t, own)?;
+    check_variables(library, text, work, t, own, visible, hidden)
 }
 
 // All of them: the names of the parameters stand at `parameters`, the visible rows and the own hidden ones behind them in the table of `own`,
@@ -78,7 +76,7 @@ pub fn own_checks(
     parameters: u32,
     counts: OwnRows,
     p: u32,
-) -> Verdict
+) -> Result<(), Refusal>
     requires ready { Ready work.old t own }
     requires check_room { CheckRoom (length work.old) t own parameters counts p }
     ensures { OwnChecked (joint library.now text.now) t own parameters counts p work.old work.new result }
@@ -87,7 +85,7 @@ pub fn own_checks(
     let visible = counts.visible_count;
     let hidden = counts.hidden_count;
     let rows = own.rows;
-    match consistent(
+    consistent(
         library,
         text,
         work,
@@ -97,8 +95,6 @@ pub fn own_checks(
         rows,
         visible + hidden,
         p,
-    ) {
-        Verdict::Stop(k, w) => Verdict::Stop(k, w),
-        Verdict::Fine => check_declarations(library, text, work, t, own, visible, hidden),
-    }
+    )?;
+    check_declarations(library, text, work, t, own, visible, hidden)
 }

@@ -49,14 +49,11 @@ pub fn join_visible(
 {
     let end = own.end;
     let mut k = n;
-    let mut i = own.from;
-    while i < end {
-        if is_own(&work[0..t], false, i) {
-            k = join_item(library, text, work, t, own, base, k, i);
-            i += 1;
-        } else {
-            i += 1;
+    for i in own.from..end {
+        if !is_own(&work[0..t], false, i) {
+            continue;
         }
+        k = join_item(library, text, work, t, own, base, k, i);
     }
     k
 }

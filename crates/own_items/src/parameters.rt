@@ -28,15 +28,12 @@ pub fn own_parameters(work: &mut [u32], t: usize, own: Own, base: u32, n: u32) -
 {
     let end = own.end;
     let mut k = n;
-    let mut i = own.from;
-    while i < end {
-        if role_at(&work[0..t], i as usize) == roles::PARAMETER {
-            put_parameter(work, t, base as usize + k as usize * SLOT_STEP, i);
-            k += 1;
-            i += 1;
-        } else {
-            i += 1;
+    for i in own.from..end {
+        if role_at(&work[0..t], i as usize) != roles::PARAMETER {
+            continue;
         }
+        put_parameter(work, t, base as usize + k as usize * SLOT_STEP, i);
+        k += 1;
     }
     k
 }

@@ -1,4 +1,5 @@
 -- The ways through the code, one law each: b, r, v and x are callees' answers. The laws of scans serve the other checks of a module too.
+use Rattle.std.specs.Prelude.{Ok, Err}
 use mathlib.Core.Path.{◌≡◌, refl, sym, ap, ◌∙◌}
 use mathlib.Core.Bool.{Bool, true, false, false≢true}
 use mathlib.Core.List.{List}
@@ -19,10 +20,8 @@ use Rattle.meaning.specs.Numbers.{declared_twice}
 use Rattle.laws.specs.Decides.{declared_decided}
 use Rattle.tape.specs.Tape.{parameter_role, variable_role}
 use Rattle.form_rows.specs.Entries.{role_at, word_at, name_at, last_with, is_function_role, is_parameter_role, declared_at}
-use Rattle.form.specs.declared.Culprit.{Culprit}
-use Rattle.form.specs.declared.Verdict.{Verdict}
-use Rattle.form.specs.declared.Verdict.TheVariants.{Fine, Stop}
-use Rattle.form.specs.Verdicts.{lone_of, told}
+use Rattle.form.specs.declared.Refusal.{Refusal}
+use Rattle.form.specs.Verdicts.{Verdict, refusal, lone_of, told}
 use Rattle.own_repeats.specs.Scans.{found, walked}
 use Rattle.own_repeats.specs.Once.{is_declaring, repeats, section_start, is_repeat, once_at}
 
@@ -53,18 +52,18 @@ module _ (p : ℕ → Bool) (i e : ℕ) where
     found_on q = rw (one_left i e h, ← f, q, add-one i)
 
 module _ (text : List ℕ) (f : ℕ → Check) (i e : ℕ) where
-  pub walked_all : e ≤ i → walked f i (e - i) ≡ told text Fine
+  pub walked_all : e ≤ i → walked f i (e - i) ≡ told text (Ok tt)
   unfolding walked told
   walked_all h = let z : e - i ≡ 0 = omega arith in rw z
 
   module _ (v : Verdict) (h : i < e) (g : told text v ≡ f i) where
-    pub walked_on : v ≡ Fine → walked f i (e - i) ≡ walked f (i + 1) (e - (i + 1))
+    pub walked_on : v ≡ Ok tt → walked f i (e - i) ≡ walked f (i + 1) (e - (i + 1))
     unfolding walked told ◌>>◌
     walked_on q = rw (one_left i e h, ← g, q, add-one i)
 
-    pub walked_stop : (k : ℕ) (w : Culprit) → v ≡ Stop k w → walked f i (e - i) ≡ told text (Stop k w)
+    pub walked_stop : (w : Refusal) → v ≡ Err w → walked f i (e - i) ≡ told text (Err w)
     unfolding walked told ◌>>◌
-    walked_stop k w q = rw (one_left i e h, ← g, q)
+    walked_stop w q = rw (one_left i e h, ← g, q)
 
 -- ---- 9
 
@@ -130,16 +129,16 @@ module _ (tape : List ℕ) (a i r : ℕ) (e : r ≡ role_at tape i) (b : Bool) (
   start_module q = rw (← e, ← f, q)
 
 module _ (text tape : List ℕ) (a i r : ℕ) (e : r ≡ role_at tape i) (d : Bool) (f : d ≡ is_declaring r) where
-  pub once_other : d ≡ false → told text Fine ≡ once_at text tape a i
+  pub once_other : d ≡ false → told text (Ok tt) ≡ once_at text tape a i
   unfolding once_at told pick
   once_other q = rw (← e, ← f, q)
 
   module _ (s : ℕ) (b : Bool) (q : d ≡ true) (g : s ≡ section_start tape a i) (h : b ≡ found (repeats text tape i) s (i - s)) where
-    pub once_first : b ≡ false → told text Fine ≡ once_at text tape a i
+    pub once_first : b ≡ false → told text (Ok tt) ≡ once_at text tape a i
     unfolding once_at is_repeat told pick
     once_first p = rw (← e, ← f, q, ← g, ← h, p)
 
-    pub once_again : (x : ℕ) → b ≡ true → x ≡ word_at tape i → told text (Stop declared_twice (record { name = x; actual = 0 })) ≡ once_at text tape a i
+    pub once_again : (x : ℕ) → b ≡ true → x ≡ word_at tape i → told text (Err (refusal declared_twice (record { name = x; actual = 0 }))) ≡ once_at text tape a i
     unfolding once_at is_repeat told pick
     once_again x p k = rw (lone_of text x, k, ← e, ← f, q, ← g, ← h, p)
 

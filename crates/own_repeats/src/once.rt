@@ -5,7 +5,7 @@ ghost use Rattle.form.specs.Verdicts.{told};
 ghost use Rattle.own_repeats.specs.Scans.{found, walked};
 ghost use Rattle.own_repeats.specs.Once.{is_declaring, repeats, section_start, once_at};
 
-use form::{Culprit, Verdict};
+use form::{Culprit, Refusal};
 use form_comparing::declarations::same_declared;
 use form_rows::entries::{is_parameter_role, last_with, name_at, role_at, same_name_at};
 use meaning::numbers;
@@ -49,17 +49,15 @@ fn section_start(tape: &[u32], a: u32, i: u32) -> u32
 fn is_repeat(library: &[u8], text: &[u8], tape: &[u32], start: u32, i: u32) -> bool
     ensures { result ≡ found (repeats (joint library.now text.now) tape.now i) start (i - start) }
 {
-    let mut j = start;
-    while j < i {
+    for j in start..i {
         if repeats(library, text, tape, i, j) {
             return true;
         }
-        j += 1;
     }
     false
 }
 
-fn once_at(library: &[u8], text: &[u8], tape: &[u32], a: u32, i: u32) -> Verdict
+fn once_at(library: &[u8], text: &[u8], tape: &[u32], a: u32, i: u32) -> Result<(), Refusal>
     ensures { told (joint library.now text.now) result ≡ once_at (joint library.now text.now) tape.now a i }
 {
     let role = role_at(tape, i as usize);
@@ -67,25 +65,28 @@ fn once_at(library: &[u8], text: &[u8], tape: &[u32], a: u32, i: u32) -> Verdict
         let start = section_start(tape, a, i);
         if is_repeat(library, text, tape, start, i) {
             let name = name_at(tape, i as usize);
-            return Verdict::Stop(numbers::DECLARED_TWICE, Culprit { name, actual: 0 });
+            return Err(Refusal {
+                number: numbers::DECLARED_TWICE,
+                culprit: Culprit { name, actual: 0 },
+            });
         }
-        return Verdict::Fine;
+        return Ok(());
     }
-    Verdict::Fine
+    Ok(())
 }
 
 // The entries from a up to e: told at the first that repeats another.
-pub fn declared_once(library: &[u8], text: &[u8], tape: &[u32], a: u32, e: u32) -> Verdict
+pub fn declared_once(
+    library: &[u8],
+    text: &[u8],
+    tape: &[u32],
+    a: u32,
+    e: u32,
+) -> Result<(), Refusal>
     ensures { told (joint library.now text.now) result ≡ walked (once_at (joint library.now text.now) tape.now a) a (e - a) }
 {
-    let mut i = a;
-    while i < e {
-        match once_at(library, text, tape, a, i) {
-            Verdict::Stop(k, w) => return Verdict::Stop(k, w),
-            Verdict::Fine => {
-                i += 1;
-            }
-        }
+    for i in a..e {
+        once_at(library, text, tape, a, i)?;
     }
-    Verdict::Fine
+    Ok(())
 }

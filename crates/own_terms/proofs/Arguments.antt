@@ -11,11 +11,10 @@ use Rattle.meaning.specs.Lists.{pick}
 use Rattle.form.specs.Memory.{part}
 use Rattle.own_finding.specs.declared.Known.{Known}
 use Rattle.own_finding.specs.Arguments.{ends_at}
-use Rattle.own_terms.specs.declared.Answer.{Answer}
-use Rattle.own_terms.specs.declared.Answer.TheVariants.{Ill}
-use Rattle.own_terms.specs.Typing.{Out, out, settled, variable_at, no_sorts, alone_at, applied_at, term_at, args_at, known_of, At, AtName, Room, answered, Told, Typed, Lent, Reached, Read, item_at}
-use Rattle.own_terms.proofs.Cases.{stays_on, end_fits, Arguing, args_start, args_again, args_end, args_done, args_many, args_ill}
-use Rattle.own_terms.proofs.Words.{room_on, room_at, typed_as, reached_ill, reached_as, reached_on, reached_out, reached_at, reached_long, reached_rises, answered_sorted, answered_ill, worded}
+use Rattle.std.specs.Prelude.{None}
+use Rattle.own_terms.specs.Typing.{Out, out, settled, variable_at, no_sorts, alone_at, applied_at, term_at, args_at, known_of, At, AtName, Room, answered, Told, Typed, Lent, Reached, Read, item_at, Answer}
+use Rattle.own_terms.proofs.Cases.{stays_on, end_fits, Arguing, args_again, args_end, args_done, args_many, args_ill}
+use Rattle.own_terms.proofs.Words.{room_on, room_at, typed_as, reached_ill, reached_as, reached_on, reached_out, reached_at, answered_sorted, answered_ill, worded}
 
 -- ---- a name
 
@@ -68,12 +67,6 @@ module _ (text p₀ : List ℕ) (head place : ℕ) (w₀ : Lent) where
   abbrev wanted : Out
   wanted = args_at text k (d - 1) head place 1 9 (get_or p₀ 5 0) (get_or p₀ 6 0) 0 no_sorts w₀.now
 
-  pub deep_open : (sorts : List ℕ) → sorts ≡ no_sorts → Room p₀ w₀.now → Deep text p₀ head place w₀ 0 sorts p₀ w₀
-  deep_open sorts e h = record {
-    left = record { long = h.words.long; known = refl; next_at = refl; free_at = refl; deep = refl };
-    arguing = rw e (args_start text k (d - 1) head place 1 9 (get_or p₀ 5 0) (get_or p₀ 6 0) 0 no_sorts w₀ (omega arith) refl);
-  }
-
   module _ (n : ℕ) (sorts p : List ℕ) (w : Lent) (inv : Deep text p₀ head place w₀ n sorts p w) where
     abbrev i : ℕ
     i = get_or p 5 0
@@ -96,14 +89,8 @@ module _ (text p₀ : List ℕ) (head place : ℕ) (w₀ : Lent) where
     pub deep_few : n ≤ 9
     deep_few = omega (arith, arguing.few)
 
-    pub deep_whole : length p ≡ 10
-    deep_whole = inv.left.long
-
     pub deep_falls : (p₁ : List ℕ) (t : ℕ) → At (known_of p) i q (get_or p 7 0 - 1) p₁ → (d ≡ 0 → ⊥) → d * 3 ≡ t → get_or p₁ 7 0 * 3 + 2 < t
     deep_falls p₁ t e y x = omega (arith, e.deep, inv.left.deep)
-
-    pub deep_down : (d ≡ 0 → ⊥) → 0 < get_or p 7 0
-    deep_down z = rw inv.left.deep (omega arith)
 
     module _ (b : Bool) (w' : List ℕ) (e : Read (ends_at (part w.now 0 (get_or p 0 0)) 1 (9 - n) i) w.now b w') where
       told : b ≡ ends_at (part w.now 0 (get_or p₀ 0 0)) 1 (9 - n) i
@@ -135,7 +122,7 @@ module _ (text p₀ : List ℕ) (head place : ℕ) (w₀ : Lent) where
         deep_many p' y =
             rw e.kept
             (reached_ill wanted k d w₀ p' w arguing.stays
-            (args_end text k (d - 1) head place 1 9 (get_or p₀ 5 0) (get_or p₀ 6 0) 0 no_sorts w₀ (9 - n) i q n sorts w arguing (out Ill w.now)
+            (args_end text k (d - 1) head place 1 9 (get_or p₀ 5 0) (get_or p₀ 6 0) 0 no_sorts w₀ (9 - n) i q n sorts w arguing (out None w.now)
             (args_many text k (d - 1) head place 1 i q n sorts w.now (9 - n) b told z (omega arith))))
 
         -- the argument is typed a level deeper
@@ -156,17 +143,11 @@ module _ (text p₀ : List ℕ) (head place : ℕ) (w₀ : Lent) where
           unfolding known_of
           deep_ill x =
               reached_ill wanted k d w₀ p₂ u (stays_on w₀ w u arguing.stays further_on.stays)
-              (args_end text k (d - 1) head place 1 9 (get_or p₀ 5 0) (get_or p₀ 6 0) 0 no_sorts w₀ (9 - n) i q n sorts w arguing (out Ill u.now)
+              (args_end text k (d - 1) head place 1 9 (get_or p₀ 5 0) (get_or p₀ 6 0) 0 no_sorts w₀ (9 - n) i q n sorts w arguing (out None u.now)
               (args_ill text k (d - 1) head place 1 i q n sorts w.now (9 - n) b told z answer u.now (reached_out _ k (d - 1) w r p₂ u further_on) more_fit
               (answered_ill r (get_or p₂ 5 0) (get_or p₂ 6 0) x)))
 
           module _ (x : r ≡ 0 → ⊥) where
-            pub deep_long : length p₂ ≡ 10
-            deep_long = reached_long _ k (d - 1) w r p₂ u further_on x
-
-            pub deep_rises : Room p₀ w₀.now → (d ≡ 0 → ⊥) → get_or p₂ 7 0 + 1 < 2 ^ 64
-            deep_rises f g = reached_rises _ k (d - 1) w r p₂ u further_on x (omega (arith, f.words.small))
-
             pub deep_again : (p₃ more : List ℕ) → (d ≡ 0 → ⊥) → At (known_of p₂) (get_or p₂ 5 0) (get_or p₂ 6 0) (get_or p₂ 7 0 + 1) p₃ → more ≡ set sorts n (r - 1)
                 → Deep text p₀ head place w₀ (n + 1) more p₃ u
             unfolding known_of
@@ -185,4 +166,4 @@ module _ (text p₀ : List ℕ) (head place : ℕ) (w₀ : Lent) where
                 }
 
 -- what a name and its arguments hand to `search`
-pub ruleset argued = (worded, item_variable, item_function, leaf_nine, leaf_told, named_told, deep_open, deep_room, deep_nine, deep_few, deep_whole, deep_falls, deep_down, deep_still, deep_done, deep_many, deep_ill, deep_long, deep_rises, deep_again)
+pub ruleset argued = (worded, item_variable, item_function, leaf_nine, leaf_told, named_told)

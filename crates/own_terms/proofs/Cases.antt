@@ -1,26 +1,23 @@
 -- One law for each way through the typer of terms, in the code's terms.
 use mathlib.Core.Path.{◌≡◌, refl, sym, ap, ◌∙◌}
 use mathlib.Core.Bool.{Bool, true, false, false≢true}
-use mathlib.Core.List.{List, map}
+use mathlib.Core.List.{List}
 use Prim.Native.Nat.{ℕ, zero, suc, ◌+◌, ◌-◌, ◌*◌, ◌^◌, ◌<◌, ◌≤◌}
 use native.Mathlib.Numerals.{sub-one}
 use native.Mathlib.Omega.{arith}
 use borrow.Author.Rules.{rules}
 use borrow.Author.Tests.{eq-eqb, ne_eqb, lt-ltb, le-ltb, ltb-true, ltb-false}
 use lib.Dec.{ltb}
-use lib.ListN.{length, get_or, set, take, drop, length-take, length-drop, length-set, get_or-eq_default}
+use lib.ListN.{length, get_or, set, drop, length-take, length-drop, length-set, get_or-eq_default}
 use denote.Ref.{at_last}
 use Rattle.meaning.specs.Lists.{pick, before}
-use Rattle.text_names.specs.Word.{name_of}
 use Rattle.tape.specs.Tape.{alone_role}
-use Rattle.form_rows.specs.Entries.{role_at, word_at}
-use Rattle.form_rows.specs.Rows.{sort_of, words_from, row_at, row_size}
+use Rattle.form_rows.specs.Entries.{role_at}
+use Rattle.form_rows.specs.Rows.{words_from, row_at, row_size}
 use Rattle.own_finding.specs.declared.Known.{Known}
-use Rattle.own_finding.specs.Known.{variable_called, function_called}
 use Rattle.own_finding.specs.Arguments.{node_word, arguments_of, closers_of, ends_at}
-use Rattle.own_terms.specs.declared.Answer.{Answer}
-use Rattle.own_terms.specs.declared.Answer.TheVariants.{Sorted, Ill}
-use Rattle.own_terms.specs.Typing.{Out, out, tape_in, items_in, settled, resolved, no_sorts, variable_row, variable_at, function_row, alone_at, applied_at, further, args_by, term_by, term_at, args_at, Lent, Stays}
+use Rattle.std.specs.Prelude.{None}
+use Rattle.own_terms.specs.Typing.{Out, out, tape_in, settled, no_sorts, alone_at, applied_at, further, args_by, term_by, term_at, args_at, Lent, Stays, Answer, of_sort}
 
 -- ---- the reference to the memory
 
@@ -34,36 +31,11 @@ stays_on w x y h k = record { same = k.same ∙ ap (λ (z : Lent). at_last z y.n
 
 module _ (k : Known) (row n : ℕ) where
   pub settle_done : (q next free : ℕ) (w u : List ℕ) (s v : ℕ) → s ≡ get_or w (k.base + row * row_size + 14) 0 → v ≡ node_word k row n → u ≡ set w q v
-      → out (Sorted s next free) u ≡ settled k q row n next free w
+      → out (of_sort s next free) u ≡ settled k q row n next free w
   unfolding settled row_at words_from
   settle_done q next free w u s v e f g =
       let place : k.base + row * row_size + 14 ≡ suc (suc (suc (suc (suc (suc (suc (suc (k.base + row * row_size + 6)))))))) = omega arith in
       rw (← f, g, e, place)
-
--- ---- a name: a is its word, v and f are the rows found
-
-module _ (text : List ℕ) (k : Known) (i : ℕ) (w : List ℕ) (a : ℕ) (e : a ≡ word_at (tape_in k w) i) where
-  pub row_of_variable : (alone : Bool) (v : ℕ) → alone ≡ true → v ≡ before (variable_called (name_of text a)) (items_in text k w) → v ≡ variable_at text k alone i w
-  unfolding variable_at variable_row pick
-  row_of_variable alone v t h = rw (t, ← e) h
-
-  pub row_of_function : (n : ℕ) (sorts : List ℕ) (f : ℕ) → f ≡ before (function_called (name_of text a) (map (sort_of text (tape_in k w)) (take n sorts))) (items_in text k w)
-      → f ≡ function_row text k i sorts n w
-  unfolding function_row
-  row_of_function n sorts f h = rw (← e) h
-
-pub row_of_none : (text : List ℕ) (k : Known) (alone : Bool) (i : ℕ) (w : List ℕ) → alone ≡ false → k.count ≡ variable_at text k alone i w
-unfolding variable_at pick
-row_of_none text k alone i w t = rw t
-
-module _ (text : List ℕ) (k : Known) (i q : ℕ) (w : List ℕ) (n : ℕ) (sorts : List ℕ) (next free : ℕ) (f : ℕ) (g : f ≡ function_row text k i sorts n w) where
-  pub applied_found : (o : Out) → f < k.count → o ≡ settled k q f n next free w → o ≡ applied_at text k i q n sorts next free w
-  unfolding applied_at resolved pick
-  applied_found o m t = rw (← g, lt-ltb f k.count m) t
-
-  pub applied_ill : k.count ≤ f → out Ill w ≡ applied_at text k i q n sorts next free w
-  unfolding applied_at resolved pick
-  applied_ill m = rw (← g, le-ltb f k.count m)
 
 -- ---- where the arguments end: what closes them is on the tape
 
@@ -87,7 +59,7 @@ module _ (text : List ℕ) (k : Known) (d head place c i q n : ℕ) (sorts w : L
   args_done (suc left) b o e z t = rw (← e, z) t
 
   module _ (left : ℕ) (b : Bool) (e : b ≡ ends_at (tape_in k w) c left i) (z : b ≡ false) where
-    pub args_many : left ≡ 0 → out Ill w ≡ args_at text k d head place c left i q n sorts w
+    pub args_many : left ≡ 0 → out None w ≡ args_at text k d head place c left i q n sorts w
     unfolding args_by pick
     args_many y = let f : ends_at (tape_in k w) c 0 i ≡ false = rw y at (sym e ∙ z) in rw (y, f)
 
@@ -95,11 +67,11 @@ module _ (text : List ℕ) (k : Known) (d head place c i q n : ℕ) (sorts w : L
       abbrev onward : left ≡ suc (left - 1)
       onward = omega arith
 
-      pub args_ill : r ≡ Ill → out Ill u ≡ args_at text k d head place c left i q n sorts w
+      pub args_ill : r ≡ None → out None u ≡ args_at text k d head place c left i q n sorts w
       unfolding args_by further pick
       args_ill g = let h : ends_at (tape_in k w) c (suc (left - 1)) i ≡ false = rw onward at (sym e ∙ z) in rw (onward, h, ← f, g)
 
-      args_more : (s next free : ℕ) (more : List ℕ) → r ≡ Sorted s next free → more ≡ set sorts n s
+      args_more : (s next free : ℕ) (more : List ℕ) → r ≡ of_sort s next free → more ≡ set sorts n s
           → args_at text k d head place c left i q n sorts w ≡ args_at text k d head place c (left - 1) next free (n + 1) more u
       unfolding args_by further pick
       args_more s next free more g m =
@@ -114,15 +86,12 @@ pub record Arguing (text : List ℕ) (k : Known) (d head place c left₀ i₀ q�
   pub rest : args_at text k d head place c left₀ i₀ q₀ n₀ sorts₀ w₀.now ≡ args_at text k d head place c left i q n sorts w.now
 
 module _ (text : List ℕ) (k : Known) (d head place c left₀ i₀ q₀ n₀ : ℕ) (sorts₀ : List ℕ) (w₀ : Lent) where
-  pub args_start : n₀ + left₀ ≤ 9 → length sorts₀ ≡ 9 → Arguing text k d head place c left₀ i₀ q₀ n₀ sorts₀ w₀ left₀ i₀ q₀ n₀ sorts₀ w₀
-  args_start h l = record { stays = stays_here w₀; few = h; nine = l; rest = refl }
-
   module _ (left i q n : ℕ) (sorts : List ℕ) (w : Lent) (inv : Arguing text k d head place c left₀ i₀ q₀ n₀ sorts₀ w₀ left i q n sorts w) where
     pub args_end : (o : Out) → o ≡ args_at text k d head place c left i q n sorts w.now → o ≡ args_at text k d head place c left₀ i₀ q₀ n₀ sorts₀ w₀.now
     args_end o e = e ∙ sym inv.rest
 
     pub args_again : (b : Bool) (r : Answer) (u : Lent) (s next free : ℕ) (more : List ℕ) → b ≡ ends_at (tape_in k w.now) c left i → b ≡ false → (left ≡ 0 → ⊥)
-        → out r u.now ≡ term_at text k d i q w.now → r ≡ Sorted s next free → Stays w u → more ≡ set sorts n s
+        → out r u.now ≡ term_at text k d i q w.now → r ≡ of_sort s next free → Stays w u → more ≡ set sorts n s
         → Arguing text k d head place c left₀ i₀ q₀ n₀ sorts₀ w₀ (left - 1) next free (n + 1) more u
     args_again b r u s next free more e z y f g l m = record {
       stays = stays_on w₀ w u inv.stays l;
@@ -134,7 +103,7 @@ module _ (text : List ℕ) (k : Known) (d head place c left₀ i₀ q₀ n₀ : 
 -- ---- the term
 
 module _ (text : List ℕ) (k : Known) (d i q : ℕ) (w : List ℕ) where
-  pub term_deep : d ≡ 0 → out Ill w ≡ term_at text k d i q w
+  pub term_deep : d ≡ 0 → out None w ≡ term_at text k d i q w
   unfolding term_at
   term_deep z = rw z
 
@@ -148,12 +117,12 @@ module _ (text : List ℕ) (k : Known) (d i q : ℕ) (w : List ℕ) where
       go (suc d) z = rw sub-one
 
   module _ (z : d ≡ 0 → ⊥) where
-    pub term_past : k.tape ≤ i → out Ill w ≡ term_at text k d i q w
+    pub term_past : k.tape ≤ i → out None w ≡ term_at text k d i q w
     unfolding term_by pick
     term_past h = rw (term_any z, le-ltb i k.tape h)
 
     module _ (h : i < k.tape) where
-      pub term_full : length w ≤ q → out Ill w ≡ term_at text k d i q w
+      pub term_full : length w ≤ q → out None w ≡ term_at text k d i q w
       unfolding term_by pick
       term_full g = rw (term_any z, lt-ltb i k.tape h, le-ltb q (length w) g)
 
@@ -167,9 +136,9 @@ module _ (text : List ℕ) (k : Known) (d i q : ℕ) (w : List ℕ) where
           unfolding term_by pick
           term_args c o f p t = rw (term_any z, lt-ltb i k.tape h, lt-ltb q (length w) g, ← e, ne_eqb role alone_role x, ← y, ← f, ne_eqb a 0 p) t
 
-          pub term_other : a ≡ 0 → out Ill w ≡ term_at text k d i q w
+          pub term_other : a ≡ 0 → out None w ≡ term_at text k d i q w
           unfolding term_by pick
           term_other p = rw (term_any z, lt-ltb i k.tape h, lt-ltb q (length w) g, ← e, ne_eqb role alone_role x, ← y, eq-eqb a 0 p)
 
 -- what the answers of this crate hand to `search`
-pub ruleset cases = (settle_done, row_of_variable, row_of_none, row_of_function, applied_found, applied_ill, rules)
+pub ruleset cases = (settle_done, rules)

@@ -12,9 +12,8 @@ use Rattle.form_rows.specs.Entries.{role_at}
 use Rattle.form.specs.Memory.{part}
 use Rattle.own_finding.specs.declared.Known.{Known}
 use Rattle.own_finding.specs.Arguments.{arguments_of, closers_of}
-use Rattle.own_terms.specs.declared.Answer.{Answer}
-use Rattle.own_terms.specs.declared.Answer.TheVariants.{Sorted, Ill}
-use Rattle.own_terms.specs.Typing.{Out, out, no_sorts, alone_at, term_at, args_at, operands_at, operators_in, returned, Ended, Operators, known_of, At, Room, answered, Lent, Reached, Read}
+use Rattle.std.specs.Prelude.{None}
+use Rattle.own_terms.specs.Typing.{Out, out, no_sorts, alone_at, term_at, args_at, operands_at, operators_in, returned, Ended, Operators, known_of, At, Room, answered, Lent, Reached, Read, Answer, of_sort}
 use Rattle.own_terms.proofs.Operators.{operands_counted}
 use Rattle.own_terms.proofs.Cases.{stays_here, term_deep, term_past, term_full, term_alone, term_args, term_other}
 use Rattle.own_terms.proofs.Words.{reached_ill, reached_as, reached_on, reached_out, reached_at, answered_sorted, answered_ill}
@@ -27,15 +26,6 @@ use Rattle.own_terms.proofs.Row.{row_ill, returned_as, row_total, rowed}
 module _ (v : ℕ) (w : List ℕ) (r : ℕ) (w' : List ℕ) (e : Read v w r w') where
   pub read_room : (p : List ℕ) → Room p w → Room p w'
   read_room p h = rw e.kept h
-
-  pub read_within : (t : ℕ) → t < length w → t < length w'
-  read_within t h = rw e.kept h
-
-pub read_onward : (text : List ℕ) (k : Known) (v d i q : ℕ) (w : Lent) (w' : List ℕ) (role : ℕ) (p₁ : List ℕ) (r : ℕ) (p : List ℕ) (u : Lent)
-    → Read v w.now role w' → At k i q d p₁
-    → Reached (term_at text (known_of p₁) (get_or p₁ 7 0) (get_or p₁ 5 0) (get_or p₁ 6 0) w') (known_of p₁) (get_or p₁ 7 0) (at_last w w') r p u
-    → Reached (term_at text k d i q w.now) k d w r p u
-read_onward text k v d i q w w' role p₁ r p u e t h = rw (t.known, t.next_at, t.free_at, t.deep, e.kept) at h
 
 module _ (text p : List ℕ) (i q : ℕ) (w : Lent) where
   abbrev kt : Known
@@ -145,11 +135,11 @@ module _ (text : List ℕ) (known : Known) (d i q : ℕ) (p₀ : List ℕ) (w : 
   came_back : out (answered r (get_or p 5 0) (get_or p 6 0)) u ≡ term_at text known d i q w.now
   came_back = rw (f (sym (ap (λ x. x.ghost_name) h.stays.same)), ← e.known, ← e.next_at, ← e.free_at, ← e.deep) (reached_out _ (known_of p₀) (get_or p₀ 7 0) w r p w' h)
 
-  pub whole_ill : r ≡ 0 → out Ill u ≡ term_at text known d i q w.now
+  pub whole_ill : r ≡ 0 → out None u ≡ term_at text known d i q w.now
   whole_ill z = ap (λ (a : Answer). out a u) (sym (answered_ill r (get_or p 5 0) (get_or p 6 0) z)) ∙ came_back
 
-  pub whole_sorted : (r ≡ 0 → ⊥) → out (Sorted (r - 1) (get_or p 5 0) (get_or p 6 0)) u ≡ term_at text known d i q w.now
+  pub whole_sorted : (r ≡ 0 → ⊥) → out (of_sort (r - 1) (get_or p 5 0) (get_or p 6 0)) u ≡ term_at text known d i q w.now
   whole_sorted z = ap (λ (a : Answer). out a u) (sym (answered_sorted r (get_or p 5 0) (get_or p 6 0) z)) ∙ came_back
 
 -- what the answers of a level hand to `search`
-pub ruleset deeper = (argued, rowed, read_room, read_within, read_onward, deep_none, deep_past, deep_full, deep_leaf, deep_args, deep_other, deep_sunk, deep_row)
+pub ruleset deeper = (argued, rowed, deep_none, deep_past, deep_full, deep_leaf, deep_args, deep_other)

@@ -17,7 +17,7 @@ use Rattle.form_rows.specs.Entries.{role_at}
 use Rattle.form.specs.Memory.{part}
 use Rattle.own_finding.specs.declared.Known.{Known}
 use Rattle.own_finding.specs.Arguments.{arguments_of, closers_of, ends_at}
-use Rattle.own_terms.specs.Typing.{no_sorts, args_by, term_at, args_at, operated, operated_row, operands_at, Row, halvings, stepped, shortened, Ended, Operators, known_of, At, Room}
+use Rattle.own_terms.specs.Typing.{no_sorts, args_by, term_at, args_at, operated, operated_row, operands_at, Row, halvings, Ended, Operators, known_of, At, Room}
 use Rattle.own_terms.proofs.Cases.{term_args}
 
 -- ---- how many operands the operator at i has
@@ -116,14 +116,6 @@ pub halved_some : (most word : ℕ) → 1 < word → 0 < halvings (suc most) wor
 unfolding halvings pick
 halved_some most word h = rw (lt-ltb 1 word h) (omega arith)
 
-pub row_stepped : (row : List ℕ) → (get_or row 0 0 - 1) ∷ (get_or row 1 0 - 1) ∷ get_or row 2 0 ∷ [] ≡ stepped row
-unfolding stepped
-row_stepped row = refl
-
-pub row_shortened : (row : List ℕ) → get_or row 0 0 ∷ get_or row 1 0 ∷ (get_or row 2 0 / 2) ∷ [] ≡ shortened row
-unfolding shortened
-row_shortened row = refl
-
 row_start : (k : Known) (d i q : ℕ) (w : List ℕ) → i < 2 ^ 64 → q < 2 ^ 64 → Row k d i q w 0 1
 unfolding operated_row
 row_start k d i q w h g = record {
@@ -165,9 +157,6 @@ module _ (k : Known) (d i q : ℕ) (w : List ℕ) (n word : ℕ) (row : Row k d 
               ∙ rw (depth, entry, place, add-one n, half, term_operated text k (d - n) (i + n) (q + n) w a more (λ z. omega arith) o bit);
         }
 
-pub row_falls : (k : Known) (i q d : ℕ) (p : List ℕ) → At k i q (d - 1) p → 0 < d → get_or p 7 0 < d
-row_falls k i q d p h l = rw h.deep (omega arith)
-
 -- n operators from the words p₀ on are gone over, and the words are p
 pub record Going (p₀ : List ℕ) (i q : ℕ) (w : List ℕ) (n word : ℕ) (p : List ℕ) : Type 0 where
   pub row : Row (known_of p₀) (get_or p₀ 7 0) i q w n word
@@ -185,29 +174,6 @@ module _ (p₀ : List ℕ) (i q : ℕ) (w : List ℕ) (n word : ℕ) (p : List �
 
   stands : Ended (known_of p₀) (get_or p 7 0) words w → Operators p₀ i q w words p w
   stands e = record { n = n; stand = v.row; entry = refl; place = refl; left = v.left; ended = e; kept = refl }
-
-  pub row_entry : i + n < 2 ^ 64
-  row_entry = v.row.entry
-
-  pub row_place : q + n < 2 ^ 64
-  row_place = v.row.place
-
-  pub row_long : length p ≡ 10
-  row_long = v.left.long
-
-  pub row_more : n + 1 < 2 ^ 64
-  row_more = omega (arith, v.row.few)
-
-  pub row_doubles : (n ≡ 63 → ⊥) → word * 2 < 2 ^ 64
-  row_doubles f = omega (arith, row_word (known_of p₀) (get_or p₀ 7 0) i q w n word v.row f)
-
-  pub row_full : n ≡ 63 → Operators p₀ i q w words p w
-  row_full e =
-      let many : 2 ^ 63 ≤ word = rw e at v.row.low in
-      stands (record { none = λ f z. absurd (omega arith) })
-
-  pub row_deep : get_or p 7 0 ≤ 0 → Operators p₀ i q w words p w
-  row_deep h = stands (record { none = λ f z. absurd (z (omega arith)) })
 
   module _ (a : ℕ) (e : a ≡ operands_at (get_or p₀ 0 0) (i + n) (q + n) w) where
     pub row_stops : a ≡ 0 → Operators p₀ i q w words p w
@@ -244,4 +210,4 @@ module _ (p₀ : List ℕ) (i q : ℕ) (w : List ℕ) (n word : ℕ) (p : List �
           }
 
 -- what the answers on the way to the first operand hand to `search`
-pub ruleset onward = (operands_past, operands_full, operands_counted, operands_closed, row_stepped, row_shortened, going_first, row_falls, row_entry, row_place, row_long, row_doubles, row_full, row_deep, row_stops, row_fits, row_more, row_again, rules)
+pub ruleset onward = (going_first, row_stops, row_fits, rules)

@@ -9,12 +9,11 @@ use lib.Pow.{pow_pos}
 use Rattle.meaning.specs.Lists.{pick}
 use Rattle.own_finding.specs.declared.Known.{Known}
 use Rattle.own_finding.specs.Arguments.{ends_at}
-use Rattle.own_terms.specs.declared.Answer.{Answer}
-use Rattle.own_terms.specs.declared.Answer.TheVariants.{Sorted, Ill}
-use Rattle.own_terms.specs.Typing.{Out, out, no_sorts, applied_at, further, args_by, term_at, operated, operated_row, operators_in, returned, Backed, stepped, shortened, Ended, Operators, known_of, At, Room, answered, Told, Lent, Stays, Reached}
+use Rattle.std.specs.Prelude.{None}
+use Rattle.own_terms.specs.Typing.{Out, out, no_sorts, applied_at, further, args_by, term_at, operated, operated_row, operators_in, returned, Backed, stepped, shortened, Ended, Operators, known_of, At, Room, answered, Told, Lent, Stays, Reached, Answer, of_sort}
 use Rattle.own_terms.proofs.Operators.{doubled, halved, halved_some}
 use Rattle.own_terms.proofs.Cases.{stays_here, stays_on}
-use Rattle.own_terms.proofs.Words.{room_on, room_as, room_at, typed_as, reached_ill, reached_as, reached_on, reached_out, reached_at, reached_long, reached_rises, answered_sorted, answered_ill}
+use Rattle.own_terms.proofs.Words.{room_on, room_as, room_at, typed_as, reached_ill, reached_as, reached_on, reached_out, reached_at, answered_sorted, answered_ill}
 
 -- ---- an operator
 
@@ -30,11 +29,11 @@ module _ (text : List ℕ) (k : Known) (d i q word first next free : ℕ) (w : L
     unfolding operated further args_by ends_at pick
     operated_two = let odd : word % 2 ≡ 1 = omega arith in rw (answered_sorted first next free y, odd, ← e)
 
-    operated_ill : a ≡ Ill → out Ill u ≡ operated text k d word i q (out (answered first next free) w)
+    operated_ill : a ≡ None → out None u ≡ operated text k d word i q (out (answered first next free) w)
     unfolding further
     operated_ill x = rw x at operated_two
 
-    operated_both : (t next' free' : ℕ) → a ≡ Sorted t next' free'
+    operated_both : (t next' free' : ℕ) → a ≡ of_sort t next' free'
         → applied_at text k i q 2 (set (set no_sorts 0 (first - 1)) 1 t) next' free' u ≡ operated text k d word i q (out (answered first next free) w)
     unfolding further args_by ends_at pick
     operated_both t next' free' x = rw (x, add-zero next') at operated_two
@@ -84,7 +83,7 @@ more_left : (n word : ℕ) → word < 2 ^ (n + 1) → 1 < word → 0 < n
 more_left zero word b h = absurd (omega arith)
 more_left (suc n) word b h = omega arith
 
-pub row_ill : (text : List ℕ) (k : Known) (d i q n word : ℕ) (w : List ℕ) → operated_row text k d i q n word (out Ill w) ≡ out Ill w
+pub row_ill : (text : List ℕ) (k : Known) (d i q n word : ℕ) (w : List ℕ) → operated_row text k d i q n word (out None w) ≡ out None w
 unfolding operated_row operated further
 row_ill text k d i q zero word w = refl
 row_ill text k d i q (suc n) word w = row_ill text k d i q n (word / 2) w
@@ -229,12 +228,6 @@ module _ (text p₀ row₀ : List ℕ) (first : ℕ) (w₀ : Lent) where
       some_left : 0 < left
       some_left = more_left left (get_or row 2 0) inv.back.bits h
 
-      pub back_entry : 0 < get_or row 0 0
-      back_entry = omega (arith, some_left, inv.back.entry)
-
-      pub back_place : 0 < get_or row 1 0
-      back_place = omega (arith, some_left, inv.back.place)
-
       pub back_less : (t : ℕ) → whole * 3 + 1 ≡ t → get_or p 7 0 * 3 + 3 < t
       back_less t x = omega (arith, some_left, inv.left.deep, inv.total)
 
@@ -275,12 +268,6 @@ module _ (text p₀ row₀ : List ℕ) (first : ℕ) (w₀ : Lent) where
             ∙ row_ill text kb _ _ _ (left - 1) (get_or row 2 0 / 2) u.now))
 
         module _ (y : r ≡ 0 → ⊥) where
-          pub back_long : length p' ≡ 10
-          back_long = reached_long _ kb (get_or p 7 0) w r p' u typed y
-
-          pub back_rises : get_or p' 7 0 + 1 < 2 ^ 64
-          back_rises = reached_rises _ kb (get_or p 7 0) w r p' u typed y (omega (arith, some_left, inv.back.total))
-
           module _ (row'' : List ℕ) (e' : row'' ≡ shortened row') where
             pub back_fewer : get_or row'' 2 0 < get_or row 2 0
             unfolding stepped shortened
@@ -318,4 +305,4 @@ module _ (text p₀ row₀ : List ℕ) (first : ℕ) (w₀ : Lent) where
                     }
 
 -- what a row of operators hands to `search`
-pub ruleset rowed = (operator_prefix, operator_ill, operator_infix, back_open, back_room, back_some, back_fits, back_entry, back_place, back_less, back_long, back_rises, back_fewer, back_ill, back_end, back_again, row_backed, row_back_less, row_ended, row_room, row_less, onward_less)
+pub ruleset rowed = (operator_prefix, operator_ill)

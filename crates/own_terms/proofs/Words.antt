@@ -1,28 +1,19 @@
 -- What a level of a term is lent, in words: what is known, the two places, the depth and a name's places, the room in the memory, and an answer as a number.
 use mathlib.Core.Path.{◌≡◌, refl, sym, ap, ◌∙◌}
-use mathlib.Core.List.{List, [], ◌∷◌}
+use mathlib.Core.List.{List}
 use Prim.Native.Nat.{ℕ, zero, suc, ◌+◌, ◌-◌, ◌*◌, ◌^◌, ◌<◌, ◌≤◌}
 use native.Mathlib.Numerals.{add-one, sub-one}
 use native.Mathlib.Omega.{arith}
 use borrow.Author.Rules.{rules}
 use lib.ListN.{length, get_or, set, length-set}
 use lib.Seq.{get_or-set_same, get_or-set_other}
-use denote.Ref.{at_last}
 use Rattle.own_finding.specs.declared.Known.{Known}
-use Rattle.own_terms.specs.declared.Answer.{Answer}
-use Rattle.own_terms.specs.declared.Answer.TheVariants.{Sorted, Ill}
-use Rattle.own_terms.specs.Typing.{Out, out, operators_in, known_of, Words, At, AtName, Room, answered, Told, Typed, Lent, Stays, Reached}
+use Rattle.std.specs.Prelude.{Some, None}
+use Rattle.own_terms.specs.declared.Sorted.{Sorted}
+use Rattle.own_terms.specs.Typing.{Out, out, operators_in, known_of, Words, At, AtName, Room, answered, Told, Typed, Lent, Stays, Reached, Answer, of_sort}
 use Rattle.own_terms.proofs.Cases.{stays_on}
 
 -- ---- what is known
-
-pub known_told : (k : List ℕ) → ◌≡◌ {A = Known} (record { tape = get_or k 0 0; base = get_or k 1 0; count = get_or k 2 0; visible = get_or k 3 0; hidden = get_or k 4 0 }) (known_of k)
-unfolding known_of
-known_told k = refl
-
-pub known_at : (k : Known) (i q d : ℕ) → At k i q d (k.tape ∷ k.base ∷ k.count ∷ k.visible ∷ k.hidden ∷ i ∷ q ∷ d ∷ 0 ∷ 0 ∷ [])
-unfolding known_of
-known_at k i q d = record { long = refl; known = refl; next_at = refl; free_at = refl; deep = refl }
 
 module _ (known : Known) (k : List ℕ) (e : known ≡ known_of k) where
   pub known_tape : (n : ℕ) → get_or k 0 0 ≤ n → known.tape ≤ n
@@ -143,12 +134,6 @@ room_at p w i q d p' e m h = room_as p p' w e.long e.known (rw e.deep (omega (ar
 pub room_pointed : (p w : List ℕ) (i q : ℕ) (p' : List ℕ) → AtName p i q p' → Room p w → Room p' w
 room_pointed p w i q p' e h = room_at p w (get_or p 5 0) (get_or p 6 0) (get_or p 7 0) p' e.left (omega arith) h
 
-pub room_tape : (p w : List ℕ) → Room p w → get_or p 0 0 ≤ length w
-room_tape p w h = h.tape
-
-pub room_long : (p w : List ℕ) → Room p w → length p ≡ 10
-room_long p w h = h.words.long
-
 module _ (k : Known) (i q d : ℕ) (p : List ℕ) (e : At k i q d p) where
   pub at_some : (d ≡ 0 → ⊥) → get_or p 7 0 ≡ 0 → ⊥
   at_some y z = y (sym e.deep ∙ z)
@@ -158,14 +143,14 @@ module _ (k : Known) (i q d : ℕ) (p : List ℕ) (e : At k i q d p) where
 
 -- ---- an answer as a number
 
-pub tell_ill : (a : Answer) (k : Known) (d : ℕ) (p : List ℕ) → a ≡ Ill → Told a k d 0 p
+pub tell_ill : (a : Answer) (k : Known) (d : ℕ) (p : List ℕ) → a ≡ None → Told a k d 0 p
 unfolding answered
 tell_ill a k d p e = record { same = sym e; fits = omega arith; stands = λ z. absurd (z refl) }
 
-pub tell_sorted : (a : Answer) (k : Known) (d s next free : ℕ) (p : List ℕ) → a ≡ Sorted s next free → s < 2 ^ 32 → At k next free d p → Told a k d (s + 1) p
+pub tell_sorted : (a : Answer) (x : Sorted) (k : Known) (d : ℕ) (p : List ℕ) → a ≡ Some x → x.sort < 2 ^ 32 → At k x.next x.free d p → Told a k d (x.sort + 1) p
 unfolding answered
-tell_sorted a k d s next free p e h t = record {
-  same = rw (add-one s, t.next_at, t.free_at) (sym e);
+tell_sorted a x k d p e h t = record {
+  same = rw (add-one x.sort, t.next_at, t.free_at) (sym e);
   fits = omega arith;
   stands = λ z. record { long = t.long; known = t.known; next_at = refl; free_at = refl; deep = t.deep };
 }
@@ -173,17 +158,14 @@ tell_sorted a k d s next free p e h t = record {
 pub typed_as : (o : Out) (k : Known) (d : ℕ) (a : Answer) (u : List ℕ) (r : ℕ) (p : List ℕ) → out a u ≡ o → Told a k d r p → Typed o k d r p u
 typed_as o k d a u r p e t = rw (← e) (record { told = t; memory = refl })
 
-pub reached_ill : (o : Out) (k : Known) (d : ℕ) (w : Lent) (p : List ℕ) (u : Lent) → Stays w u → out Ill u.now ≡ o → Reached o k d w 0 p u
-reached_ill o k d w p u s e = record { stays = s; typed = typed_as o k d Ill u.now 0 p e (tell_ill Ill k d p refl) }
+pub reached_ill : (o : Out) (k : Known) (d : ℕ) (w : Lent) (p : List ℕ) (u : Lent) → Stays w u → out None u.now ≡ o → Reached o k d w 0 p u
+reached_ill o k d w p u s e = record { stays = s; typed = typed_as o k d None u.now 0 p e (tell_ill None k d p refl) }
 
 pub reached_as : (o o' : Out) (k : Known) (d : ℕ) (w : Lent) (r : ℕ) (p : List ℕ) (u : Lent) → o ≡ o' → Reached o k d w r p u → Reached o' k d w r p u
 reached_as o o' k d w r p u e h = rw (← e) h
 
 pub reached_on : (o : Out) (k : Known) (d : ℕ) (w x : Lent) (r : ℕ) (p : List ℕ) (u : Lent) → Stays w x → Reached o k d x r p u → Reached o k d w r p u
 reached_on o k d w x r p u s h = record { stays = stays_on w x u s h.stays; typed = h.typed }
-
-pub reached_lent : (o : Out) (k : Known) (d : ℕ) (w : Lent) (r : ℕ) (p u : List ℕ) → Typed o k d r p u → length u ≡ length w.now → Reached o k d w r p (at_last w u)
-reached_lent o k d w r p u h l = record { stays = record { same = refl; size = l }; typed = h }
 
 module _ (o : Out) (k : Known) (d : ℕ) (w : Lent) (r : ℕ) (p : List ℕ) (u : Lent) (h : Reached o k d w r p u) where
   pub reached_out : out (answered r (get_or p 5 0) (get_or p 6 0)) u.now ≡ o
@@ -193,29 +175,23 @@ module _ (o : Out) (k : Known) (d : ℕ) (w : Lent) (r : ℕ) (p : List ℕ) (u 
   reached_fits = h.typed.told.fits
 
   module _ (y : r ≡ 0 → ⊥) where
-    pub reached_word : r - 1 < 2 ^ 32
-    reached_word = omega (arith, h.typed.told.fits)
-
     pub reached_at : At k (get_or p 5 0) (get_or p 6 0) d p
     reached_at = h.typed.told.stands y
 
     pub reached_long : length p ≡ 10
     reached_long = reached_at.long
 
-    pub reached_rises : d + 1 < 2 ^ 64 → get_or p 7 0 + 1 < 2 ^ 64
-    reached_rises l = rw reached_at.deep l
-
     pub reached_room : (p₀ : List ℕ) → k ≡ known_of p₀ → d ≤ get_or p₀ 7 0 → Room p₀ w.now → Room p u.now
     reached_room p₀ e m l = room_as p₀ p u.now reached_long (reached_at.known ∙ e) (rw reached_at.deep (omega (arith, l.words.small))) (room_on p₀ w u h.stays l)
 
-pub answered_sorted : (r next free : ℕ) → (r ≡ 0 → ⊥) → answered r next free ≡ Sorted (r - 1) next free
+pub answered_sorted : (r next free : ℕ) → (r ≡ 0 → ⊥) → answered r next free ≡ of_sort (r - 1) next free
 unfolding answered
 answered_sorted zero next free y = absurd (y refl)
 answered_sorted (suc s) next free y = rw sub-one
 
-pub answered_ill : (r next free : ℕ) → r ≡ 0 → answered r next free ≡ Ill
+pub answered_ill : (r next free : ℕ) → r ≡ 0 → answered r next free ≡ None
 unfolding answered
 answered_ill r next free e = rw e
 
 -- what the words of a level hand to `search`
-pub ruleset worded = (known_told, known_at, known_tape, known_count, known_row, known_hidden, room_known, moved, deepened, pointed, room_at, room_pointed, room_tape, room_long, at_some, at_less, tell_ill, tell_sorted, reached_lent, reached_fits, reached_word, reached_long, reached_rises, reached_room, rules)
+pub ruleset worded = (known_tape, known_count, known_row, known_hidden, room_known, moved, deepened, pointed, room_at, room_pointed, tell_ill, tell_sorted, rules)

@@ -1,6 +1,6 @@
 -- What is typed in memory is what the meaning types (meaning/specs/Typing.antt): where the entries spell a term, the answer is its sort and
 -- the words written are its nodes; and it is ill typed where the meaning has no sort for it.
-use Rattle.std.specs.Prelude.{◌≡◌, Bool, ◌&&◌, eqb, set, take, drop}
+use Rattle.std.specs.Prelude.{◌≡◌, Bool, ◌&&◌, eqb, set, take, drop, None}
 use Rattle.std.proofs.Math.Path.{refl, ap, ap₂}
 use Rattle.std.proofs.Common.{sym, ◌∙◌, add-one, add-zero, length-take}
 use Rattle.std.proofs.Math.Bool.{true, false, and-false}
@@ -35,9 +35,7 @@ use Rattle.form_walks.specs.Rows.{first_row, row_passes, no_row}
 use Rattle.own_finding.specs.declared.Known.{Known}
 use Rattle.own_finding.specs.Known.{variable_called, function_called}
 use Rattle.own_finding.specs.Arguments.{node_word, arguments_of, closers_of, ends_at}
-use Rattle.own_terms.specs.declared.Answer.{Answer}
-use Rattle.own_terms.specs.declared.Answer.TheVariants.{Sorted, Ill}
-use Rattle.own_terms.specs.Typing.{Out, out, tape_in, items_in, settled, resolved, no_sorts, variable_row, function_row, applied_at, alone_at, further, args_by, term_by, term_at}
+use Rattle.own_terms.specs.Typing.{Out, out, tape_in, items_in, settled, resolved, no_sorts, variable_row, function_row, applied_at, alone_at, further, args_by, term_by, term_at, Answer, of_sort}
 use Rattle.own_terms.specs.Meant.{sets_append, sets_head, known_item, node_here, Pointed, node_settled, word_pointed, Settles, function_settles, variable_settles, Spells, spells_front, spells_back, leads, role_of, ending, with_head, begins, Layout, variable_behind, tape_stays, items_stay, row_stays, sets_kept}
 
 -- ---- more sorts than a row has are taken by none
@@ -73,14 +71,14 @@ module _ (text : List ℕ) (k : Known) (w₀ : List ℕ) where
   pub record Well (t : Typed) (i size q : ℕ) (w : List ℕ) (o : Out) : Type 0 where
     pub sort : ℕ
     pub words : List ℕ
-    pub same : o ≡ out (Sorted sort (i + size) (q + length words)) (sets w q words)
+    pub same : o ≡ out (of_sort sort (i + size) (q + length words)) (sets w q words)
     pub sorted : sort_of text (tape_in k w₀) sort ≡ t.sort
     pub nodes : map (node_here text k w₀) words ≡ flat_term t.term
     pub pointed : Every (Pointed text k w₀) words
     pub room : length words ≤ size
 
   abbrev pub Agrees : Option Typed → ℕ → ℕ → ℕ → List ℕ → Out → Type 0
-  Agrees none i size q w o = o.answer ≡ Ill
+  Agrees none i size q w o = o.answer ≡ None
   Agrees (some t) i size q w o = Well t i size q w o
 
   -- the same of arguments that c entries close: their sorts go behind the n that are there, and `apply` has the rest; too many are ill typed
@@ -88,7 +86,7 @@ module _ (text : List ℕ) (k : Known) (w₀ : List ℕ) where
     pub own : List ℕ
     pub words : List ℕ
     pub same : length own ≤ left → o ≡ apply (n + length own) (sets sorts n own) (i + size + c) (q + length words) (sets w q words)
-    pub over : left < length own → o.answer ≡ Ill
+    pub over : left < length own → o.answer ≡ None
     pub closed : left < length own → 0 < c
     pub sorted : map (sort_of text (tape_in k w₀)) own ≡ ts.sorts
     pub nodes : map (node_here text k w₀) words ≡ flat_terms ts.terms
@@ -97,11 +95,11 @@ module _ (text : List ℕ) (k : Known) (w₀ : List ℕ) where
     pub room : length words ≤ size
 
   abbrev Agree : (ℕ → List ℕ → ℕ → ℕ → List ℕ → Out) → Option TypedList → ℕ → ℕ → ℕ → ℕ → ℕ → ℕ → List ℕ → List ℕ → Out → Type 0
-  Agree apply none i size q c left n sorts w o = o.answer ≡ Ill
+  Agree apply none i size q c left n sorts w o = o.answer ≡ None
   Agree apply (some ts) i size q c left n sorts w o = AllWell apply ts i size q c left n sorts w o
 
   module _ (term : ℕ → ℕ → List ℕ → Out) (apply : ℕ → List ℕ → ℕ → ℕ → List ℕ → Out) (c : ℕ) where
-    still_ill : (more : ℕ → ℕ → ℕ → List ℕ → List ℕ → Out) (n : ℕ) (sorts : List ℕ) (r : Answer) (w : List ℕ) → r ≡ Ill → (further more n sorts r w).answer ≡ Ill
+    still_ill : (more : ℕ → ℕ → ℕ → List ℕ → List ℕ → Out) (n : ℕ) (sorts : List ℕ) (r : Answer) (w : List ℕ) → r ≡ None → (further more n sorts r w).answer ≡ None
     unfolding further
     still_ill more n sorts r w h = rw h
 
@@ -139,7 +137,7 @@ module _ (text : List ℕ) (k : Known) (w₀ : List ℕ) where
     args_short : 0 < c → (a : Option Typed) (r : Option TypedList) (i m size q n : ℕ) (sorts w : List ℕ) → Agrees a i m q w (term i q w)
         → ((s : ℕ) (vs : List ℕ) → length vs ≤ m
         → Agree apply r (i + m) size (q + length vs) c 0 (n + 1) (set sorts n s) (sets w q vs) (args_by k term apply c 0 (i + m) (q + length vs) (n + 1) (set sorts n s) (sets w q vs)))
-        → Agree apply (joined_typed a r) i (m + size) q c 0 n sorts w (out Ill w)
+        → Agree apply (joined_typed a r) i (m + size) q c 0 n sorts w (out None w)
     unfolding joined_typed flat_terms how_many
     args_short h' none r i m size q n sorts w h more = refl
     args_short h' (some t) none i m size q n sorts w h more = refl
@@ -182,7 +180,7 @@ module _ (text : List ℕ) (k : Known) (w₀ : List ℕ) (q₀ e₀ : ℕ) (l : 
         words = v ∷ vs;
         same =
             rw (row_stays text k w₀ q₀ e₀ l (sets w (q + 1) vs) kept row h, place)
-            (ap (out (Sorted (get_or (row_at w₀ (k.base + row * row_size)).sorts 8 0) (i + size) (q + suc (length vs))))
+            (ap (out (of_sort (get_or (row_at w₀ (k.base + row * row_size)).sorts 8 0) (i + size) (q + suc (length vs))))
             (rw (add-one q) (sets_head vs w q (suc q) v (omega arith))));
         sorted = s.sort;
         nodes = ap₂ ◌∷◌ (node_settled text k w₀ row n few' ∙ ap (λ (m : ℕ). node_of (ltb row k.visible) m (known_item text k w₀ row)) (sym e)) f ∙ s.flat;
@@ -199,7 +197,7 @@ module _ (text : List ℕ) (k : Known) (w₀ : List ℕ) (q₀ e₀ : ℕ) (l : 
     where
       go : (t : Bool) → ltb (before (function_called f ts.sorts) known) k.count ≡ t
           → Agrees text k w₀ (found_with ts (first (function_called f ts.sorts) known)) i size q w
-          (pick t (settled k q (before (function_called f ts.sorts) known) n (i + size) (q + 1 + length vs) (sets w (q + 1) vs)) (out Ill (sets w (q + 1) vs)))
+          (pick t (settled k q (before (function_called f ts.sorts) known) n (i + size) (q + 1 + length vs) (sets w (q + 1) vs)) (out None (sets w (q + 1) vs)))
       go true d =
           let row = before (function_called f ts.sorts) known in
           let h = ltb-true row k.count d in
@@ -297,7 +295,7 @@ module _ (text : List ℕ) (k : Known) (w₀ : List ℕ) (q₀ e₀ : ℕ) (l : 
     done zero e = rw e
     done (suc left) e = rw e
 
-    full : ends_at (tape_in k w) c 0 i ≡ false → args_by k term apply c 0 i q n sorts w ≡ out Ill w
+    full : ends_at (tape_in k w) c 0 i ≡ false → args_by k term apply c 0 i q n sorts w ≡ out None w
     unfolding args_by pick
     full e = rw e
 

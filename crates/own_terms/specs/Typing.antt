@@ -1,6 +1,6 @@
 -- Typing in memory, as the code goes: the entries of a term from i on, and its nodes from place q on. A node is written behind its
 -- arguments' nodes, at the place kept for it in front of them.
-use Rattle.std.specs.Prelude.{ℕ, zero, suc, ◌+◌, ◌-◌, ◌*◌, ◌/◌, ◌%◌, ◌^◌, ◌<◌, ◌≤◌, ◌≡◌, Bool, true, List, [], ◌∷◌, map, eqb, ltb, length, get_or, set, take, replicate}
+use Rattle.std.specs.Prelude.{ℕ, zero, suc, ◌+◌, ◌-◌, ◌*◌, ◌/◌, ◌%◌, ◌^◌, ◌<◌, ◌≤◌, ◌≡◌, Bool, true, List, [], ◌∷◌, map, eqb, ltb, length, get_or, set, take, replicate, Option, Some, None}
 use denote.Ref.{MutBor, at_last}
 use Rattle.meaning.specs.Lists.{pick, before}
 use Rattle.meaning.specs.Origins.{Item}
@@ -12,8 +12,14 @@ use Rattle.form.specs.Forms.{items_at}
 use Rattle.own_finding.specs.declared.Known.{Known}
 use Rattle.own_finding.specs.Known.{variable_called, function_called}
 use Rattle.own_finding.specs.Arguments.{node_word, arguments_of, closers_of, ends_at}
-use Rattle.own_terms.specs.declared.Answer.{Answer}
-use Rattle.own_terms.specs.declared.Answer.TheVariants.{Sorted, Ill}
+use Rattle.own_terms.specs.declared.Sorted.{Sorted}
+
+-- what comes of a term: its sort, the entry behind it and the place behind its nodes; none where it is ill typed
+abbrev pub Answer : Type 0
+Answer = Option Sorted
+
+abbrev pub of_sort : ℕ → ℕ → ℕ → Answer
+of_sort sort next free = Some (record { sort = sort; next = next; free = free })
 
 -- the answer, and the memory as it is then
 pub record Out : Type 0 where
@@ -32,11 +38,11 @@ items_in text k w = items_at text (tape_in k w) w k.base k.count
 
 -- the node at q is of the item of a row
 unfoldable pub settled : Known → ℕ → ℕ → ℕ → ℕ → ℕ → List ℕ → Out
-settled k q row n next free w = out (Sorted (get_or (row_at w (k.base + row * row_size)).sorts 8 0) next free) (set w q (node_word k row n))
+settled k q row n next free w = out (of_sort (get_or (row_at w (k.base + row * row_size)).sorts 8 0) next free) (set w q (node_word k row n))
 
 -- the row that is found, or none
 unfoldable pub resolved : Known → ℕ → ℕ → ℕ → ℕ → ℕ → List ℕ → Out
-resolved k q row n next free w = pick (ltb row k.count) (settled k q row n next free w) (out Ill w)
+resolved k q row n next free w = pick (ltb row k.count) (settled k q row n next free w) (out None w)
 
 abbrev pub no_sorts : List ℕ
 no_sorts = replicate 9 0
@@ -62,12 +68,12 @@ alone_at text k i q w =
 
 -- after an argument: its sort is put behind the others
 unfoldable pub further : (ℕ → ℕ → ℕ → List ℕ → List ℕ → Out) → ℕ → List ℕ → Answer → List ℕ → Out
-further more n sorts Ill w = out Ill w
-further more n sorts (Sorted s next free) w = more next free (n + 1) (set sorts n s) w
+further more n sorts None w = out None w
+further more n sorts (Some a) w = more a.next a.free (n + 1) (set sorts n a.sort) w
 
 -- the arguments from i on, at most `left`, each typed by `term`, up to what closes them; n sorts are there
 unfoldable pub args_by : Known → (ℕ → ℕ → List ℕ → Out) → (ℕ → List ℕ → ℕ → ℕ → List ℕ → Out) → ℕ → ℕ → ℕ → ℕ → ℕ → List ℕ → List ℕ → Out
-args_by k term apply closers zero i q n sorts w = pick (ends_at (tape_in k w) closers 0 i) (apply n sorts (i + closers) q w) (out Ill w)
+args_by k term apply closers zero i q n sorts w = pick (ends_at (tape_in k w) closers 0 i) (apply n sorts (i + closers) q w) (out None w)
 args_by k term apply closers (suc left) i q n sorts w =
     let o = term i q w in
     let more = further (args_by k term apply closers left) n sorts o.answer o.memory in
@@ -82,12 +88,12 @@ unfoldable pub term_by : List ℕ → Known → (ℕ → ℕ → ℕ → ℕ →
 term_by text k args i q w =
     let role = role_at (tape_in k w) i in
     let a = args (closers_of role) (arguments_of role) i q w in
-    let t = pick (eqb role alone_role) (alone_at text k i q w) (pick (eqb (arguments_of role) 0) (out Ill w) a) in
-    pick (ltb i k.tape) (pick (ltb q (length w)) t (out Ill w)) (out Ill w)
+    let t = pick (eqb role alone_role) (alone_at text k i q w) (pick (eqb (arguments_of role) 0) (out None w) a) in
+    pick (ltb i k.tape) (pick (ltb q (length w)) t (out None w)) (out None w)
 
 -- the term at i, down to a depth
 unfoldable pub term_at : List ℕ → Known → ℕ → ℕ → ℕ → List ℕ → Out
-term_at text k zero i q w = out Ill w
+term_at text k zero i q w = out None w
 term_at text k (suc depth) i q w =
     term_by text k (λ closers left j p v. args_by k (term_at text k depth) (applied_at text k j p) closers left (j + 1) (p + 1) 0 no_sorts v) i q w
 
@@ -204,8 +210,8 @@ pub record Operators (p : List ℕ) (i q : ℕ) (w row p' w' : List ℕ) : Type 
 
 -- an answer of a number, which is one more than the sort, and of the two places; 0 is none
 unfoldable pub answered : ℕ → ℕ → ℕ → Answer
-answered zero next free = Ill
-answered (suc s) next free = Sorted s next free
+answered zero next free = None
+answered (suc s) next free = of_sort s next free
 
 -- where there is an answer, what is known and the depth stand in the words
 pub record Told (a : Answer) (k : Known) (depth r : ℕ) (p : List ℕ) : Type 0 where

@@ -3,9 +3,10 @@
 
 pub mod terms;
 
-// A term's sort, the entry behind the term and the place behind its nodes; or the term is ill typed.
+// A term's sort, the entry behind the term and the place behind its nodes.
 #[derive(Clone, Copy)]
-pub enum Answer {
-    Sorted { sort: u32, next: usize, free: usize },
-    Ill,
+pub struct Sorted {
+    pub sort: u32,
+    pub next: usize,
+    pub free: usize,
 }

@@ -6,9 +6,11 @@ ghost use Rattle.text_names.specs.Joint.{joint};
 ghost use Rattle.form_rows.specs.Entries.{role_at};
 ghost use Rattle.form.specs.Memory.{part};
 ghost use Rattle.own_finding.specs.Arguments.{ends_at};
-ghost use Rattle.own_terms.specs.Typing.{out, settled, variable_at, function_row, alone_at, applied_at, no_sorts, args_at, term_at, operated, returned, Backed, stepped, shortened, operators_in, operands_at, Operators, Ended, known_of, Words, At, AtName, Room, answered, Told, Typed, Reached, Read, item_at};
+ghost use Rattle.own_terms.specs.Typing.{out, settled, variable_at, function_row, alone_at, applied_at, no_sorts, args_at, term_at, operated};
+ghost use Rattle.own_terms.specs.Typing.{returned, Backed, stepped, shortened, operators_in, operands_at, Operators, Ended, known_of, Words, At};
+ghost use Rattle.own_terms.specs.Typing.{AtName, Room, answered, Told, Typed, Reached, Read, item_at};
 
-use super::Answer;
+use super::Sorted;
 use form_rows::ROW_STEP;
 use form_rows::entries::{name_at, put_word, role_at, word_at};
 use own_finding::Known;
@@ -35,18 +37,19 @@ fn settle(
     n: usize,
     next: usize,
     free: usize,
-) -> Answer
+) -> Sorted
     requires { (row < 65536) × (k.hidden ≤ 65536) × (n ≤ 9) }
-    ensures { out result work.new ≡ settled k q row n next free work.old }
+    ensures { out (Some result) work.new ≡ settled k q row n next free work.old }
 {
     let base = k.base;
     let sort = word_at(work, base as usize + row as usize * ROW_STEP + 14);
     let v = node_word(k, row, n);
     put_word(work, q, v);
-    Answer::Sorted { sort, next, free }
+    Sorted { sort, next, free }
 }
 
 // The row of the variable that the name at i is; `count` if it is none, or does not stand alone.
+#[tactic(auto, unfolding(crate::specs::Typing::variable_at, crate::specs::Typing::variable_row, meaning::specs::Lists::pick))]
 fn variable_row(library: &[u8], text: &[u8], work: &[u32], k: Known, i: usize, alone: bool) -> u32
     requires { k.tape ≤ length work.now }
     ensures { result ≡ variable_at (joint library.now text.now) k alone i work.now }
@@ -62,6 +65,7 @@ fn variable_row(library: &[u8], text: &[u8], work: &[u32], k: Known, i: usize, a
 }
 
 // The row of the function that the name at i is with arguments of the first n sorts; `count` if it is none.
+#[tactic(auto, unfolding(crate::specs::Typing::function_row))]
 fn function_row(
     library: &[u8],
     text: &[u8],
@@ -82,6 +86,7 @@ fn function_row(
 }
 
 // The name at i whose arguments have the first n sorts.
+#[tactic(auto, unfolding(crate::specs::Typing::applied_at, crate::specs::Typing::resolved, meaning::specs::Lists::pick))]
 fn type_applied(
     library: &[u8],
     text: &[u8],
@@ -93,20 +98,21 @@ fn type_applied(
     sorts: &[u32; 9],
     next: usize,
     free: usize,
-) -> Answer
+) -> Option<Sorted>
     requires { (k.tape ≤ length work.old) × (n ≤ 9) × (length sorts.now ≡ 9) × (k.count ≤ 65536) × (k.hidden ≤ 65536) }
     ensures { out result work.new ≡ applied_at (joint library.now text.now) k i q n sorts.now next free work.old }
 {
     let count = k.count;
     let f = function_row(library, text, work, k, i, sorts, n);
     if f < count {
-        return settle(work, k, q, f, n, next, free);
+        return Some(settle(work, k, q, f, n, next, free));
     }
-    Answer::Ill
+    None
 }
 
 // The words that a level is lent: what is known, which is the tape, base, count, visible and hidden, then the two places and the depth, and the two
 // places of a name that is typed. They are in one array, so that one reference goes down.
+#[tactic(auto, unfolding(crate::specs::Typing::known_of))]
 fn known_words(k: Known, i: usize, q: usize, depth: usize) -> [usize; 10]
     ensures { At k i q depth result }
 {
@@ -130,6 +136,7 @@ fn known_words(k: Known, i: usize, q: usize, depth: usize) -> [usize; 10]
 }
 
 // What is known, of its words.
+#[tactic(auto, unfolding(crate::specs::Typing::known_of))]
 fn known_of(k: &[usize; 10]) -> Known
     requires { Words k.now }
     ensures { result ≡ known_of k.now }
@@ -178,15 +185,15 @@ fn ascend(words: &mut [usize; 10])
 }
 
 // The answer as a number, one more than the sort, with its places; 0 where the term is ill typed.
-fn tell(a: Answer, words: &mut [usize; 10]) -> usize
+fn tell(a: Option<Sorted>, words: &mut [usize; 10]) -> usize
     requires { length words.old ≡ 10 }
     ensures { Told a (known_of words.old) (get_or words.old 7 0) result words.new }
 {
-    let Answer::Sorted { sort, next, free } = a else {
+    let Some(sorted) = a else {
         return 0;
     };
-    move_to(words, next, free);
-    sort as usize + 1
+    move_to(words, sorted.next, sorted.free);
+    sorted.sort as usize + 1
 }
 
 // The name that the words point at: a variable if it stands alone, or else a function of the first n sorts; its node is written at its place. The one call
@@ -201,7 +208,12 @@ fn item_in(
     n: usize,
 ) -> usize
     requires { Room words.old work.old × (n ≤ 9) × (length sorts.now ≡ 9) }
-    ensures { Typed (item_at (joint library.now text.now) (known_of words.old) alone (get_or words.old 8 0) (get_or words.old 9 0) n sorts.now (get_or words.old 5 0) (get_or words.old 6 0) work.old) (known_of words.old) (get_or words.old 7 0) result words.new work.new }
+    ensures { let joined = joint library.now text.now in
+        let k = known_of words.old in
+        let name = get_or words.old 8 0 in
+        let place = get_or words.old 9 0 in
+        let o = item_at joined k alone name place n sorts.now (get_or words.old 5 0) (get_or words.old 6 0) work.old in
+        Typed o k (get_or words.old 7 0) result words.new work.new }
 {
     let known = known_of(words);
     let count = known.count;
@@ -212,7 +224,7 @@ fn item_in(
     let v = variable_row(library, text, work, known, i, alone);
     if v < count {
         let a = settle(work, known, q, v, n, next, free);
-        return tell(a, words);
+        return tell(Some(a), words);
     }
     let a = type_applied(library, text, work, known, i, q, n, sorts, next, free);
     tell(a, words)
@@ -228,7 +240,12 @@ fn type_item(
     n: usize,
 ) -> usize
     requires { Room words.old work.old.now × (n ≤ 9) × (length sorts.now ≡ 9) }
-    ensures { Reached (item_at (joint texts.now.library.now texts.now.text.now) (known_of words.old) alone (get_or words.old 8 0) (get_or words.old 9 0) n sorts.now (get_or words.old 5 0) (get_or words.old 6 0) work.old.now) (known_of words.old) (get_or words.old 7 0) work.old result words.new work.new }
+    ensures { let joined = joint texts.now.library.now texts.now.text.now in
+        let k = known_of words.old in
+        let name = get_or words.old 8 0 in
+        let place = get_or words.old 9 0 in
+        let o = item_at joined k alone name place n sorts.now (get_or words.old 5 0) (get_or words.old 6 0) work.old.now in
+        Reached o k (get_or words.old 7 0) work.old result words.new work.new }
 {
     item_in(texts.library, texts.text, *work, words, alone, sorts, n)
 }
@@ -241,8 +258,12 @@ fn type_leaf(
     row: &[usize; 3],
     sorts: &[u32; 9],
 ) -> usize
-    requires { Room words.old work.old.now × (get_or row.now 0 0 < get_or words.old 0 0) × (get_or row.now 1 0 < length work.old.now) × (sorts.now ≡ no_sorts) }
-    ensures { Reached (alone_at (joint texts.now.library.now texts.now.text.now) (known_of words.old) (get_or row.now 0 0) (get_or row.now 1 0) work.old.now) (known_of words.old) (get_or words.old 7 0) work.old result words.new work.new }
+    requires { Room words.old work.old.now × (get_or row.now 0 0 < get_or words.old 0 0) × (get_or row.now 1 0 < length work.old.now)
+        × (sorts.now ≡ no_sorts) }
+    ensures { let joined = joint texts.now.library.now texts.now.text.now in
+        let k = known_of words.old in
+        let o = alone_at joined k (get_or row.now 0 0) (get_or row.now 1 0) work.old.now in
+        Reached o k (get_or words.old 7 0) work.old result words.new work.new }
 {
     let i = row[0];
     let q = row[1];
@@ -261,13 +282,19 @@ fn type_named(
     n: usize,
 ) -> usize
     requires { Room words.old work.old.now × (n ≤ 9) × (length sorts.now ≡ 9) }
-    ensures { Reached (applied_at (joint texts.now.library.now texts.now.text.now) (known_of words.old) (get_or row.now 0 0) (get_or row.now 1 0) n sorts.now (get_or words.old 5 0) (get_or words.old 6 0) work.old.now) (known_of words.old) (get_or words.old 7 0) work.old result words.new work.new }
+    ensures { let joined = joint texts.now.library.now texts.now.text.now in
+        let k = known_of words.old in
+        let name = get_or row.now 0 0 in
+        let place = get_or row.now 1 0 in
+        let o = applied_at joined k name place n sorts.now (get_or words.old 5 0) (get_or words.old 6 0) work.old.now in
+        Reached o k (get_or words.old 7 0) work.old result words.new work.new }
 {
     point_at(words, row);
     type_item(texts, work, words, false, sorts, n)
 }
 
 // How many operands the operator at i has, if there is room for its node at q; 0 where none stands there.
+#[tactic(auto, unfolding(crate::specs::Typing::operands_at, meaning::specs::Lists::pick))]
 fn operands_at(work: &[u32], t: usize, i: usize, q: usize) -> usize
     requires { t ≤ length work.now }
     ensures { result ≡ operands_at t i q work.now }
@@ -295,6 +322,7 @@ fn operators_from(work: &mut [u32], words: &mut [usize; 10], i: usize, q: usize)
     let t = words[0];
     let mut n = 0;
     let mut word = 1;
+    // a while: a `for` over 0..ROW was tried, and takes 16 bytes more of stack at each level
     while 0 < words[7] {
         if n == ROW {
             return [i + n, q + n, word];
@@ -321,7 +349,12 @@ fn type_operator(
     first: usize,
 ) -> usize
     requires { Room words.old work.old.now × (first ≡ 0 → ⊥) × (first ≤ 4294967296) }
-    ensures { Reached (operated (joint texts.now.library.now texts.now.text.now) (known_of words.old) (get_or words.old 7 0) (get_or row.now 2 0) (get_or row.now 0 0) (get_or row.now 1 0) (out (answered first (get_or words.old 5 0) (get_or words.old 6 0)) work.old.now)) (known_of words.old) (get_or words.old 7 0) work.old result words.new work.new }
+    ensures { let joined = joint texts.now.library.now texts.now.text.now in
+        let k = known_of words.old in
+        let depth = get_or words.old 7 0 in
+        let typed = out (answered first (get_or words.old 5 0) (get_or words.old 6 0)) work.old.now in
+        let o = operated joined k depth (get_or row.now 2 0) (get_or row.now 0 0) (get_or row.now 1 0) typed in
+        Reached o k depth work.old result words.new work.new }
 {
     *sorts = [0; 9];
     sorts[0] = (first - 1) as u32;
@@ -337,6 +370,7 @@ fn type_operator(
 }
 
 // The row at its last operator.
+#[tactic(auto, unfolding(crate::specs::Typing::stepped))]
 fn step_back(row: &mut [usize; 3])
     requires { (0 < get_or row.old 0 0) × (0 < get_or row.old 1 0) }
     ensures { row.new ≡ stepped row.old }
@@ -348,6 +382,7 @@ fn step_back(row: &mut [usize; 3])
 }
 
 // The row without its last operator, which is typed.
+#[tactic(auto, unfolding(crate::specs::Typing::shortened))]
 fn shorten(row: &mut [usize; 3])
     ensures { row.new ≡ shortened row.old }
 {
@@ -368,9 +403,15 @@ fn type_back(
     first: usize,
 ) -> usize
     requires { Room words.old work.old.now × (first ≡ 0 → ⊥) × (first ≤ 4294967296) × Backed (get_or words.old 7 0) row.old }
-    ensures { Reached (returned (joint texts.now.library.now texts.now.text.now) (known_of words.old) (get_or words.old 7 0) row.old (out (answered first (get_or words.old 5 0) (get_or words.old 6 0)) work.old.now)) (known_of words.old) (get_or words.old 7 0 + operators_in row.old) work.old result words.new work.new }
+    ensures { let joined = joint texts.now.library.now texts.now.text.now in
+        let k = known_of words.old in
+        let depth = get_or words.old 7 0 in
+        let typed = out (answered first (get_or words.old 5 0) (get_or words.old 6 0)) work.old.now in
+        let o = returned joined k depth row.old typed in
+        Reached o k (depth + operators_in row.old) work.old result words.new work.new }
 {
     let mut sort = first;
+    // a while: only the word tells how many operators are left, and each turn takes a bit off it
     while 1 < row[2] {
         step_back(row);
         sort = type_operator(texts, work, words, row, sorts, sort);
@@ -410,9 +451,16 @@ fn type_args(
     sorts: &mut [u32; 9],
 ) -> usize
     requires { Room words.old work.old.now × (get_or words.old 7 0 ≡ 0 → ⊥) × (sorts.old ≡ no_sorts) }
-    ensures { Reached (args_at (joint texts.now.library.now texts.now.text.now) (known_of words.old) (get_or words.old 7 0 - 1) (get_or row.now 0 0) (get_or row.now 1 0) 1 9 (get_or words.old 5 0) (get_or words.old 6 0) 0 no_sorts work.old.now) (known_of words.old) (get_or words.old 7 0) work.old result words.new work.new }
+    ensures { let joined = joint texts.now.library.now texts.now.text.now in
+        let k = known_of words.old in
+        let depth = get_or words.old 7 0 in
+        let name = get_or row.now 0 0 in
+        let place = get_or row.now 1 0 in
+        let o = args_at joined k (depth - 1) name place 1 9 (get_or words.old 5 0) (get_or words.old 6 0) 0 no_sorts work.old.now in
+        Reached o k depth work.old result words.new work.new }
 {
     let mut count = 0;
+    // a loop: whether the arguments end is asked once more than one of them is typed
     loop {
         let t = words[0];
         let at = words[5];
@@ -439,7 +487,11 @@ fn type_args(
 #[cycle(typing)]
 fn type_onward(texts: &Texts, work: &mut &mut [u32], words: &mut [usize; 10]) -> usize
     requires { Room words.old work.old.now }
-    ensures { Reached (term_at (joint texts.now.library.now texts.now.text.now) (known_of words.old) (get_or words.old 7 0) (get_or words.old 5 0) (get_or words.old 6 0) work.old.now) (known_of words.old) (get_or words.old 7 0) work.old result words.new work.new }
+    ensures { let joined = joint texts.now.library.now texts.now.text.now in
+        let k = known_of words.old in
+        let depth = get_or words.old 7 0 in
+        let o = term_at joined k depth (get_or words.old 5 0) (get_or words.old 6 0) work.old.now in
+        Reached o k depth work.old result words.new work.new }
 {
     type_deep(texts, work, words)
 }
@@ -454,7 +506,11 @@ fn type_primary(
     sorts: &mut [u32; 9],
 ) -> usize
     requires { Room words.old work.old.now × (sorts.old ≡ no_sorts) × Ended (known_of words.old) (get_or words.old 7 0) row.now work.old.now }
-    ensures { Reached (term_at (joint texts.now.library.now texts.now.text.now) (known_of words.old) (get_or words.old 7 0) (get_or row.now 0 0) (get_or row.now 1 0) work.old.now) (known_of words.old) (get_or words.old 7 0) work.old result words.new work.new }
+    ensures { let joined = joint texts.now.library.now texts.now.text.now in
+        let k = known_of words.old in
+        let depth = get_or words.old 7 0 in
+        let o = term_at joined k depth (get_or row.now 0 0) (get_or row.now 1 0) work.old.now in
+        Reached o k depth work.old result words.new work.new }
 {
     if words[7] == 0 {
         return 0;
@@ -488,7 +544,11 @@ fn type_primary(
 #[cycle(typing)]
 fn type_deep(texts: &Texts, work: &mut &mut [u32], words: &mut [usize; 10]) -> usize
     requires { Room words.old work.old.now }
-    ensures { Reached (term_at (joint texts.now.library.now texts.now.text.now) (known_of words.old) (get_or words.old 7 0) (get_or words.old 5 0) (get_or words.old 6 0) work.old.now) (known_of words.old) (get_or words.old 7 0) work.old result words.new work.new }
+    ensures { let joined = joint texts.now.library.now texts.now.text.now in
+        let k = known_of words.old in
+        let depth = get_or words.old 7 0 in
+        let o = term_at joined k depth (get_or words.old 5 0) (get_or words.old 6 0) work.old.now in
+        Reached o k depth work.old result words.new work.new }
 {
     let i = words[5];
     let q = words[6];
@@ -511,7 +571,11 @@ fn type_lent<'a>(
     sort: &mut usize,
 ) -> &'a mut [u32]
     requires { Room words.old work.old }
-    ensures { Reached (term_at (joint library.now text.now) (known_of words.old) (get_or words.old 7 0) (get_or words.old 5 0) (get_or words.old 6 0) work.old) (known_of words.old) (get_or words.old 7 0) work.entry sort.new words.new result }
+    ensures { let joined = joint library.now text.now in
+        let k = known_of words.old in
+        let depth = get_or words.old 7 0 in
+        let o = term_at joined k depth (get_or words.old 5 0) (get_or words.old 6 0) work.old in
+        Reached o k depth work.entry sort.new words.new result }
 {
     let texts = Texts { library, text };
     let mut lent = work;
@@ -529,7 +593,7 @@ pub fn type_term(
     i: usize,
     q: usize,
     depth: usize,
-) -> Answer
+) -> Option<Sorted>
     requires { (k.tape ≤ length work.old) × (k.count ≤ 65536) × (k.hidden ≤ 65536) }
     ensures { out result work.new ≡ term_at (joint library.now text.now) k depth i q work.old }
 {
@@ -537,11 +601,11 @@ pub fn type_term(
     let mut sort: usize = 0;
     let _back = type_lent(library, text, work, &mut words, &mut sort);
     if sort == 0 {
-        return Answer::Ill;
+        return None;
     }
-    Answer::Sorted {
+    Some(Sorted {
         sort: (sort - 1) as u32,
         next: words[5],
         free: words[6],
-    }
+    })
 }

@@ -1,5 +1,5 @@
 -- What one pass over the sides of an equation means: all of them are typed, and the nodes of those that are chosen stand one behind the other.
-use Rattle.std.specs.Prelude.{◌≡◌, refl, Bool, eqb, get_or, set}
+use Rattle.std.specs.Prelude.{◌≡◌, refl, Bool, eqb, get_or, set, None}
 use Rattle.std.proofs.Math.Path.{sym, ap, ap₂}
 use Rattle.std.proofs.Common.{◌∙◌, add-zero, length-set, get_or-set_same}
 use Rattle.std.proofs.Math.Bool.{true, false}
@@ -23,11 +23,8 @@ use Rattle.form.specs.Memory.{Kept}
 use Rattle.form.specs.FormLaws.{kept_sets}
 use Rattle.form.specs.Forms.{flat_sides}
 use Rattle.own_finding.specs.declared.Known.{Known}
-use Rattle.own_terms.specs.declared.Answer.{Answer}
-use Rattle.own_terms.specs.declared.Answer.TheVariants.{Ill}
-use Rattle.own_typing.specs.declared.Passed.TheVariants.{Counted, Wrong}
-use Rattle.own_terms.specs.Typing.{Out, tape_in, items_in}
-use Rattle.own_typing.specs.Equations.{Pass, passed, sides_at, begins_at, after_sides, sides_from}
+use Rattle.own_terms.specs.Typing.{Out, tape_in, items_in, Answer}
+use Rattle.own_typing.specs.Equations.{Pass, passed, sides_at, begins_at, after_sides, sides_from, of_sides}
 use Rattle.own_terms.specs.Meant.{Spells, spells_front, spells_back, Layout, node_here, Pointed, tape_stays, sets_kept, begins}
 use Rattle.own_typing.specs.Sides.{WellSides, AgreeSides, sides_typed}
 
@@ -75,7 +72,7 @@ module _ (text : List ℕ) (k : Known) (w₀ : List ℕ) (role : ℕ) where
   -- the sides of `size` entries from i on: the chosen ones are ss, after the n that are there
   pub record Chosen (ss : List ResolvedSides) (i size q n q₀ e₀ : ℕ) (w : List ℕ) (o : Pass) : Type 0 where
     pub words : List ℕ
-    pub answer : o.answer ≡ Counted (n + length ss) (i + size) (q + length words)
+    pub answer : o.answer ≡ of_sides (n + length ss) (i + size) (q + length words)
     pub kept : Kept q₀ e₀ w₀ o.memory
     pub below : (j : ℕ) → j < q → get_or o.memory j 0 ≡ get_or w j 0
     pub stand : Stand q words o.memory
@@ -84,11 +81,11 @@ module _ (text : List ℕ) (k : Known) (w₀ : List ℕ) (role : ℕ) where
     pub room : length words ≤ size
 
   abbrev pub AgreeChosen : Option (List ResolvedSides) → ℕ → ℕ → ℕ → ℕ → ℕ → ℕ → List ℕ → Pass → Type 0
-  AgreeChosen none i size q n q₀ e₀ w o = o.answer ≡ Wrong
+  AgreeChosen none i size q n q₀ e₀ w o = o.answer ≡ None
   AgreeChosen (some ss) i size q n q₀ e₀ w o = Chosen ss i size q n q₀ e₀ w o
 
   module _ (q₀ e₀ : ℕ) (l : Layout text k w₀ q₀ e₀) (end : ℕ) where
-    wrong_still : (more : ℕ → ℕ → ℕ → List ℕ → Pass) (q n : ℕ) (r : Answer) (w : List ℕ) → r ≡ Ill → (after_sides k role more q n r w).answer ≡ Wrong
+    wrong_still : (more : ℕ → ℕ → ℕ → List ℕ → Pass) (q n : ℕ) (r : Answer) (w : List ℕ) → r ≡ None → (after_sides k role more q n r w).answer ≡ None
     unfolding after_sides
     wrong_still more q n r w h = rw h
 
@@ -114,7 +111,7 @@ module _ (text : List ℕ) (k : Known) (w₀ : List ℕ) (role : ℕ) where
           let e₃ : q + length h.words + length r.words ≡ q + length (h.words ++ r.words) = omega (arith, length-append h.words r.words) in
           record {
             words = h.words ++ r.words;
-            answer = r.answer ∙ (λ z. Counted (e₁ z) (e₂ z) (e₃ z));
+            answer = r.answer ∙ (λ z. of_sides (e₁ z) (e₂ z) (e₃ z));
             kept = r.kept;
             below = λ j a. r.below j (omega arith) ∙ f.below j a;
             stand =
@@ -136,7 +133,7 @@ module _ (text : List ℕ) (k : Known) (w₀ : List ℕ) (role : ℕ) where
           let e₂ : i + sz + 1 + size ≡ i + (sz + 1 + size) = omega arith in
           record {
             words = r.words;
-            answer = r.answer ∙ (λ z. Counted (n + length ss) (e₂ z) (q + length r.words));
+            answer = r.answer ∙ (λ z. of_sides (n + length ss) (e₂ z) (q + length r.words));
             kept = r.kept;
             below = λ j a. r.below j a ∙ f.below j a;
             stand = r.stand;
@@ -181,7 +178,7 @@ module _ (text : List ℕ) (k : Known) (w₀ : List ℕ) (role : ℕ) where
     unfolding sides_from pick
     goes left i q n w h = rw h
 
-    ends : (left i q n : ℕ) (w : List ℕ) → begins_at (tape_in k w) i end ≡ false → sides_from text k role end (suc left) i q n w ≡ passed (Counted n i q) w
+    ends : (left i q n : ℕ) (w : List ℕ) → begins_at (tape_in k w) i end ≡ false → sides_from text k role end (suc left) i q n w ≡ passed (of_sides n i q) w
     unfolding sides_from pick
     ends left i q n w h = rw h
 
@@ -213,7 +210,7 @@ module _ (text : List ℕ) (k : Known) (w₀ : List ℕ) (role : ℕ) where
         rw (ends left i q n w f)
         (record {
           words = [];
-          answer = λ j. Counted (sym (add-zero n) j) (sym (add-zero i) j) (sym (add-zero q) j);
+          answer = λ j. of_sides (sym (add-zero n) j) (sym (add-zero i) j) (sym (add-zero q) j);
           kept = kept;
           below = λ j a. refl;
           stand = tt;

@@ -1,6 +1,6 @@
 -- What an equation typed in memory means: where the entries spell it, it is wrong where the meaning refuses it, and else its nodes stand
 -- in memory, the conclusion's and then the conditions'.
-use Rattle.std.specs.Prelude.{◌≡◌, Bool, eqb, get_or}
+use Rattle.std.specs.Prelude.{◌≡◌, Bool, eqb, get_or, None}
 use Rattle.std.proofs.Math.Path.{refl, ap, ap₂}
 use Rattle.std.proofs.Common.{sym, ◌∙◌}
 use Rattle.std.proofs.Math.Bool.{true, false}
@@ -22,9 +22,8 @@ use Rattle.form.specs.Memory.{Kept}
 use Rattle.form.specs.Forms.{flat_sides, flat_equation}
 use Rattle.form_walks.specs.Lists.{each_append}
 use Rattle.own_finding.specs.declared.Known.{Known}
-use Rattle.own_typing.specs.declared.Passed.TheVariants.{Counted, Wrong}
 use Rattle.own_terms.specs.Typing.{tape_in, items_in}
-use Rattle.own_typing.specs.Equations.{Pass, begins_at, sides_from, after_conclusion, equation_at}
+use Rattle.own_typing.specs.Equations.{Pass, begins_at, sides_from, after_conclusion, equation_at, of_sides}
 use Rattle.own_terms.specs.Meant.{Spells, Layout, node_here, Pointed}
 use Rattle.own_typing.specs.Sides.{spells_size}
 use Rattle.own_typing.specs.Chosen.{Mark, flat_mark, mark_size, joined_chosen, Stand, stand_stays, stand_append, chosen, Chosen, AgreeChosen, pass_typed}
@@ -112,7 +111,7 @@ module _ (text : List ℕ) (k : Known) (w₀ : List ℕ) where
   -- the equation of `size` entries from i on is r: its words stand from q on
   pub record WellEquation (r : ResolvedEquation) (i size q q₀ e₀ : ℕ) (w : List ℕ) (o : Pass) : Type 0 where
     pub words : List ℕ
-    pub answer : o.answer ≡ Counted (length r.conditions) (i + size) (q + length words)
+    pub answer : o.answer ≡ of_sides (length r.conditions) (i + size) (q + length words)
     pub kept : Kept q₀ e₀ w₀ o.memory
     pub below : (j : ℕ) → j < q → get_or o.memory j 0 ≡ get_or w j 0
     pub stand : Stand q words o.memory
@@ -121,7 +120,7 @@ module _ (text : List ℕ) (k : Known) (w₀ : List ℕ) where
     pub room : length words ≤ size + size
 
   abbrev pub AgreeEquation : Outcome ResolvedEquation → ℕ → ℕ → ℕ → ℕ → ℕ → List ℕ → Pass → Type 0
-  AgreeEquation (stop number culprit) i size q q₀ e₀ w o = o.answer ≡ Wrong
+  AgreeEquation (stop number culprit) i size q q₀ e₀ w o = o.answer ≡ None
   AgreeEquation (fine r) i size q q₀ e₀ w o = WellEquation r i size q q₀ e₀ w o
 
   module _ (q₀ e₀ : ℕ) (l : Layout text k w₀ q₀ e₀) (end home at : ℕ) (tag : Name) (i m q : ℕ) (w : List ℕ) (x : q₀ ≤ q) (y : q + (m + m) ≤ e₀) (o : Pass) where
@@ -131,7 +130,7 @@ module _ (text : List ℕ) (k : Known) (w₀ : List ℕ) where
         (p : ℕ) (u : List ℕ) → Kept q₀ e₀ w₀ u → q ≤ p → p ≤ q + m
         → AgreeChosen text k w₀ condition_role r (i + 1) m p 0 q₀ e₀ u (sides_from text k condition_role end k.tape (i + 1) p 0 u)
 
-    wrong_first : o.answer ≡ Wrong → (after_conclusion text k end i o.answer o.memory).answer ≡ Wrong
+    wrong_first : o.answer ≡ None → (after_conclusion text k end i o.answer o.memory).answer ≡ None
     unfolding after_conclusion
     wrong_first h = rw h
 
@@ -146,7 +145,7 @@ module _ (text : List ℕ) (k : Known) (w₀ : List ℕ) where
         rw h.answer
         (record {
           words = h.words ++ g.words;
-          answer = g.answer ∙ (λ z. Counted (e₁ z) (e₂ z) (e₃ z));
+          answer = g.answer ∙ (λ z. of_sides (e₁ z) (e₂ z) (e₃ z));
           kept = g.kept;
           below = λ j a. g.below j (omega arith) ∙ h.below j a;
           stand = stand_append h.words g.words q _ (stand_stays h.words q o.memory _ (λ j a b. g.below j b) h.stand) g.stand;

@@ -1,5 +1,5 @@
 -- What all equations of a module typed in memory mean: the outcome is that of the meaning, and each equation has its row.
-use Rattle.std.specs.Prelude.{◌≡◌, Bool, true, false, ltb, get_or}
+use Rattle.std.specs.Prelude.{◌≡◌, Bool, true, false, ltb, get_or, Err}
 use Rattle.std.proofs.Math.Path.{refl, sym, ap}
 use Rattle.std.proofs.Common.{◌∙◌, add-zero, arith, lt-ltb, le-ltb, ltb-true, ltb-false}
 use Rattle.std.proofs.Math.Option.{Option, none, some}
@@ -20,9 +20,8 @@ use Rattle.form.specs.Memory.{Kept}
 use Rattle.form.specs.Forms.{equation_size}
 use Rattle.own_finding.specs.declared.Known.{Known}
 use Rattle.own_typing.specs.declared.Module.{Module}
-use Rattle.own_typing.specs.declared.Equated.TheVariants.{All, Stop}
 use Rattle.own_terms.specs.Typing.{tape_in, items_in, is_opening}
-use Rattle.own_typing.specs.Equations.{Pass, begins_at, turn_at, Told, told, after_turn, equations_from}
+use Rattle.own_typing.specs.Equations.{Pass, begins_at, turn_at, Told, told, after_turn, equations_from, of_equations}
 use Rattle.own_terms.specs.Meant.{Spells, spells_front, spells_back, Layout, Pointed, tape_stays}
 use Rattle.own_typing.specs.Chosen.{stand_stays}
 use Rattle.own_typing.specs.Equated.{equation_entries}
@@ -36,7 +35,7 @@ module _ (text : List ℕ) (k : Known) (w₀ : List ℕ) (m : Module) where
 
   pub record AllTyped (rs : List ResolvedEquation) (position q q₀ e₀ : ℕ) (w : List ℕ) (o : Told) : Type 0 where
     pub free : ℕ
-    pub answer : o.answer ≡ All (position + length rs) free
+    pub answer : o.answer ≡ of_equations (position + length rs) free
     pub kept : Kept q₀ e₀ w₀ o.memory
     pub rows : RowsStand rs position free o.memory
     pub counted : free ≡ q + sum equation_nodes rs
@@ -48,7 +47,7 @@ module _ (text : List ℕ) (k : Known) (w₀ : List ℕ) (m : Module) where
   -- the tag of the first that is ill typed
   pub record Stopped (number : ℕ) (culprit : Culprit) (o : Told) : Type 0 where
     pub tag : ℕ
-    pub answer : o.answer ≡ Stop tag
+    pub answer : o.answer ≡ Err tag
     pub numbered : number ≡ ill_typed
     pub named : lone (name_of text tag) ≡ culprit
 
@@ -94,7 +93,7 @@ module _ (text : List ℕ) (k : Known) (w₀ : List ℕ) (m : Module) where
             let s : position + 1 + length rs ≡ position + suc (length rs) = omega arith in
             record {
               free = a.free;
-              answer = a.answer ∙ ap (λ (n : ℕ). All n a.free) s;
+              answer = a.answer ∙ ap (λ (n : ℕ). of_equations n a.free) s;
               kept = a.kept;
               rows = (row_stays r (m.rows + position * equation_size) h.free a.free o.memory _ h.row (omega (arith, a.counted)) (λ j b. a.below j (omega arith)) a.stays, a.rows);
               counted = omega (arith, a.counted, h.counted);
@@ -109,7 +108,7 @@ module _ (text : List ℕ) (k : Known) (w₀ : List ℕ) (m : Module) where
             by_place j b d true e = let z = ltb-true j h.free e in rw (a.stays j (omega arith) z) (h.pointed j b z)
             by_place j b d false e = a.pointed j (ltb-false j h.free e) d
 
-    all_done : (left position i q : ℕ) (w : List ℕ) → m.end ≤ i → equations_from text k m (suc left) position i q w ≡ told (All position q) w
+    all_done : (left position i q : ℕ) (w : List ℕ) → m.end ≤ i → equations_from text k m (suc left) position i q w ≡ told (of_equations position q) w
     unfolding equations_from pick
     all_done left position i q w h = rw (le-ltb i m.end h)
 
@@ -138,7 +137,7 @@ module _ (text : List ℕ) (k : Known) (w₀ : List ℕ) (m : Module) where
     equations_typed [] zero position i q w h s kept x y z v a b = absurd (omega arith)
     equations_typed [] (suc left) position i q w h s kept x y z v a b =
         rw (all_done left position i q w (omega arith))
-        (record { free = q; answer = ap (λ (n : ℕ). All n q) (sym (add-zero position)); kept = kept; rows = tt; counted = sym (add-zero q); inside = omega arith; pointed = λ j c d. absurd (omega arith); below = λ j c. refl; stays = λ j c d. refl })
+        (record { free = q; answer = ap (λ (n : ℕ). of_equations n q) (sym (add-zero position)); kept = kept; rows = tt; counted = sym (add-zero q); inside = omega arith; pointed = λ j c d. absurd (omega arith); below = λ j c. refl; stays = λ j c d. refl })
     equations_typed (e ∷ es) zero position i q w h s kept x y z v a b = absurd (omega arith)
     equations_typed (e ∷ es) (suc left) position i q w h s kept x y z v a b =
         let f = on_tape.flat_equation e in

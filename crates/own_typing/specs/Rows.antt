@@ -1,6 +1,6 @@
 -- What the equations of a module typed in memory mean: the first that the meaning refuses is told by its tag; and else each has its row,
 -- and its nodes stand where the row says.
-use Rattle.std.specs.Prelude.{◌≡◌, Bool, true, false, ℕ, suc, ◌+◌, ◌-◌, ◌*◌, ◌<◌, ◌≤◌, ltb, get_or}
+use Rattle.std.specs.Prelude.{◌≡◌, Bool, true, false, ℕ, suc, ◌+◌, ◌-◌, ◌*◌, ◌<◌, ◌≤◌, ltb, get_or, None}
 use Rattle.std.proofs.Math.Path.{refl, sym, ap, subst}
 use Rattle.std.proofs.Common.{◌∙◌, lt-ltb, ltb-true, ltb-false}
 use Rattle.std.proofs.Math.Option.{Option, none, some}
@@ -24,10 +24,8 @@ use Rattle.form.specs.Forms.{flat_equation, equation_words, equation_size}
 use Rattle.form.specs.FlatMoves.{equation_count}
 use Rattle.own_finding.specs.declared.Known.{Known}
 use Rattle.own_typing.specs.declared.Module.{Module}
-use Rattle.own_typing.specs.declared.Passed.{Passed}
-use Rattle.own_typing.specs.declared.Passed.TheVariants.{Counted, Wrong}
 use Rattle.own_terms.specs.Typing.{tape_in, items_in}
-use Rattle.own_typing.specs.Equations.{Pass, begins_at, equation_at, span, row_of, stored, after_equation, turn_at}
+use Rattle.own_typing.specs.Equations.{Pass, begins_at, equation_at, span, row_of, stored, after_equation, turn_at, Passed, of_sides}
 use Rattle.own_terms.specs.Meant.{Spells, Layout, node_here, Pointed, tape_stays, sets_kept}
 use Rattle.own_typing.specs.Chosen.{Stand, stand_stays, stand_sets}
 use Rattle.own_typing.specs.Equated.{WellEquation, AgreeEquation, equation_entries, equation_typed}
@@ -58,7 +56,7 @@ module _ (text : List ℕ) (k : Known) (w₀ : List ℕ) (m : Module) where
   -- a turn of the loop leaves the equation's row and nodes, and all below its row as it was
   pub record WellTurn (r : ResolvedEquation) (position i size q q₀ e₀ : ℕ) (w : List ℕ) (o : Pass) : Type 0 where
     pub free : ℕ
-    pub answer : o.answer ≡ Counted (length r.conditions) (i + size) free
+    pub answer : o.answer ≡ of_sides (length r.conditions) (i + size) free
     pub kept : Kept q₀ e₀ w₀ o.memory
     pub counted : free ≡ q + equation_nodes r
     pub room : free ≤ q + (size + size)
@@ -69,7 +67,7 @@ module _ (text : List ℕ) (k : Known) (w₀ : List ℕ) (m : Module) where
     pub between : (j : ℕ) → m.rows + position * equation_size + 6 ≤ j → j < q → get_or o.memory j 0 ≡ get_or w j 0
 
   abbrev pub AgreeTurn : Outcome ResolvedEquation → ℕ → ℕ → ℕ → ℕ → ℕ → ℕ → List ℕ → Pass → Type 0
-  AgreeTurn (stop number culprit) position i size q q₀ e₀ w o = o.answer ≡ Wrong
+  AgreeTurn (stop number culprit) position i size q q₀ e₀ w o = o.answer ≡ None
   AgreeTurn (fine r) position i size q q₀ e₀ w o = WellTurn r position i size q q₀ e₀ w o
 
   -- an equation has as many words as nodes
@@ -81,7 +79,7 @@ module _ (text : List ℕ) (k : Known) (w₀ : List ℕ) (m : Module) where
   span_is a b h = rw (lt-ltb (a - b) 4294967295 h)
 
   module _ (q₀ e₀ : ℕ) (l : Layout text k w₀ q₀ e₀) (size_of_memory : e₀ < 4294967295) where
-    wrong_turn : (position i q : ℕ) (r : Passed) (w : List ℕ) → r ≡ Wrong → (after_equation k m position i q r w).answer ≡ Wrong
+    wrong_turn : (position i q : ℕ) (r : Passed) (w : List ℕ) → r ≡ None → (after_equation k m position i q r w).answer ≡ None
     unfolding after_equation
     wrong_turn position i q r w h = rw h
 

@@ -1,6 +1,6 @@
 -- What two sides typed in memory mean: where the entries spell them, the answer and the words written are those of the sides that the
 -- meaning types; and they are ill typed where it has none.
-use Rattle.std.specs.Prelude.{◌≡◌, Bool, ℕ, suc, ◌+◌, ◌≤◌}
+use Rattle.std.specs.Prelude.{◌≡◌, Bool, ℕ, suc, ◌+◌, ◌≤◌, None}
 use Rattle.std.proofs.Math.Path.{refl, ap₂}
 use Rattle.std.proofs.Common.{◌∙◌}
 use Rattle.std.proofs.Math.Bool.{true, false}
@@ -20,9 +20,7 @@ use Rattle.tape.specs.Tape as on_tape
 use Rattle.form.specs.Memory.{Kept}
 use Rattle.form.specs.Forms.{flat_term, flat_sides}
 use Rattle.own_finding.specs.declared.Known.{Known}
-use Rattle.own_terms.specs.declared.Answer.{Answer}
-use Rattle.own_terms.specs.declared.Answer.TheVariants.{Sorted, Ill}
-use Rattle.own_terms.specs.Typing.{Out, out, items_in, term_at}
+use Rattle.own_terms.specs.Typing.{Out, out, items_in, term_at, Answer, of_sort}
 use Rattle.own_typing.specs.Equations.{right_checked, right_at, left_checked, sides_at}
 use Rattle.own_terms.specs.Meant.{sets_append, Spells, spells_front, spells_back, Layout, node_here, Pointed, tape_stays, sets_kept}
 use Rattle.own_terms.specs.Terms.{Agrees, term_typed}
@@ -32,13 +30,13 @@ module _ (text : List ℕ) (k : Known) (w₀ : List ℕ) where
   pub record WellSides (s : ResolvedSides) (i size q : ℕ) (w : List ℕ) (o : Out) : Type 0 where
     pub sort : ℕ
     pub words : List ℕ
-    pub same : o ≡ out (Sorted sort (i + size) (q + length words)) (sets w q words)
+    pub same : o ≡ out (of_sort sort (i + size) (q + length words)) (sets w q words)
     pub nodes : map (node_here text k w₀) words ≡ flat_sides s
     pub pointed : Every (Pointed text k w₀) words
     pub room : length words ≤ size
 
   abbrev pub AgreeSides : Option ResolvedSides → ℕ → ℕ → ℕ → List ℕ → Out → Type 0
-  AgreeSides none i size q w o = o.answer ≡ Ill
+  AgreeSides none i size q w o = o.answer ≡ None
   AgreeSides (some s) i size q w o = WellSides s i size q w o
 
   -- entries lie on the tape
@@ -47,11 +45,11 @@ module _ (text : List ℕ) (k : Known) (w₀ : List ℕ) where
   spells_size (e ∷ es) i h s = let more = spells_size es (suc i) s.0 s.3 in omega (arith, more)
 
   module _ (q₀ e₀ : ℕ) (l : Layout text k w₀ q₀ e₀) where
-    left_ill : (r : Answer) (w : List ℕ) → r ≡ Ill → (left_checked text k r w).answer ≡ Ill
+    left_ill : (r : Answer) (w : List ℕ) → r ≡ None → (left_checked text k r w).answer ≡ None
     unfolding left_checked
     left_ill r w h = rw h
 
-    right_ill : (s : ℕ) (r : Answer) (w : List ℕ) → r ≡ Ill → (right_checked text k s r w).answer ≡ Ill
+    right_ill : (s : ℕ) (r : Answer) (w : List ℕ) → r ≡ None → (right_checked text k s r w).answer ≡ None
     unfolding right_checked
     right_ill s r w h = rw h
 
@@ -59,7 +57,7 @@ module _ (text : List ℕ) (k : Known) (w₀ : List ℕ) where
     one_sort : (t : Bool) (a b : Typed) (i m n q s : ℕ) (vs us w : List ℕ) → map (node_here text k w₀) vs ≡ flat_term a.term
         → map (node_here text k w₀) us ≡ flat_term b.term → Every (Pointed text k w₀) vs → Every (Pointed text k w₀) us → length vs ≤ m → length us ≤ n
         → AgreeSides (pick t (some (record { left = a.term; right = b.term })) none) i (m + n) q w
-        (pick t (out (Sorted s (i + m + n) (q + length vs + length us)) (sets (sets w q vs) (q + length vs) us)) (out Ill (sets (sets w q vs) (q + length vs) us)))
+        (pick t (out (of_sort s (i + m + n) (q + length vs + length us)) (sets (sets w q vs) (q + length vs) us)) (out None (sets (sets w q vs) (q + length vs) us)))
     unfolding pick flat_sides
     one_sort true a b i m n q s vs us w e f g h x y =
         let next : i + m + n ≡ i + (m + n) = omega arith in
@@ -67,7 +65,7 @@ module _ (text : List ℕ) (k : Known) (w₀ : List ℕ) where
         record {
           sort = s;
           words = vs ++ us;
-          same = λ z. out (Sorted s (next z) (free z)) (sets_append vs us w q z);
+          same = λ z. out (of_sort s (next z) (free z)) (sets_append vs us w q z);
           nodes = map-append (node_here text k w₀) vs us ∙ ap₂ ◌++◌ e f;
           pointed = every_append (Pointed text k w₀) vs us g h;
           room = omega (arith, length-append vs us);

@@ -1,6 +1,6 @@
 -- From equations typed in memory to a normal form that stands: the visible items of a module and its own hidden ones are one table of known
 -- items, and the form has them, the equations' rows and their nodes.
-use Rattle.std.specs.Prelude.{◌≡◌, Bool, ℕ, zero, suc, ◌+◌, ◌-◌, ◌*◌, ◌/◌, ◌%◌, ◌<◌, ◌≤◌, eqb, ltb, get_or, take, drop}
+use Rattle.std.specs.Prelude.{◌≡◌, Bool, ℕ, zero, suc, ◌+◌, ◌-◌, ◌*◌, ◌/◌, ◌%◌, ◌<◌, ◌≤◌, eqb, ltb, get_or, take, drop, Result, Ok, Err}
 use Rattle.std.proofs.Math.Path.{refl, ap, ap₂}
 use Rattle.std.proofs.Common.{sym, ◌∙◌, drop-cons}
 use Rattle.std.proofs.Math.Bool.{true, false}
@@ -22,17 +22,14 @@ use Rattle.invariants.specs.Nodes.{EachWithin, equations_within}
 use Rattle.tape.specs.Tape as on_tape
 use Rattle.form_rows.specs.Rows.{item_of, row_at, row_size}
 use Rattle.form.specs.declared.Form.{Form}
-use Rattle.form.specs.declared.Made.{Made}
-use Rattle.form.specs.declared.Made.TheVariants.{Done, Refused}
 use Rattle.form.specs.Memory.{part, Kept}
 use Rattle.form.specs.FormLaws.{Apart, kept_all, kept_same, slots_same, items_same, items_split}
 use Rattle.form.specs.Forms.{items_at, node_row, node_of, node_in, nodes_of, equation_row_at, EquationStands, EquationsStand, node_item, VisiblePoint, HiddenPoint, Pointing, visible_at, equation_size, slot_size}
-use Rattle.form.specs.Verdicts.{lone_of}
+use Rattle.form.specs.Verdicts.{Made, refusal, lone_of}
 use Rattle.form.specs.Blocks.{Makes}
 use Rattle.own_finding.specs.declared.Known.{Known}
 use Rattle.own_typing.specs.declared.Module.{Module}
 use Rattle.own_typing.specs.declared.Equated.{Equated}
-use Rattle.own_typing.specs.declared.Equated.TheVariants.{All, Stop}
 use Rattle.own_terms.specs.Typing.{items_in}
 use Rattle.own_typing.specs.Equations.{span, Told, equations_from}
 use Rattle.own_terms.specs.Meant.{Spells, Layout, visibly, known_row, known_item, node_here, Pointed, tape_stays, row_stays}
@@ -65,9 +62,9 @@ with_equations f equations nodes = record {
 }
 
 -- what is made of it
-unfoldable pub own_made : Form → Equated → Made
-own_made f (Stop tag) = Refused ill_typed (record { name = tag; actual = 0 })
-own_made f (All count free) = Done (with_equations f count (span free f.nodes))
+unfoldable pub own_made : Form → Result Equated ℕ → Made
+own_made f (Err tag) = Err (refusal ill_typed (record { name = tag; actual = 0 }))
+own_made f (Ok a) = Ok (with_equations f a.count (span a.free f.nodes))
 
 -- a visible item
 pub record Seen (i : Item) : Type 0 where
@@ -93,9 +90,9 @@ pub record OwnLaid (text : List ℕ) (t : ℕ) (f : Form) (v : Visible) (hidden 
 
 -- what is made of a form: that form with equations and nodes, which lie within their room, and nothing else has changed
 abbrev pub MadeFrom : Form → ℕ → List ℕ → List ℕ → Made → Type 0
-MadeFrom f high w w' (Done g) =
+MadeFrom f high w w' (Ok g) =
     (g ≡ with_equations f g.equation_count g.node_count) × Kept f.equations high w w' × (f.nodes + g.node_count ≤ high)
-MadeFrom f high w w' (Refused k x) = Unit {0}
+MadeFrom f high w w' (Err x) = Unit {0}
 
 pub record OwnTyped (text : List ℕ) (t : ℕ) (f : Form) (high : ℕ) (w w' : List ℕ) (r : Made) (n : Outcome Normal) : Type 0 where
   pub makes : Makes text (part w' 0 t) w' r n

@@ -2,19 +2,21 @@
 ghost use Rattle.std.specs.Prelude.{◌≡◌, ◌+◌, ◌^◌, ◌≤◌, ◌<◌, length};
 ghost use Rattle.text_names.specs.Joint.{joint};
 ghost use Rattle.own_terms.specs.Typing.{out};
-ghost use Rattle.own_typing.specs.Equations.{right_at, sides_at, passed, begins_at, sides_from, equation_at, span, row_of, stored, turn_at, told, equations_from};
+ghost use Rattle.own_typing.specs.Equations.{right_at, sides_at, passed, begins_at, sides_from, equation_at, span, row_of};
+ghost use Rattle.own_typing.specs.Equations.{stored, turn_at, told, equations_from};
 
-use super::{Equated, Module, Passed};
+use super::{Counted, Equated, Module};
 use form::EquationRow;
 use form::equations::write_equation;
 use form_comparing::sorts::same_sort;
 use form_rows::entries::{name_at, role_at};
 use own_finding::Known;
-use own_terms::Answer;
+use own_terms::Sorted;
 use own_terms::terms::type_term;
 use tape::roles;
 
 // The right side, at i; the left one has the sort s.
+#[tactic(auto, unfolding(crate::specs::Equations::right_at, crate::specs::Equations::right_checked, meaning::specs::Lists::pick))]
 fn type_right(
     library: &[u8],
     text: &[u8],
@@ -23,58 +25,46 @@ fn type_right(
     s: u32,
     i: usize,
     q: usize,
-) -> Answer
+) -> Option<Sorted>
     requires { (k.tape ≤ length work.old) × (k.count ≤ 65536) × (k.hidden ≤ 65536) }
     ensures { out result work.new ≡ right_at (joint library.now text.now) k s i q work.old }
 {
     let t = k.tape;
-    let a = type_term(library, text, work, k, i, q, t);
-    match a {
-        Answer::Ill => Answer::Ill,
-        Answer::Sorted { sort, next, free } => {
-            if same_sort(library, text, &work[0..t], s, sort) {
-                return Answer::Sorted {
-                    sort: s,
-                    next,
-                    free,
-                };
-            }
-            Answer::Ill
-        }
+    let right = type_term(library, text, work, k, i, q, t)?;
+    if same_sort(library, text, &work[0..t], s, right.sort) {
+        return Some(Sorted { sort: s, ..right });
     }
+    None
 }
 
 // The two sides at i.
-fn type_sides(library: &[u8], text: &[u8], work: &mut [u32], k: Known, i: usize, q: usize) -> Answer
+#[tactic(auto, unfolding(crate::specs::Equations::sides_at, crate::specs::Equations::left_checked))]
+fn type_sides(
+    library: &[u8],
+    text: &[u8],
+    work: &mut [u32],
+    k: Known,
+    i: usize,
+    q: usize,
+) -> Option<Sorted>
     requires { (k.tape ≤ length work.old) × (k.count ≤ 65536) × (k.hidden ≤ 65536) }
     ensures { out result work.new ≡ sides_at (joint library.now text.now) k i q work.old }
 {
     let t = k.tape;
-    let a = type_term(library, text, work, k, i, q, t);
-    match a {
-        Answer::Ill => Answer::Ill,
-        Answer::Sorted { sort, next, free } => type_right(library, text, work, k, sort, next, free),
-    }
+    let left = type_term(library, text, work, k, i, q, t)?;
+    type_right(library, text, work, k, left.sort, left.next, left.free)
 }
 
 // Does a term begin at i, before the end?
+#[tactic(auto, unfolding(crate::specs::Equations::begins_at, own_terms::specs::Typing::is_opening, meaning::specs::Lists::pick))]
 fn begins_at(tape: &[u32], i: usize, end: usize) -> bool
     ensures { result ≡ begins_at tape.now i end }
 {
-    if i < end {
-        let role = role_at(tape, i);
-        if role == roles::ALONE {
-            return true;
-        }
-        if role == roles::HEAD {
-            return true;
-        }
-        if role == roles::PREFIX {
-            return true;
-        }
-        return role == roles::INFIX;
-    }
-    false
+    i < end
+        && matches!(
+            role_at(tape, i),
+            roles::ALONE | roles::HEAD | roles::PREFIX | roles::INFIX
+        )
 }
 
 // The sides from i on, n of them kept so far: those whose entry has the role.
@@ -89,51 +79,37 @@ fn type_marked(
     i: usize,
     q: usize,
     n: u32,
-) -> Passed
+) -> Option<Counted>
     requires { (k.tape ≤ length work.old) × (k.count ≤ 65536) × (k.hidden ≤ 65536) × (n + left ≤ 65536) }
     ensures { passed result work.new ≡ sides_from (joint library.now text.now) k role end left i q n work.old }
 {
     let t = k.tape;
-    let mut rest = left;
     let mut at = i;
     let mut free = q;
     let mut count = n;
-    while 0 < rest {
-        if begins_at(&work[0..t], at, end) {
-            let a = type_sides(library, text, work, k, at, free);
-            let Answer::Sorted {
-                sort: _,
-                next,
-                free: behind,
-            } = a
-            else {
-                return Passed::Wrong;
-            };
-            if t <= next {
-                return Passed::Wrong;
-            }
-            let mark = role_at(&work[0..t], next);
-            if mark == role {
-                free = behind;
-                count += 1;
-                at = next + 1;
-                rest -= 1;
-            } else {
-                at = next + 1;
-                rest -= 1;
-            }
-        } else {
-            return Passed::Counted {
+    for _ in 0..left {
+        if !begins_at(&work[0..t], at, end) {
+            return Some(Counted {
                 count,
                 next: at,
                 free,
-            };
+            });
+        }
+        let sides = type_sides(library, text, work, k, at, free)?;
+        if t <= sides.next {
+            return None;
+        }
+        at = sides.next + 1;
+        if role_at(&work[0..t], sides.next) == role {
+            free = sides.free;
+            count += 1;
         }
     }
-    Passed::Wrong
+    None
 }
 
 // The equation whose tag is at i, before the end: its conditions are counted.
+#[tactic(auto, unfolding(crate::specs::Equations::equation_at, crate::specs::Equations::after_conclusion))]
 pub fn type_equation(
     library: &[u8],
     text: &[u8],
@@ -142,12 +118,12 @@ pub fn type_equation(
     end: usize,
     i: usize,
     q: usize,
-) -> Passed
+) -> Option<Counted>
     requires { (k.tape ≤ length work.old) × (k.tape ≤ 65536) × (i < k.tape) × (k.count ≤ 65536) × (k.hidden ≤ 65536) }
     ensures { passed result work.new ≡ equation_at (joint library.now text.now) k end i q work.old }
 {
     let t = k.tape;
-    let c = type_marked(
+    let conclusion = type_marked(
         library,
         text,
         work,
@@ -158,38 +134,27 @@ pub fn type_equation(
         i + 1,
         q,
         0,
-    );
-    match c {
-        Passed::Wrong => Passed::Wrong,
-        Passed::Counted {
-            count: _,
-            next: _,
-            free,
-        } => {
-            type_marked(
-                library,
-                text,
-                work,
-                k,
-                roles::CONDITION,
-                end,
-                t,
-                i + 1,
-                free,
-                0,
-            )
-        }
-    }
+    )?;
+    type_marked(
+        library,
+        text,
+        work,
+        k,
+        roles::CONDITION,
+        end,
+        t,
+        i + 1,
+        conclusion.free,
+        0,
+    )
 }
 
 // a - b as a word.
+#[tactic(auto, unfolding(crate::specs::Equations::span, meaning::specs::Lists::pick))]
 pub fn span(a: usize, b: usize) -> u32
     ensures { result ≡ span a b }
 {
-    if a < b {
-        return 0;
-    }
-    let d = a - b;
+    let d = a.saturating_sub(b);
     if d < 4294967295 {
         return d as u32;
     }
@@ -197,6 +162,7 @@ pub fn span(a: usize, b: usize) -> u32
 }
 
 // The row of the equation with the tag, whose nodes stand from q up to `free`.
+#[tactic(auto, unfolding(crate::specs::Equations::row_of))]
 fn equation_row(
     m: Module,
     position: u32,
@@ -221,6 +187,7 @@ fn equation_row(
 }
 
 // The row of the equation whose tag is at i, with n conditions and nodes from q up to `free`.
+#[tactic(auto, unfolding(crate::specs::Equations::stored))]
 fn store_row(
     work: &mut [u32],
     k: Known,
@@ -243,6 +210,7 @@ fn store_row(
 }
 
 // The equation whose tag is at i, with its row.
+#[tactic(auto, unfolding(crate::specs::Equations::turn_at, crate::specs::Equations::after_equation))]
 fn type_next(
     library: &[u8],
     text: &[u8],
@@ -252,19 +220,14 @@ fn type_next(
     position: u32,
     i: usize,
     q: usize,
-) -> Passed
+) -> Option<Counted>
     requires { (k.tape ≤ length work.old) × (k.tape ≤ 65536) × (i < k.tape) × (k.count ≤ 65536) × (k.hidden ≤ 65536) × (m.rows < 2 ^ 32) }
     ensures { passed result work.new ≡ turn_at (joint library.now text.now) k m position i q work.old }
 {
     let end = m.end;
-    let r = type_equation(library, text, work, k, end, i, q);
-    match r {
-        Passed::Wrong => Passed::Wrong,
-        Passed::Counted { count, next, free } => {
-            store_row(work, k, m, position, i, q, count, free);
-            Passed::Counted { count, next, free }
-        }
-    }
+    let sides = type_equation(library, text, work, k, end, i, q)?;
+    store_row(work, k, m, position, i, q, sides.count, sides.free);
+    Some(sides)
 }
 
 // The equations of the module from i on; their nodes are written from q on. The first that is ill typed is told by its tag.
@@ -276,44 +239,28 @@ pub fn type_equations(
     m: Module,
     i: usize,
     q: usize,
-) -> Equated
+) -> Result<Equated, u32>
     requires { (k.tape ≤ length work.old) × (k.tape ≤ 65536) × (m.end ≤ k.tape) × (k.count ≤ 65536) × (k.hidden ≤ 65536) × (m.rows < 2 ^ 32) }
     ensures { told result work.new ≡ equations_from (joint library.now text.now) k m k.tape 0 i q work.old }
 {
     let t = k.tape;
     let end = m.end;
-    let mut left = t;
-    let mut position = 0;
     let mut at = i;
     let mut free = q;
-    while 0 < left {
-        if at < end {
-            let tag = name_at(&work[0..t], at);
-            let r = type_next(library, text, work, k, m, position, at, free);
-            match r {
-                Passed::Wrong => {
-                    return Equated::Stop(tag);
-                }
-                Passed::Counted {
-                    count: _,
-                    next,
-                    free: behind,
-                } => {
-                    at = next;
-                    free = behind;
-                    position += 1;
-                    left -= 1;
-                }
-            }
-        } else {
-            return Equated::All {
+    for position in 0..t as u32 {
+        if end <= at {
+            return Ok(Equated {
                 count: position,
                 free,
-            };
+            });
         }
+        let tag = name_at(&work[0..t], at);
+        let sides = type_next(library, text, work, k, m, position, at, free).ok_or(tag)?;
+        at = sides.next;
+        free = sides.free;
     }
-    Equated::All {
-        count: position,
+    Ok(Equated {
+        count: t as u32,
         free,
-    }
+    })
 }

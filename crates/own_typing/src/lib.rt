@@ -3,15 +3,12 @@
 
 pub mod equations;
 
-// How many sides were kept, the entry behind the last and the place behind their nodes; or some are ill typed.
+// How many sides were kept, the entry behind the last and the place behind their nodes.
 #[derive(Clone, Copy)]
-pub enum Passed {
-    Counted {
-        count: u32,
-        next: usize,
-        free: usize,
-    },
-    Wrong,
+pub struct Counted {
+    pub count: u32,
+    pub next: usize,
+    pub free: usize,
 }
 
 // A module's number, the end of its equations on the tape, and where their rows and the form's nodes begin.
@@ -23,9 +20,9 @@ pub struct Module {
     pub nodes: usize,
 }
 
-// How many equations there are, and the place behind their nodes; or the tag of the first that is ill typed.
+// How many equations there are, and the place behind their nodes.
 #[derive(Clone, Copy)]
-pub enum Equated {
-    All { count: u32, free: usize },
-    Stop(u32),
+pub struct Equated {
+    pub count: u32,
+    pub free: usize,
 }

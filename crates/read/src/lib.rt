@@ -7,30 +7,16 @@ ghost use Rattle.read_known.specs.Known.{named_so};
 
 use meaning::numbers;
 use read_modules::read_modules;
-use read_steps::{Place, Reading};
-
-// The whole tape, set to zero.
-fn clear(tape: &mut [u32])
-    ensures { tape.new ≡ replicate (length tape.old) 0 }
-{
-    let mut i = 0;
-    while i < tape.len() {
-        tape[i] = 0;
-        i += 1;
-    }
-}
+use read_steps::{Misread, Place, Reading};
 
 // A refusal leaves zeros.
 fn wipe(tape: &mut [u32], r: Reading) -> Reading
     ensures { out result tape.new ≡ wiped r tape.old }
 {
-    match r {
-        Reading::Done(p) => Reading::Done(p),
-        Reading::Refused { number, place } => {
-            clear(tape);
-            Reading::Refused { number, place }
-        }
+    if r.is_err() {
+        tape.fill(0);
     }
+    r
 }
 
 // What a text of so many modules at most says, on the tape; or its leftmost offence, and zeros. The heads are the words of modules of the
@@ -41,14 +27,14 @@ pub fn read(text: &[u8], library: &[u8], heads: &[u32], limit: usize, tape: &mut
     if numbers::TEXT_SIZE < text.len() {
         return wipe(
             tape,
-            Reading::Refused {
+            Err(Misread {
                 number: numbers::OVER_SIZE,
                 place: numbers::TEXT_SIZE,
-            },
+            }),
         );
     }
     let token = text_tokens::next_token(text, 0);
-    let first = Reading::Done(Place {
+    let first = Ok(Place {
         token,
         nodes: 0,
         entries: 0,

@@ -1,5 +1,6 @@
 -- The cases of reading two texts, one law for each way through the code.
-use Rattle.std.proofs.Common.{◌≡◌, ℕ, ◌+◌, ◌-◌, ◌%◌, ◌^◌, ◌<◌, ◌≤◌, List, [], ◌∷◌, ◌++◌, map, length, get_or, take, drop, set, sym, refl, ap, ◌∙◌, add-one, arith, length-set, take-append-drop, length-take, drop-cons, get_or-take, take-suc, take-take, take-suc-set, drop-set-lt, rules}
+use Rattle.std.proofs.Common.{◌≡◌, ℕ, ◌+◌, ◌-◌, ◌%◌, ◌^◌, ◌<◌, ◌≤◌, List, [], ◌∷◌, ◌++◌, map, length, get_or, take, drop, set, sym, refl, ap, ◌∙◌, add-one, arith, length-set, length-take, drop-cons, get_or-take, take-suc, take-take, take-suc-set, drop-set-lt, rules}
+use lib.Seq.{take-length}
 use Rattle.form_rows.specs.Entries.{word_at}
 use Rattle.modules.specs.Modules.{heads_in}
 use Rattle.read_both.specs.Both.{shifted, moved, WordsOf}
@@ -78,10 +79,17 @@ module _ (by n : ℕ) (t₀ t : List ℕ) (i : ℕ) (v : Changing (shifted by) n
   unfolding shifted
   moving_again w u l e = changing_again (shifted by) n t₀ t i v w u l e
 
-  pub moving_end : n ≤ i → t ≡ moved by n t₀
-  unfolding moved
-  moving_end h =
-      let same : i ≡ n = omega (arith, v.within) in
-      sym (take-append-drop i t) ∙ rw (v.front, v.left, same)
+-- all of the first n are moved: e are those, and k of them have been
+pub moving_end : (by n : ℕ) (t e : List ℕ) (k : ℕ) → Changing (shifted by) (length (take (n - 0) t)) (take (n - 0) t) e k → length (take (n - 0) t) ≤ k
+    → e ++ drop (n - 0) (drop 0 t) ≡ moved by n t
+unfolding moved
+moving_end by n t e k v h =
+    let first = take (n - 0) t in
+    let all : k ≡ length first = omega (arith, v.within) in
+    let whole : k ≡ length e = omega (arith, v.kept, all) in
+    let front : e ≡ map (shifted by) first =
+    sym (take-length e) ∙ ap (λ (m : ℕ). take m e) (sym whole) ∙ v.front ∙ ap (λ (m : ℕ). map (shifted by) (take m first)) all ∙ ap (map (shifted by)) (take-length first) in
+    let plain : n - 0 ≡ n = omega arith in
+    ap (λ (x : List ℕ). x ++ drop (n - 0) t) front ∙ ap (λ (m : ℕ). map (shifted by) (take m t) ++ drop m t) plain
 
-pub ruleset cases = (changing_size, changing_room, words_none, words_again, words_end, moving_none, moving_again, moving_end, rules)
+pub ruleset cases = (changing_size, changing_room, words_none, words_again, words_end, moving_none, moving_again, rules)

@@ -1,6 +1,6 @@
 -- What two texts say on one tape: the library's entries, whose places are moved by the length of the customer's text, and behind them the
 -- customer's.
-use Rattle.std.specs.Prelude.{◌≡◌, ℕ, ◌+◌, ◌%◌, ◌^◌, ◌≤◌, List, ◌++◌, map, length, take, drop}
+use Rattle.std.specs.Prelude.{◌≡◌, ℕ, ◌+◌, ◌%◌, ◌^◌, ◌≤◌, List, Result, Ok, Err, ◌++◌, map, length, take, drop}
 use Rattle.meaning.specs.Numbers.{module_limit}
 use Rattle.meaning.specs.OrderLaws.{Every}
 use Rattle.meaning.specs.Syntax.{Module}
@@ -9,8 +9,7 @@ use Rattle.text_names.specs.Joint.{joint}
 use Rattle.tape.specs.Tape.{entries, flat_module, flat_modules}
 use Rattle.form_rows.specs.Entries.{word_at}
 use Rattle.read_meaning.specs.Matches.{Inside}
-use Rattle.read_both.specs.declared.Both.{Both}
-use Rattle.read_both.specs.declared.Both.TheVariants.{Done, Refused}
+use Rattle.read_both.specs.declared.NotRead.{NotRead}
 
 -- an entry moved by so much; on a tape that was read it stays below 2 ^ 32
 unfoldable pub shifted : ℕ → ℕ → ℕ
@@ -46,6 +45,10 @@ pub record Said (library text : List ℕ) (n : ℕ) (t : List ℕ) : Type 0 wher
   -- each module stands in one text
   pub small : Every (λ (m : Module). length (flat_module m) ≤ 32768) modules
 
+-- so many entries; or the first refusal
+abbrev pub Both : Type 0
+Both = Result ℕ NotRead
+
 abbrev pub Told : (library text t : List ℕ) → Both → Type 0
-Told library text t (Done n) = Said library text n t
-Told library text t (Refused in_library number place) = read_texts (two_texts library text) ≡ refused_in in_library number place
+Told library text t (Ok n) = Said library text n t
+Told library text t (Err m) = read_texts (two_texts library text) ≡ refused_in m.in_library m.number m.place

@@ -1,5 +1,5 @@
 -- From the tape of each text to the tape of both.
-use Rattle.std.specs.Prelude.{◌≡◌, ℕ, ◌+◌, ◌-◌, ◌*◌, ◌≤◌, min, true, false, List, [], ◌∷◌, ◌++◌, map, length, take, drop, refl}
+use Rattle.std.specs.Prelude.{◌≡◌, ℕ, ◌+◌, ◌-◌, ◌*◌, ◌≤◌, min, true, false, List, [], ◌∷◌, ◌++◌, Ok, Err, map, length, take, drop, refl}
 use Rattle.std.proofs.Math.Path.{sym, ap, subst}
 use Rattle.std.proofs.Common.{◌∙◌, take_at, length-take-le, eq-eqb, ne_eqb, Fits}
 use native.Mathlib.Omega.{arith}
@@ -23,8 +23,7 @@ use Rattle.text_names.specs.Joint.{joint}
 use Rattle.tape.specs.Tape.{Entry, entries, spelled, flat_module, flat_modules}
 use Rattle.form_rows.specs.Entries.{word_at}
 use Rattle.read_steps.specs.declared.Place.{Place}
-use Rattle.read_steps.specs.declared.Reading as Entries
-use Rattle.read_steps.specs.declared.Reading.TheVariants.{Done, Refused}
+use Rattle.read_steps.specs.declared.Misread.{Misread}
 use Rattle.read_steps.specs.Model.{Out, out}
 use Rattle.read_steps.specs.Model
 use Rattle.read_meaning.specs.Matches.{state}
@@ -91,7 +90,7 @@ module _ (library text : List ℕ) (n : ℕ) (t : List ℕ) (s : Stands library 
   unfolding text_size
   enough = omega (arith, part_size, s.within, s.short, s.room)
 
-  module _ (count : ℕ) (c : count ≡ h.count) (q : Entries.Reading) (u : List ℕ)
+  module _ (count : ℕ) (c : count ≡ h.count) (q : Model.Reading) (u : List ℕ)
       (e : out q u ≡ Model.read text (64 - count) (named_so library (take (count - 0) (drop 0 ws))) part) where
     e_so : out q u ≡ Model.read text (64 - length ls) (module_names ls) part
     e_so =
@@ -105,12 +104,12 @@ module _ (library text : List ℕ) (n : ℕ) (t : List ℕ) (s : Stands library 
     tape_so : (Model.read text (64 - length ls) (module_names ls) part).tape ≡ u
     tape_so = sym (ap (λ (o : Out). o.tape) e_so)
 
-    pub customer_refused : (k p : ℕ) → q ≡ Refused k p → read_texts (two_texts library text) ≡ refused_in false k p
+    pub customer_refused : (m : Misread) → q ≡ Err m → read_texts (two_texts library text) ≡ refused_in false m.number m.place
     unfolding read_behind behind
-    customer_refused k p d =
-        s.next ∙ ap (behind ls) (refused_meant text (64 - length ls) (module_names ls) part enough k p (answer_so ∙ d))
+    customer_refused m d =
+        s.next ∙ ap (behind ls) (refused_meant text (64 - length ls) (module_names ls) part enough m.number m.place (answer_so ∙ d))
 
-    module _ (p : Place) (d : q ≡ Done p) where
+    module _ (p : Place) (d : q ≡ Ok p) where
       abbrev m : ℕ
       m = p.entries
 
@@ -203,7 +202,7 @@ module _ (library text t : List ℕ) (room : 65536 ≤ length t) where
     unfolding text_size
     enough_first = omega (arith, room)
 
-    module _ (other ns : List ℕ) (none : ns ≡ []) (q : Entries.Reading) (u : List ℕ) (e : out q u ≡ Model.read library 64 (named_so other ns) t) where
+    module _ (other ns : List ℕ) (none : ns ≡ []) (q : Model.Reading) (u : List ℕ) (e : out q u ≡ Model.read library 64 (named_so other ns) t) where
       none_named : named_so other ns ≡ []
       unfolding named_so
       none_named = ap (map (name_of other)) none
@@ -211,13 +210,13 @@ module _ (library text t : List ℕ) (room : 65536 ≤ length t) where
       e_first : out q u ≡ Model.read library 64 [] t
       e_first = e ∙ ap (λ (x : List Name). Model.read library 64 x t) none_named
 
-      pub library_refused : (k p : ℕ) → q ≡ Refused k p → read_texts (two_texts library text) ≡ refused_in true k p
+      pub library_refused : (m : Misread) → q ≡ Err m → read_texts (two_texts library text) ≡ refused_in true m.number m.place
       unfolding library_first
-      library_refused k p d =
+      library_refused m d =
           first_so ∙ ap (λ (r : Result (List Module)). library_first r text)
-          (refused_meant library 64 [] t enough_first k p (sym (ap (λ (o : Out). o.answer) e_first) ∙ d))
+          (refused_meant library 64 [] t enough_first m.number m.place (sym (ap (λ (o : Out). o.answer) e_first) ∙ d))
 
-      pub library_stands : (p : Place) → q ≡ Done p → Stands library text p.entries u
+      pub library_stands : (p : Place) → q ≡ Ok p → Stands library text p.entries u
       unfolding library_first text_size
       library_stands p d =
           let meant = done_meant library 64 [] t enough_first p (sym (ap (λ (o : Out). o.answer) e_first) ∙ d) in

@@ -7,18 +7,17 @@ ghost use Rattle.read_both.specs.Both.{moved, WordsOf, Stands, Told};
 
 use module_heads::find_heads;
 use modules::{HEADS, Heads, module_count, name_of_module};
-use read_steps::Reading;
 
-// What was read: so many entries; or a refusal, in the library or in the customer's text.
+// A refusal, in the library or in the customer's text.
 #[derive(Clone, Copy)]
-pub enum Both {
-    Done(usize),
-    Refused {
-        in_library: bool,
-        number: u8,
-        place: usize,
-    },
+pub struct NotRead {
+    pub in_library: bool,
+    pub number: u8,
+    pub place: usize,
 }
+
+// What was read: so many entries; or the first refusal.
+pub type Both = Result<usize, NotRead>;
 
 // The words of the names of the modules at these heads, in place of where they begin.
 fn head_words(tape: &[u32], h: &mut Heads)
@@ -27,11 +26,9 @@ fn head_words(tape: &[u32], h: &mut Heads)
     ensures { WordsOf tape.now (heads_in h.old).places (heads_in h.old).count h.new }
 {
     let count = module_count(h);
-    let mut k: u32 = 0;
-    while k < count {
+    for k in 0..count {
         let word = name_of_module(tape, h, k);
         h[k as usize] = word;
-        k += 1;
     }
 }
 
@@ -40,10 +37,8 @@ fn move_entries(tape: &mut [u32], n: usize, by: u32)
     requires { n ≤ length tape.old }
     ensures { tape.new ≡ moved by n tape.old }
 {
-    let mut i = 0;
-    while i < n {
-        tape[i] = std::num::wrapping_add_u32(tape[i], by);
-        i += 1;
+    for entry in &mut tape[0..n] {
+        *entry = std::num::wrapping_add_u32(*entry, by);
     }
 }
 
@@ -58,15 +53,15 @@ fn read_customer(library: &[u8], text: &[u8], tape: &mut [u32], n: usize) -> Bot
     head_words(tape, &mut h);
     let end = tape.len();
     match read::read(text, library, &h[0..count], 64 - count, &mut tape[n..end]) {
-        Reading::Refused { number, place } => Both::Refused {
+        Err(e) => Err(NotRead {
             in_library: false,
-            number,
-            place,
-        },
-        Reading::Done(p) => {
+            number: e.number,
+            place: e.place,
+        }),
+        Ok(p) => {
             let m = p.entries;
             move_entries(tape, n, text.len() as u32 * 8192);
-            Both::Done(n + m)
+            Ok(n + m)
         }
     }
 }
@@ -81,12 +76,12 @@ pub fn read_both(library: &[u8], text: &[u8], tape: &mut [u32]) -> Both
     }
     let none = [0; 1];
     match read::read(library, &library[0..0], &none[0..0], 64, tape) {
-        Reading::Refused { number, place } => Both::Refused {
+        Err(e) => Err(NotRead {
             in_library: true,
-            number,
-            place,
-        },
-        Reading::Done(p) => {
+            number: e.number,
+            place: e.place,
+        }),
+        Ok(p) => {
             let n = p.entries;
             read_customer(library, text, tape, n)
         }

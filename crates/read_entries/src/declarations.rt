@@ -25,12 +25,10 @@ pub fn read_names(
     ensures { out result tape.new ≡ onward at tape.old (names text.now limit comma role) }
 {
     let mut here = at;
-    let mut left = limit;
-    while 0 < left {
+    for _ in 0..limit {
         let read = read_name(text, tape, here, role);
         if next_is(read, comma) {
             here = step(text, read);
-            left -= 1;
         } else {
             return read;
         }
@@ -46,11 +44,9 @@ fn read_functions(text: &[u8], tape: &mut [u32], at: Reading, role: u8) -> Readi
     ensures { out result tape.new ≡ onward at tape.old (many text.now text_size begins_function (function text.now role)) }
 {
     let mut here = at;
-    let mut left: usize = numbers::TEXT_SIZE;
-    while 0 < left {
+    for _ in 0..numbers::TEXT_SIZE {
         if begins_function(here) {
             here = read_function(text, tape, here, role);
-            left -= 1;
         } else {
             return here;
         }
@@ -127,12 +123,10 @@ fn read_parameters(text: &[u8], tape: &mut [u32], at: Reading) -> Reading
     ensures { out result tape.new ≡ onward at tape.old (parameters text.now) }
 {
     let mut here = at;
-    let mut left: usize = numbers::TEXT_SIZE;
-    while 0 < left {
+    for _ in 0..numbers::TEXT_SIZE {
         let read = read_parameter(text, tape, here);
         if next_is(read, b',') {
             here = step(text, read);
-            left -= 1;
         } else {
             return read;
         }

@@ -25,12 +25,10 @@ fn pair_list(text: &[u8], tape: &mut [u32], at: Reading) -> Reading
     ensures { out result tape.new ≡ onward at tape.old (separated text.now pair_limit (byte ",") begins_function (pair text.now)) }
 {
     let mut here = at;
-    let mut left: usize = numbers::PAIR_LIMIT;
-    while 0 < left {
+    for _ in 0..numbers::PAIR_LIMIT {
         let read = read_pair(text, tape, here);
         if next_is(read, b',') {
             here = step(text, read);
-            left -= 1;
         } else {
             return read;
         }
@@ -74,11 +72,9 @@ fn read_bindings(text: &[u8], tape: &mut [u32], at: Reading) -> Reading
     ensures { out result tape.new ≡ onward at tape.old (many text.now binding_limit is_name (bound text.now)) }
 {
     let mut here = at;
-    let mut left: usize = numbers::BINDING_LIMIT;
-    while 0 < left {
+    for _ in 0..numbers::BINDING_LIMIT {
         if next_is(here, text_tokens::IDENT) {
             here = read_bound(text, tape, here);
-            left -= 1;
         } else {
             return here;
         }
@@ -143,12 +139,10 @@ fn read_imports(text: &[u8], tape: &mut [u32], at: Reading) -> Reading
     ensures { out result tape.new ≡ onward at tape.old (imports text.now) }
 {
     let mut here = at;
-    let mut left: usize = numbers::IMPORT_LIMIT;
-    while 0 < left {
+    for _ in 0..numbers::IMPORT_LIMIT {
         let read = read_import(text, tape, here);
         if next_is(read, b',') {
             here = step(text, read);
-            left -= 1;
         } else {
             return read;
         }

@@ -1,15 +1,14 @@
 -- The cases of equations, one for each way through the code.
 use mathlib.Core.Path.{◌≡◌, refl}
 use borrow.Author.Rules.{rules}
+use Rattle.std.specs.Prelude.{Ok}
 use Rattle.read_steps.specs.declared.Place.{Place}
-use Rattle.read_steps.specs.declared.Reading.{Reading}
-use Rattle.read_steps.specs.declared.Reading.TheVariants.{Done}
-use Rattle.read_steps.specs.Model.{place, onward, no_nodes}
+use Rattle.read_steps.specs.Model.{Reading, place, onward, no_nodes}
 use Rattle.read_steps.specs.Steps.{still, Quiet}
 use Rattle.read_steps.proofs.Cases.{refused_still}
 
 -- an equation begins with no node
-pub nodes_none : (r : Reading) (p : Place) → r ≡ Done p → Done (place p.token 0 p.entries) ≡ still no_nodes r
+pub nodes_none : (r : Reading) (p : Place) → r ≡ Ok p → Ok (place p.token 0 p.entries) ≡ still no_nodes r
 unfolding still onward no_nodes
 nodes_none r p e = rw e
 

@@ -28,11 +28,9 @@ fn read_groups(text: &[u8], tape: &mut [u32], at: Reading) -> Reading
     ensures { out result tape.new ≡ onward at tape.old (many text.now text_size is_name (variable_group text.now)) }
 {
     let mut here = at;
-    let mut left: usize = numbers::TEXT_SIZE;
-    while 0 < left {
+    for _ in 0..numbers::TEXT_SIZE {
         if next_is(here, text_tokens::IDENT) {
             here = read_group(text, tape, here);
-            left -= 1;
         } else {
             return here;
         }
@@ -103,12 +101,10 @@ fn read_conditions(text: &[u8], tape: &mut [u32], at: Reading) -> Reading
     ensures { out result tape.new ≡ onward at tape.old (separated text.now condition_limit (byte ",") begins_term (sides text.now (mark condition_role))) }
 {
     let mut here = at;
-    let mut left: usize = numbers::CONDITION_LIMIT;
-    while 0 < left {
+    for _ in 0..numbers::CONDITION_LIMIT {
         let read = read_sides(text, tape, here, roles::CONDITION);
         if next_is(read, b',') {
             here = step(text, read);
-            left -= 1;
         } else {
             return read;
         }
@@ -135,12 +131,10 @@ fn read_premises(text: &[u8], tape: &mut [u32], at: Reading) -> Reading
     ensures { out result tape.new ≡ onward at tape.old (separated text.now 7 (byte ",") begins_term (sides text.now by_next)) }
 {
     let mut here = at;
-    let mut left: usize = numbers::CONDITION_LIMIT - 1;
-    while 0 < left {
+    for _ in 0..numbers::CONDITION_LIMIT - 1 {
         let read = open_sides(text, tape, here);
         if next_is(read, b',') {
             here = step(text, read);
-            left -= 1;
         } else {
             return read;
         }
@@ -170,18 +164,8 @@ fn equation_after(text: &[u8], tape: &mut [u32], at: Reading) -> Reading
 fn no_nodes(at: Reading) -> Reading
     ensures { result ≡ still no_nodes at }
 {
-    match at {
-        Reading::Refused { number, place } => Reading::Refused { number, place },
-        Reading::Done(p) => {
-            let token = p.token;
-            let entries = p.entries;
-            Reading::Done(Place {
-                token,
-                nodes: 0,
-                entries,
-            })
-        }
-    }
+    let p = at?;
+    Ok(Place { nodes: 0, ..p })
 }
 
 fn read_equation(text: &[u8], tape: &mut [u32], at: Reading) -> Reading
@@ -200,11 +184,9 @@ fn read_equations(text: &[u8], tape: &mut [u32], at: Reading) -> Reading
     ensures { out result tape.new ≡ onward at tape.old (many text.now text_size (is (byte "[")) (equation text.now)) }
 {
     let mut here = at;
-    let mut left: usize = numbers::TEXT_SIZE;
-    while 0 < left {
+    for _ in 0..numbers::TEXT_SIZE {
         if next_is(here, b'[') {
             here = read_equation(text, tape, here);
-            left -= 1;
         } else {
             return here;
         }

@@ -11,14 +11,14 @@ use lib.Dec.{eqb, leb}
 use lib.ListN.{get_or}
 use borrow.Author.Rules.{rules}
 use borrow.Author.Tests.{eq-eqb, ne_eqb, le-leb, lt-leb}
+use Rattle.std.specs.Prelude.{Ok, Err}
 use Rattle.types.specs.declared.Token.{Token}
 use Rattle.meaning.specs.Lists.{pick}
 use Rattle.meaning.specs.Tokens.{token_at}
 use Rattle.meaning.specs.Grammar.{is}
 use Rattle.read_steps.specs.declared.Place.{Place}
-use Rattle.read_steps.specs.declared.Reading.{Reading}
-use Rattle.read_steps.specs.declared.Reading.TheVariants.{Done, Refused}
-use Rattle.read_steps.specs.Model.{Out, out, place, Writer, onward, stay, refuse, unexpected, if_next, counted, name, node_role, term_name}
+use Rattle.read_steps.specs.declared.Misread.{Misread}
+use Rattle.read_steps.specs.Model.{Reading, misread, Out, out, place, Writer, onward, stay, refuse, unexpected, if_next, counted, name, node_role, term_name}
 use Rattle.read_steps.specs.Steps.{still, next_passes, next_role, entries_of}
 use Rattle.read_kept.specs.Kept.{kept}
 use Rattle.read_steps.proofs.Laws.{laws, next_yes, next_no}
@@ -35,35 +35,35 @@ module _ (s : List ℕ) (t u : Token) (g : u ≡ token_at s t.end) where
   role_alone k = rw (← g, ne_eqb u.kind 40 k)
 
 -- what the name that is next is
-pub role_none : (s : List ℕ) (r : Reading) (k q : ℕ) → r ≡ Refused k q → 20 ≡ next_role s r
+pub role_none : (s : List ℕ) (r : Reading) (m : Misread) → r ≡ Err m → 20 ≡ next_role s r
 unfolding next_role
-role_none s r k q e = rw e
+role_none s r m e = rw e
 
-pub role_next : (s : List ℕ) (r : Reading) (p : Place) (n : ℕ) → r ≡ Done p → n ≡ node_role s p.token → n ≡ next_role s r
+pub role_next : (s : List ℕ) (r : Reading) (p : Place) (n : ℕ) → r ≡ Ok p → n ≡ node_role s p.token → n ≡ next_role s r
 unfolding next_role
 role_next s r p n e h = rw (e, h)
 
 -- one node more
-module _ (r : Reading) (p : Place) (e : r ≡ Done p) where
-  pub counted_full : (q : Reading) → 64 ≤ p.nodes → q ≡ still (refuse 4) (Done p) → q ≡ still (counted stay) r
+module _ (r : Reading) (p : Place) (e : r ≡ Ok p) where
+  pub counted_full : (q : Reading) → 64 ≤ p.nodes → q ≡ still (refuse 4) r → q ≡ still (counted stay) r
   unfolding still onward counted pick
-  counted_full q h g = rw e (g ∙ ap (λ (o : Out). o.answer) go)
+  counted_full q h g = rw e ((rw e at g) ∙ ap (λ (o : Out). o.answer) go)
     where
       go : refuse 4 p [] ≡ counted stay p []
       go = rw (le-leb 64 p.nodes h)
 
-  pub counted_more : p.nodes < 64 → Done (place p.token (p.nodes + 1) p.entries) ≡ still (counted stay) r
+  pub counted_more : p.nodes < 64 → Ok (place p.token (p.nodes + 1) p.entries) ≡ still (counted stay) r
   unfolding still onward counted stay pick
   counted_more h = rw e (ap (λ (o : Out). o.answer) go)
     where
-      go : out (Done (place p.token (p.nodes + 1) p.entries)) [] ≡ counted stay p []
+      go : out (Ok (place p.token (p.nodes + 1) p.entries)) [] ≡ counted stay p []
       go = rw (lt-leb 64 p.nodes h, ← add-one p.nodes)
 
 -- what is read after a node is counted: c comes of counting
 pub counted_then : (r c : Reading) (t : List ℕ) (o : Out) (f : Writer) → c ≡ still (counted stay) r → o ≡ onward c t f → o ≡ onward r t (counted f)
 unfolding still onward counted stay refuse pick
-counted_then (Refused k q) c t o f e h = rw e at h
-counted_then (Done p) c t o f e h = (rw e at h) ∙ go (leb 64 p.nodes)
+counted_then (Err x) c t o f e h = rw e at h
+counted_then (Ok p) c t o f e h = (rw e at h) ∙ go (leb 64 p.nodes)
   where
     more : Place
     more = place p.token (suc p.nodes) p.entries
@@ -76,8 +76,8 @@ counted_then (Done p) c t o f e h = (rw e at h) ∙ go (leb 64 p.nodes)
 pub counted_same : (test : ℕ → Bool) (f g : Writer) (r c : Reading) (b : Bool) (t : List ℕ) (o : Out)
     → b ≡ next_passes test r → b ≡ true → c ≡ still (counted stay) r → o ≡ onward c t f → o ≡ onward c t (if_next test f g)
 unfolding still onward next_passes if_next counted stay refuse pick
-counted_same test f g (Refused k q) c b t o e y n h = rw n (rw n at h)
-counted_same test f g (Done p) c b t o e y n h = rw n (go (leb 64 p.nodes) (rw n at h))
+counted_same test f g (Err x) c b t o e y n h = rw n (rw n at h)
+counted_same test f g (Ok p) c b t o e y n h = rw n (go (leb 64 p.nodes) (rw n at h))
   where
     more : Place
     more = place p.token (suc p.nodes) p.entries
@@ -95,8 +95,8 @@ module _ (s : List ℕ) (r : Reading) (b : Bool) (e : b ≡ next_passes (is 1) r
   name_counted role c y g n h = next_yes (is 1) (λ p t. counted (name s (node_role s p.token)) p t) unexpected r b e t o y (go r g n)
     where
       go : (r : Reading) → role ≡ next_role s r → c ≡ still (counted stay) r → o ≡ onward r t (λ p t. counted (name s (node_role s p.token)) p t)
-      go (Refused k q) g n = rw n at h
-      go (Done p) g n = counted_then (Done p) c t o (name s (node_role s p.token)) n (rw g at h)
+      go (Err x) g n = rw n at h
+      go (Ok p) g n = counted_then (Ok p) c t o (name s (node_role s p.token)) n (rw g at h)
 
   pub name_bad : b ≡ false → o ≡ onward r t unexpected → o ≡ onward r t (term_name s)
   unfolding term_name
@@ -105,11 +105,11 @@ module _ (s : List ℕ) (r : Reading) (b : Bool) (e : b ≡ next_passes (is 1) r
 -- ---- where reading is, as six words
 
 pub kept_done : (w : List ℕ) → get_or w 0 0 ≡ 0
-    → Done (place (record { kind = get_or w 1 0 % 256; start = get_or w 2 0; end = get_or w 3 0 }) (get_or w 4 0) (get_or w 5 0)) ≡ kept w
+    → Ok (place (record { kind = get_or w 1 0 % 256; start = get_or w 2 0; end = get_or w 3 0 }) (get_or w 4 0) (get_or w 5 0)) ≡ kept w
 unfolding kept pick
 kept_done w e = rw (eq-eqb (get_or w 0 0) 0 e)
 
-pub kept_refused : (w : List ℕ) → (get_or w 0 0 ≡ 0 → ⊥) → Refused ((get_or w 0 0 - 1) % 256) (get_or w 2 0) ≡ kept w
+pub kept_refused : (w : List ℕ) → (get_or w 0 0 ≡ 0 → ⊥) → misread ((get_or w 0 0 - 1) % 256) (get_or w 2 0) ≡ kept w
 unfolding kept pick
 kept_refused w e = rw (ne_eqb (get_or w 0 0) 0 e)
 
@@ -122,20 +122,23 @@ pub entries_none : (w : List ℕ) → (get_or w 0 0 ≡ 0 → ⊥) → 0 ≡ ent
 unfolding entries_of kept pick
 entries_none w e = rw (ne_eqb (get_or w 0 0) 0 e)
 
-pub words_refused : (r : Reading) (k q : ℕ) → r ≡ Refused k q → Fits w8 k → kept ((k + 1) ∷ 0 ∷ q ∷ 0 ∷ 0 ∷ 0 ∷ []) ≡ r
+pub words_refused : (r : Reading) (m : Misread) → r ≡ Err m → Fits w8 m.number → kept ((m.number + 1) ∷ 0 ∷ m.place ∷ 0 ∷ 0 ∷ 0 ∷ []) ≡ r
 unfolding kept pick
-words_refused r k q e f = rw e go
+words_refused r m e f = rw e go
   where
+    k : ℕ
+    k = m.number
+
     some : k + 1 ≡ 0 → ⊥
     some = λ z. omega (arith, z)
 
     back : (k + 1 - 1) % 256 ≡ k
     back = omega (arith, f.fits)
 
-    go : pick (eqb (k + 1) 0) (Done (place (record { kind = 0; start = q; end = 0 }) 0 0)) (Refused ((k + 1 - 1) % 256) q) ≡ Refused k q
+    go : pick (eqb (k + 1) 0) (Ok (place (record { kind = 0; start = m.place; end = 0 }) 0 0)) (misread ((k + 1 - 1) % 256) m.place) ≡ Err m
     go = rw (ne_eqb (k + 1) 0 some, back)
 
-pub words_done : (r : Reading) (p : Place) → r ≡ Done p → Fits w8 p.token.kind
+pub words_done : (r : Reading) (p : Place) → r ≡ Ok p → Fits w8 p.token.kind
     → kept (0 ∷ p.token.kind ∷ p.token.start ∷ p.token.end ∷ p.nodes ∷ p.entries ∷ []) ≡ r
 unfolding kept pick
 words_done r p e f = rw e go
@@ -143,7 +146,7 @@ words_done r p e f = rw e go
     back : p.token.kind % 256 ≡ p.token.kind
     back = omega (arith, f.fits)
 
-    go : Done (place (record { kind = p.token.kind % 256; start = p.token.start; end = p.token.end }) p.nodes p.entries) ≡ Done p
+    go : ◌≡◌ {A = Reading} (Ok (place (record { kind = p.token.kind % 256; start = p.token.start; end = p.token.end }) p.nodes p.entries)) (Ok p)
     go = rw back
 
 -- what is learnt of the answer a that the words say is learnt of what they say, q; m is what comes of it, and v what is kept then

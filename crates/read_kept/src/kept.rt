@@ -7,7 +7,7 @@ ghost use Rattle.read_kept.specs.Kept.{kept};
 
 use meaning::numbers;
 use read_steps::steps::{begins_term, next_is, refuse, unexpected};
-use read_steps::{Place, Reading};
+use read_steps::{Misread, Place, Reading};
 use types::Token;
 
 // The words of an answer.
@@ -15,11 +15,11 @@ pub fn words(at: Reading) -> [usize; 6]
     ensures { kept result ≡ at }
 {
     match at {
-        Reading::Refused { number, place } => [number as usize + 1, 0, place, 0, 0, 0],
-        Reading::Done(p) => {
+        Ok(p) => {
             let t = p.token;
             [0, t.kind as usize, t.start, t.end, p.nodes, p.entries]
         }
+        Err(e) => [e.number as usize + 1, 0, e.place, 0, 0, 0],
     }
 }
 
@@ -35,16 +35,16 @@ pub fn kept(state: &[usize; 6]) -> Reading
             start,
             end: state[3],
         };
-        return Reading::Done(Place {
+        return Ok(Place {
             token,
             nodes: state[4],
             entries: state[5],
         });
     }
-    Reading::Refused {
+    Err(Misread {
         number: ((number - 1) % 256) as u8,
         place: start,
-    }
+    })
 }
 
 pub fn keep(state: &mut [usize; 6], at: Reading)

@@ -28,22 +28,15 @@ fn node_role(text: &[u8], t: Token) -> u8
 pub fn counted(at: Reading) -> Reading
     ensures { result ≡ still (counted stay) at }
 {
-    match at {
-        Reading::Refused { number, place } => Reading::Refused { number, place },
-        Reading::Done(p) => {
-            let nodes = p.nodes;
-            if numbers::NODE_LIMIT <= nodes {
-                return refuse(at, numbers::OVER_SIZE);
-            }
-            let token = p.token;
-            let entries = p.entries;
-            Reading::Done(Place {
-                token,
-                nodes: nodes + 1,
-                entries,
-            })
-        }
+    let p = at?;
+    let nodes = p.nodes;
+    if numbers::NODE_LIMIT <= nodes {
+        return refuse(at, numbers::OVER_SIZE);
     }
+    Ok(Place {
+        nodes: nodes + 1,
+        ..p
+    })
 }
 
 // What the name that is next is.
@@ -51,11 +44,8 @@ fn next_role(text: &[u8], at: Reading) -> u8
     ensures { result ≡ next_role text.now at }
 {
     match at {
-        Reading::Refused { number, place } => roles::ALONE,
-        Reading::Done(p) => {
-            let token = p.token;
-            node_role(text, token)
-        }
+        Ok(p) => node_role(text, p.token),
+        Err(_) => roles::ALONE,
     }
 }
 

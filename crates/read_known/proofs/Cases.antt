@@ -1,31 +1,18 @@
--- One law for each way through the code: b is what a test said.
-use mathlib.Core.Path.{◌≡◌}
-use mathlib.Core.Bool.{Bool, true, false}
-use mathlib.Core.List.{List}
-use Prim.Native.Nat.{ℕ, ◌+◌, ◌<◌, ◌≤◌}
-use native.Mathlib.Numerals.{add-one}
-use lib.ListN.{length, get_or, drop, drop_of_length-le}
-use lib.Seq.{drop-cons}
-use borrow.Author.Rules.{rules}
+-- The library's names asked for one by one.
+use Rattle.std.proofs.Common.{◌≡◌, ℕ, Bool, true, false, ◌||◌, List, [], ◌∷◌, refl, ap, ◌∙◌}
+use Rattle.std.specs.List.{list_any}
 use Rattle.meaning.specs.Lists.{pick}
 use Rattle.meaning.specs.Names.{Name, same, member}
 use Rattle.text_names.specs.Word.{name_of}
 use Rattle.read_known.specs.Known.{named_so}
 
--- the words of the library's names from i on are left
-module _ (n : Name) (library heads : List ℕ) (i : ℕ) where
-  pub known_here : (b : Bool) → i < length heads → b ≡ same n (name_of library (get_or heads i 0)) → b ≡ true
-      → member n (named_so library (drop i heads)) ≡ true
-  unfolding named_so member pick
-  known_here b h e y = rw (drop-cons heads i 0 h, ← e, y)
+or_pick : (a b : Bool) → (a || b) ≡ pick a true b
+unfolding pick
+or_pick true b = refl
+or_pick false b = refl
 
-  pub known_later : (b : Bool) → i < length heads → b ≡ same n (name_of library (get_or heads i 0)) → b ≡ false
-      → member n (named_so library (drop i heads)) ≡ member n (named_so library (drop (i + 1) heads))
-  unfolding named_so member pick
-  known_later b h e y = rw (drop-cons heads i 0 h, ← e, y, add-one i)
-
-  pub known_end : length heads ≤ i → member n (named_so library (drop i heads)) ≡ false
-  unfolding named_so member
-  known_end h = rw (drop_of_length-le heads h)
-
-pub ruleset cases = (known_here, known_later, known_end, rules)
+pub known_any : (n : Name) (library heads : List ℕ) → list_any (λ v. same n (name_of library v)) heads ≡ member n (named_so library heads)
+unfolding named_so member
+known_any n library [] = refl
+known_any n library (v ∷ vs) =
+    ap (λ (b : Bool). same n (name_of library v) || b) (known_any n library vs) ∙ or_pick (same n (name_of library v)) (member n (named_so library vs))

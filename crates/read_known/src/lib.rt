@@ -10,12 +10,5 @@ ghost use Rattle.read_known.specs.Known.{named_so};
 pub fn is_known(library: &[u8], heads: &[u32], text: &[u8], w: u32) -> bool
     ensures { result ≡ member (name_of text.now w) (named_so library.now heads.now) }
 {
-    let mut i = 0;
-    while i < heads.len() {
-        if text_names::joint::same_between(library, heads[i], text, w) {
-            return true;
-        }
-        i += 1;
-    }
-    false
+    heads.iter().any(|head| text_names::joint::same_between(library, *head, text, w))
 }

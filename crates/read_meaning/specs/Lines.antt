@@ -1,5 +1,5 @@
 -- How the lines of a rule compose: what reads as its counterpart does, line by line, reads so as a rule.
-use Rattle.std.specs.Prelude.{◌≡◌, ℕ, ◌+◌, ◌≤◌, Bool}
+use Rattle.std.specs.Prelude.{◌≡◌, ℕ, ◌+◌, ◌≤◌, Bool, Ok, Err}
 use Rattle.std.proofs.Math.Path.{refl, sym}
 use Rattle.std.proofs.Math.Bool.{true, false}
 use mathlib.Core.List.{List, [], ◌++◌, append-nil}
@@ -8,10 +8,8 @@ use Rattle.meaning.specs.Lists.{pick}
 use Rattle.meaning.specs.Grammar.{State, Result, done, refused, Parser, after, ◌>>=◌, return}
 use Rattle.meaning.specs.Grammar
 use Rattle.read_steps.specs.declared.Place.{Place}
-use Rattle.read_steps.specs.declared.Reading.{Reading}
-use Rattle.read_steps.specs.declared.Reading.TheVariants.{Done, Refused}
 use Rattle.tape.specs.Tape.{Entry, entries}
-use Rattle.read_steps.specs.Model.{Out, Writer, onward, ◌>>◌, place}
+use Rattle.read_steps.specs.Model.{Reading, Out, Writer, onward, ◌>>◌, place}
 use Rattle.read_steps.specs.Model
 use Rattle.read_meaning.specs.Matches.{Ready, state, Meaning, Matches, both_done, both_refused, Reads, means, next_ready, and_then}
 
@@ -25,8 +23,8 @@ whether false f g = g refl
 pub regroup : (a : Reading) (u : List ℕ) (X Y : Writer)
     → onward (onward a u X).answer (onward a u X).tape Y ≡ onward a u (X >> Y)
 unfolding onward ◌>>◌
-regroup (Done q) u X Y = refl
-regroup (Refused m n) u X Y = refl
+regroup (Ok q) u X Y = refl
+regroup (Err e) u X Y = refl
 
 ended : {A : Type 0} (r : Result A) → after r (λ a. return a) ≡ r
 unfolding after return

@@ -1,6 +1,6 @@
 -- When a rule of the model, which writes the tape, reads as a rule of the grammar does, which gives the syntax: both refuse with one number
 -- at one place, or both go on from one state, and the entries that were written are those of the syntax.
-use Rattle.std.specs.Prelude.{◌≡◌, ℕ, ◌+◌, ◌/◌, ◌%◌, ◌≤◌, min, length, take}
+use Rattle.std.specs.Prelude.{◌≡◌, ℕ, ◌+◌, ◌/◌, ◌%◌, ◌≤◌, min, Ok, length, take}
 use Rattle.std.proofs.Math.Path.{ap}
 use Rattle.std.proofs.Common.{◌∙◌, arith}
 use mathlib.Core.List.{List, ◌++◌, append_assoc}
@@ -12,9 +12,8 @@ use Rattle.meaning.specs.Tokens.{token_at}
 use Rattle.meaning.specs.OrderLaws.{Every}
 use Rattle.meaning.specs.Grammar.{State, Result, done, refused, Parser, after}
 use Rattle.read_steps.specs.declared.Place.{Place}
-use Rattle.read_steps.specs.declared.Reading.TheVariants.{Done, Refused}
 use Rattle.tape.specs.Tape.{Entry, entries}
-use Rattle.read_steps.specs.Model.{Out, out, Writer, onward}
+use Rattle.read_steps.specs.Model.{misread, Out, out, Writer, onward}
 
 -- a token of the text
 pub record Stands (text : List ℕ) (t : Token) : Type 0 where
@@ -58,8 +57,8 @@ Meaning A = A → State → List Entry → Type 0
 -- the two outcomes from the place p and the tape t are one
 pub data Matches {A : Type 0} (text : List ℕ) (i j : ℕ) (Φ : Meaning A) (p : Place) (t : List ℕ) : Out → Result A → Type 0 where
   both_done : (a : A) (q : Place) (u : List ℕ) (es : List Entry) → Φ a (state q) es → Step text i j p t q u es
-      → Matches text i j Φ p t (out (Done q) u) (done a (state q))
-  both_refused : (k n : ℕ) (u : List ℕ) → length u ≡ length t → Matches text i j Φ p t (out (Refused k n) u) (refused k n)
+      → Matches text i j Φ p t (out (Ok q) u) (done a (state q))
+  both_refused : (k n : ℕ) (u : List ℕ) → length u ≡ length t → Matches text i j Φ p t (out (misread k n) u) (refused k n)
 
 -- the writer reads as the parser does, from wherever it may start
 pub record Reads {A : Type 0} (text : List ℕ) (i j : ℕ) (W : Writer) (P : Parser A) (Φ : Meaning A) : Type 0 where

@@ -1,5 +1,5 @@
 -- What the tape says is what the text means: the grammar that writes the tape reads a text as the meaning's grammar does.
-use Rattle.std.specs.Prelude.{◌≡◌, ℕ, ◌≤◌, min, true, false, leb, length, drop, replicate}
+use Rattle.std.specs.Prelude.{◌≡◌, ℕ, ◌≤◌, min, true, false, Ok, leb, length, drop, replicate}
 use Rattle.std.proofs.Math.Path.{refl}
 use Rattle.std.proofs.Common.{ap, ◌∙◌, arith, leb-true}
 use Rattle.std.proofs.lemmas.Bool.{false≢true}
@@ -12,9 +12,9 @@ use Rattle.meaning.specs.Syntax.{Module}
 use Rattle.meaning.specs.Grammar.{Result, done, refused}
 use Rattle.meaning.specs.Grammar
 use Rattle.read_steps.specs.declared.Place.{Place}
-use Rattle.read_steps.specs.declared.Reading.TheVariants.{Done, Refused}
+use Rattle.read_steps.specs.declared.Misread.{Misread}
 use Rattle.tape.specs.Tape.{entries, flat_modules}
-use Rattle.read_steps.specs.Model.{Out, out, place, wiped}
+use Rattle.read_steps.specs.Model.{misread, Out, out, place, wiped}
 use Rattle.read_steps.specs.Model
 use Rattle.read_meaning.specs.Matches.{Inside, Ready, Step, state, Matches, both_done, both_refused, means, next_ready}
 use Rattle.read_meaning.specs.Lines.{whether}
@@ -34,8 +34,8 @@ pub record Says (text : List ℕ) (ms : List Module) (t : List ℕ) (p : Place) 
 -- of one text, what the model leaves of the lent tape t and what the grammar reads: the modules that the tape says, or one refusal and a
 -- tape of zeros
 pub data Agree (text t : List ℕ) : Out → Result (List Module) → Type 0 where
-  both_read : (ms : List Module) (p : Place) (u : List ℕ) → Says text ms t p u → Agree text t (out (Done p) u) (done ms (state p))
-  both_refuse : (k q : ℕ) → Agree text t (out (Refused k q) (replicate (length t) 0)) (refused k q)
+  both_read : (ms : List Module) (p : Place) (u : List ℕ) → Says text ms t p u → Agree text t (out (Ok p) u) (done ms (state p))
+  both_refuse : (k q : ℕ) → Agree text t (out (misread k q) (replicate (length t) 0)) (refused k q)
 
 module _ {text : List ℕ} where
   says : {ms : List Module} {p q : Place} {t u : List ℕ} → entries text p.entries t ≡ [] → Inside text p.entries t → Ready text 0 p t
@@ -83,7 +83,7 @@ pub record Meant (text t : List ℕ) (p : Place) (u : List ℕ) (r : Result (Lis
   pub says : Says text modules t p u
 
 module _ {text t : List ℕ} where
-  means_read : (p : Place) (o : Out) (r : Result (List Module)) → Agree text t o r → o.answer ≡ Done p → Meant text t p o.tape r
+  means_read : (p : Place) (o : Out) (r : Result (List Module)) → Agree text t o r → o.answer ≡ Ok p → Meant text t p o.tape r
   means_read p o r (both_read ns q u w) e =
       let same : q ≡ p = cc in
       record { modules = ns; read = cc; says = rw same at w }
@@ -91,13 +91,15 @@ module _ {text t : List ℕ} where
       let never : false ≡ true = cc in
       absurd (false≢true never)
 
-  means_refused : (k q : ℕ) (o : Out) (r : Result (List Module)) → Agree text t o r → o.answer ≡ Refused k q → r ≡ refused k q
+  means_refused : (k q : ℕ) (o : Out) (r : Result (List Module)) → Agree text t o r → o.answer ≡ misread k q → r ≡ refused k q
   means_refused k q o r (both_read ns p u w) e = cc
-  means_refused k q o r (both_refuse m n) e = cc
+  means_refused k q o r (both_refuse m n) e =
+      let same : ◌≡◌ {A = Misread} (record { number = m; place = n }) (record { number = k; place = q }) = cc in
+      λ i. refused (same i).number (same i).place
 
 module _ (text : List ℕ) (n : ℕ) (before : List Name) (t : List ℕ) (h : min (length text) text_size ≤ length t) where
-  pub done_meant : (p : Place) → (Model.read text n before t).answer ≡ Done p → Meant text t p (Model.read text n before t).tape (Grammar.read text n before)
+  pub done_meant : (p : Place) → (Model.read text n before t).answer ≡ Ok p → Meant text t p (Model.read text n before t).tape (Grammar.read text n before)
   done_meant p e = means_read p _ _ (read_meant text n before t h) e
 
-  pub refused_meant : (k q : ℕ) → (Model.read text n before t).answer ≡ Refused k q → Grammar.read text n before ≡ refused k q
+  pub refused_meant : (k q : ℕ) → (Model.read text n before t).answer ≡ misread k q → Grammar.read text n before ≡ refused k q
   refused_meant k q e = means_refused k q _ _ (read_meant text n before t h) e

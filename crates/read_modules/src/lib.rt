@@ -28,50 +28,34 @@ fn declares(text: &[u8], w: u32, entry: u32) -> bool
 fn is_taken(text: &[u8], tape: &[u32], w: u32, n: usize) -> bool
     ensures { result ≡ taken text.now w n tape.now }
 {
-    let mut i = 0;
-    while i < n {
-        if tape.len() <= i {
-            return false;
-        }
-        if declares(text, w, tape[i]) {
-            return true;
-        }
-        i += 1;
-    }
-    false
+    tape.iter().take(n).any(|entry| declares(text, w, *entry))
 }
 
 // Refused at `at`, if reading went on from there.
 fn twice(at: Reading, read: Reading) -> Reading
     ensures { result ≡ twice at read }
 {
-    match read {
-        Reading::Refused { number, place } => Reading::Refused { number, place },
-        Reading::Done(p) => refuse(at, numbers::MODULE_TWICE),
-    }
+    read?;
+    refuse(at, numbers::MODULE_TWICE)
 }
 
 // A name that no earlier module has, nor one of the library, where these are the heads' words.
 fn fresh_name(text: &[u8], library: &[u8], heads: &[u32], tape: &mut [u32], at: Reading) -> Reading
     ensures { out result tape.new ≡ onward at tape.old (fresh_name text.now (named_so library.now heads.now)) }
 {
-    match at {
-        Reading::Refused { number, place } => Reading::Refused { number, place },
-        Reading::Done(p) => {
-            let n = p.entries;
-            let w = next_word(at);
-            let again = is_taken(text, tape, w, n);
-            let known = is_known(library, heads, text, w);
-            let a = read_name(text, tape, at, roles::MODULE);
-            if again {
-                return twice(at, a);
-            }
-            if known {
-                return twice(at, a);
-            }
-            a
-        }
+    let p = at?;
+    let n = p.entries;
+    let w = next_word(at);
+    let again = is_taken(text, tape, w, n);
+    let known = is_known(library, heads, text, w);
+    let a = read_name(text, tape, at, roles::MODULE);
+    if again {
+        return twice(at, a);
     }
+    if known {
+        return twice(at, a);
+    }
+    a
 }
 
 // What a module declares before its hidden section.
@@ -131,14 +115,11 @@ pub fn read_modules(
     ensures { out result tape.new ≡ onward at tape.old (modules text.now limit (named_so library.now heads.now)) }
 {
     let mut here = at;
-    let mut left: usize = limit;
-    while 0 < left {
-        let read = read_module(text, library, heads, tape, here);
-        if next_is(read, text_tokens::END_OF_TEXT) {
-            return read;
+    for _ in 0..limit {
+        here = read_module(text, library, heads, tape, here);
+        if next_is(here, text_tokens::END_OF_TEXT) {
+            return here;
         }
-        here = read;
-        left -= 1;
     }
     if next_is(here, text_tokens::MODULE_KEY) {
         return refuse(here, numbers::OVER_SIZE);

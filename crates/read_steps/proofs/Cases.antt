@@ -10,6 +10,7 @@ use borrow.Author.Rules.{rules}
 use mir.Syntax.{w32}
 use mir.Val.{Fits}
 use borrow.Author.Tests.{lt-ltb, le-ltb}
+use Rattle.std.specs.Prelude.{Ok, Err}
 use Rattle.types.specs.declared.Token.{Token}
 use Rattle.meaning.specs.Lists.{pick}
 use Rattle.meaning.specs.Names.{same}
@@ -17,18 +18,17 @@ use Rattle.meaning.specs.Tokens.{token_at}
 use Rattle.meaning.specs.Grammar.{is, begins_function, begins_term}
 use Rattle.text_names.specs.Word.{name_of}
 use Rattle.read_steps.specs.declared.Place.{Place}
-use Rattle.read_steps.specs.declared.Reading.{Reading}
-use Rattle.read_steps.specs.declared.Reading.TheVariants.{Done, Refused}
-use Rattle.read_steps.specs.Model.{Out, out, place, Writer, onward, refuse, unexpected, word_in, written, step, short_name, is_word_of, that_name, this_name}
+use Rattle.read_steps.specs.declared.Misread.{Misread}
+use Rattle.read_steps.specs.Model.{Reading, misread, Out, out, place, Writer, onward, refuse, unexpected, word_in, written, step, short_name, is_word_of, that_name, this_name}
 use Rattle.read_steps.specs.Steps.{still, Quiet, next_passes, next_short, next_in, next_named}
 use Rattle.read_steps.proofs.Laws.{laws, then, quietly, refuse_quiet, step_quiet, unexpected_quiet, if_quiet}
 
-module _ (r : Reading) (k q : ℕ) (e : r ≡ Refused k q) where
-  pub refused_still : (f : Writer) → Refused k q ≡ still f r
+module _ (r : Reading) (m : Misread) (e : r ≡ Err m) where
+  pub refused_still : (f : Writer) → Err m ≡ still f r
   unfolding still onward
   refused_still f = rw e
 
-  pub refused_onward : (t : List ℕ) (f : Writer) → out (Refused k q) t ≡ onward r t f
+  pub refused_onward : (t : List ℕ) (f : Writer) → out (Err m) t ≡ onward r t f
   unfolding onward
   refused_onward t f = rw e
 
@@ -44,7 +44,7 @@ module _ (r : Reading) (k q : ℕ) (e : r ≡ Refused k q) where
   unfolding next_in
   refused_in form = rw e
 
-module _ (r : Reading) (p : Place) (e : r ≡ Done p) where
+module _ (r : Reading) (p : Place) (e : r ≡ Ok p) where
   pub done_passes : (k : ℕ) → eqb p.token.kind k ≡ next_passes (is k) r
   unfolding next_passes
   done_passes k = rw e
@@ -57,19 +57,19 @@ module _ (r : Reading) (p : Place) (e : r ≡ Done p) where
   unfolding next_in
   done_in form w h = rw (e, h)
 
-  pub done_refuse : (n : ℕ) → Refused n p.token.start ≡ still (refuse n) r
+  pub done_refuse : (n : ℕ) → misread n p.token.start ≡ still (refuse n) r
   unfolding still onward refuse
   done_refuse n = rw e
 
-  pub done_step : (s : List ℕ) (u : Token) → u ≡ token_at s p.token.end → Done (place u p.nodes p.entries) ≡ still (step s) r
+  pub done_step : (s : List ℕ) (u : Token) → u ≡ token_at s p.token.end → Ok (place u p.nodes p.entries) ≡ still (step s) r
   unfolding still onward step
   done_step s u g = rw (e, g)
 
-  pub written_in : (t : List ℕ) (w : ℕ) → p.entries < length t → out (Done (place p.token p.nodes (p.entries + 1))) (set t p.entries w) ≡ onward r t (written w)
+  pub written_in : (t : List ℕ) (w : ℕ) → p.entries < length t → out (Ok (place p.token p.nodes (p.entries + 1))) (set t p.entries w) ≡ onward r t (written w)
   unfolding onward written pick
   written_in t w h = rw (e, lt-ltb p.entries (length t) h)
 
-  pub written_out : (t : List ℕ) (w : ℕ) → length t ≤ p.entries → out (Done p) t ≡ onward r t (written w)
+  pub written_out : (t : List ℕ) (w : ℕ) → length t ≤ p.entries → out (Ok p) t ≡ onward r t (written w)
   unfolding onward written pick
   written_out t w h = rw (e, le-ltb p.entries (length t) h)
 
@@ -82,8 +82,8 @@ word_is form t n h = rw h (omega arith)
 module _ (form : ℕ) (f : form < 4) where
   small_word : (r : Reading) → next_in form r < 16777216
   unfolding next_in word_in
-  small_word (Refused k q) = omega arith
-  small_word (Done p) = omega arith
+  small_word (Err x) = omega arith
+  small_word (Ok p) = omega arith
 
   module _ (r : Reading) (w : ℕ) (e : w ≡ next_in form r) where
     pub word_times : Fits w32 (w * 32)
@@ -107,57 +107,57 @@ function_begins = record { says = λ k. refl }
 module _ (test : ℕ → Bool) (c : ℕ) (z : Begins test c) (a : Bool) where
   pub begins_name : (r : Reading) → a ≡ next_passes (is 1) r → a ≡ true → true ≡ next_passes test r
   unfolding next_passes
-  begins_name (Refused k q) e y = sym y ∙ e
-  begins_name (Done p) e y = rw (z.says p.token.kind, ← e, y)
+  begins_name (Err x) e y = sym y ∙ e
+  begins_name (Ok p) e y = rw (z.says p.token.kind, ← e, y)
 
   module _ (b : Bool) where
     pub begins_operator : (r : Reading) → a ≡ next_passes (is 1) r → a ≡ false → b ≡ next_passes (is 5) r → b ≡ true → true ≡ next_passes test r
     unfolding next_passes
-    begins_operator (Refused k q) e n f y = sym y ∙ f
-    begins_operator (Done p) e n f y = rw (z.says p.token.kind, ← e, n, ← f, y)
+    begins_operator (Err x) e n f y = sym y ∙ f
+    begins_operator (Ok p) e n f y = rw (z.says p.token.kind, ← e, n, ← f, y)
 
     pub begins_other : (r : Reading) (d : Bool) → a ≡ next_passes (is 1) r → a ≡ false → b ≡ next_passes (is 5) r → b ≡ false → d ≡ next_passes (is c) r
         → d ≡ next_passes test r
     unfolding next_passes
-    begins_other (Refused k q) d e n f y h = h
-    begins_other (Done p) d e n f y h = rw (z.says p.token.kind, ← e, n, ← f, y) h
+    begins_other (Err x) d e n f y h = h
+    begins_other (Ok p) d e n f y h = rw (z.says p.token.kind, ← e, n, ← f, y) h
 
 module _ (b : Bool) where
   -- not allowed here: no token, or another
   pub unexpected_none : (r q : Reading) → b ≡ next_passes (is 4) r → b ≡ true → q ≡ still (refuse 1) r → q ≡ still unexpected r
   unfolding next_passes still onward refuse unexpected pick
-  unexpected_none (Refused k p) q e y h = h
-  unexpected_none (Done p) q e y h = rw (← e, y) h
+  unexpected_none (Err x) q e y h = h
+  unexpected_none (Ok p) q e y h = rw (← e, y) h
 
   pub unexpected_other : (r q : Reading) → b ≡ next_passes (is 4) r → b ≡ false → q ≡ still (refuse 2) r → q ≡ still unexpected r
   unfolding next_passes still onward refuse unexpected pick
-  unexpected_other (Refused k p) q e y h = h
-  unexpected_other (Done p) q e y h = rw (← e, y) h
+  unexpected_other (Err x) q e y h = h
+  unexpected_other (Ok p) q e y h = rw (← e, y) h
 
   module _ (s : List ℕ) (w : ℕ) where
     -- the name of a word
     pub named_yes : (r : Reading) (v : ℕ) (a : Bool) → b ≡ next_short r → b ≡ true → v ≡ next_in 0 r → a ≡ same (name_of s w) (name_of s v) → a ≡ next_named s w r
     unfolding next_short next_in next_named is_word_of pick
-    named_yes (Refused k p) v a e y g h = absurd (false≢true (sym e ∙ y))
-    named_yes (Done p) v a e y g h = rw (← e, y, ← g) h
+    named_yes (Err x) v a e y g h = absurd (false≢true (sym e ∙ y))
+    named_yes (Ok p) v a e y g h = rw (← e, y, ← g) h
 
     pub named_no : (r : Reading) → b ≡ next_short r → b ≡ false → false ≡ next_named s w r
     unfolding next_short next_in next_named is_word_of pick
-    named_no (Refused k p) e y = refl
-    named_no (Done p) e y = rw (← e, y)
+    named_no (Err x) e y = refl
+    named_no (Ok p) e y = rw (← e, y)
 
     pub that_yes : (r q : Reading) → b ≡ next_named s w r → b ≡ true → q ≡ still (step s) r → q ≡ still (that_name s w) r
     unfolding next_named still onward that_name pick
-    that_yes (Refused k p) q e y h = h
-    that_yes (Done p) q e y h = h ∙ ap (λ (o : Out). o.answer) go
+    that_yes (Err x) q e y h = h
+    that_yes (Ok p) q e y h = h ∙ ap (λ (o : Out). o.answer) go
       where
         go : step s p [] ≡ that_name s w p []
         go = rw (← e, y)
 
     pub that_no : (r q : Reading) → b ≡ next_named s w r → b ≡ false → q ≡ still (refuse 3) r → q ≡ still (that_name s w) r
     unfolding next_named still onward that_name pick
-    that_no (Refused k p) q e y h = h
-    that_no (Done p) q e y h = h ∙ ap (λ (o : Out). o.answer) go
+    that_no (Err x) q e y h = h
+    that_no (Ok p) q e y h = h ∙ ap (λ (o : Out). o.answer) go
       where
         go : refuse 3 p [] ≡ that_name s w p []
         go = rw (← e, y)
@@ -167,15 +167,15 @@ module _ (b : Bool) where
     pub short_yes : (r : Reading) (w : ℕ) (q a : Reading) (t u : List ℕ) → b ≡ next_short r → b ≡ true → w ≡ next_in form r
         → out q u ≡ onward r t (f w) → a ≡ still (step s) q → out a u ≡ onward r t (short_name s form f)
     unfolding next_short next_in onward short_name pick
-    short_yes (Refused k p) w q a t u e y g h i = absurd (false≢true (sym e ∙ y))
-    short_yes (Done p) w q a t u e y g h i =
+    short_yes (Err x) w q a t u e y g h i = absurd (false≢true (sym e ∙ y))
+    short_yes (Ok p) w q a t u e y g h i =
         rw (← e, y)
-        (then (Done p) q t u (out a u) (f (word_in form p.token)) (step s) (rw g at h) (quietly q a u (step s) (step_quiet s) i))
+        (then (Ok p) q t u (out a u) (f (word_in form p.token)) (step s) (rw g at h) (quietly q a u (step s) (step_quiet s) i))
 
     pub short_no : (r q : Reading) (t : List ℕ) → b ≡ next_short r → b ≡ false → q ≡ still (refuse 4) r → out q t ≡ onward r t (short_name s form f)
     unfolding next_short still onward short_name pick
-    short_no (Refused k p) q t e y h = rw h
-    short_no (Done p) q t e y h = rw (← e, y) (quietly (Done p) q t (refuse 4) (refuse_quiet 4) h)
+    short_no (Err x) q t e y h = rw h
+    short_no (Ok p) q t e y h = rw (← e, y) (quietly (Ok p) q t (refuse 4) (refuse_quiet 4) h)
 
 -- which writers write nothing
 pub that_quiet : (s : List ℕ) (w : ℕ) → Quiet (that_name s w)

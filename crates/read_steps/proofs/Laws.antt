@@ -4,35 +4,34 @@ use mathlib.Core.Path.{◌≡◌, refl, sym, ap, ◌∙◌}
 use mathlib.Core.Bool.{Bool, true, false}
 use mathlib.Core.List.{List, []}
 use Prim.Native.Nat.{ℕ}
+use Rattle.std.specs.Prelude.{Ok, Err}
 use Rattle.meaning.specs.Lists.{pick}
 use Rattle.meaning.specs.Grammar.{is}
 use Rattle.read_steps.specs.declared.Place.{Place}
-use Rattle.read_steps.specs.declared.Reading.{Reading}
-use Rattle.read_steps.specs.declared.Reading.TheVariants.{Done, Refused}
-use Rattle.read_steps.specs.Model.{Out, out, Writer, onward, ◌>>◌, stay, refuse, unexpected, if_next, step, expect}
+use Rattle.read_steps.specs.Model.{Reading, Out, out, Writer, onward, ◌>>◌, stay, refuse, unexpected, if_next, step, expect}
 use Rattle.read_steps.specs.Steps.{still, Quiet, next_passes}
 
 -- ---- one writer after the other
 
 pub onward_then : (r : Reading) (t : List ℕ) (f g : Writer) → onward r t (f >> g) ≡ onward (onward r t f).answer (onward r t f).tape g
 unfolding onward ◌>>◌
-onward_then (Refused k p) t f g = refl
-onward_then (Done p) t f g = refl
+onward_then (Err x) t f g = refl
+onward_then (Ok p) t f g = refl
 
 pub then : (r q : Reading) (t u : List ℕ) (o : Out) (f g : Writer) → out q u ≡ onward r t f → o ≡ onward q u g → o ≡ onward r t (f >> g)
 then r q t u o f g e h = rw (onward_then r t f g, ← e) h
 
 pub stays : (r : Reading) (t : List ℕ) → out r t ≡ onward r t stay
 unfolding onward stay
-stays (Refused k p) t = refl
-stays (Done p) t = refl
+stays (Err x) t = refl
+stays (Ok p) t = refl
 
 -- ---- a writer that writes nothing
 
 pub quietly : (r q : Reading) (t : List ℕ) (f : Writer) → Quiet f → q ≡ still f r → out q t ≡ onward r t f
 unfolding onward still
-quietly (Refused k p) q t f z e = rw e
-quietly (Done p) q t f z e = rw e (sym (z.leaves p t))
+quietly (Err x) q t f z e = rw e
+quietly (Ok p) q t f z e = rw e (sym (z.leaves p t))
 
 pub then_still : (r q : Reading) (t : List ℕ) (o : Out) (f g : Writer) → Quiet f → q ≡ still f r → o ≡ onward q t g → o ≡ onward r t (f >> g)
 then_still r q t o f g z e h = then r q t t o f g (quietly r q t f z e) h
@@ -45,16 +44,16 @@ module _ (test : ℕ → Bool) (f g : Writer) (r : Reading) (b : Bool) (e : b �
   next_yes t o y h = go r e h
     where
       go : (r : Reading) → b ≡ next_passes test r → o ≡ onward r t f → o ≡ onward r t (if_next test f g)
-      go (Refused k p) e h = h
-      go (Done p) e h = rw (← e, y) h
+      go (Err x) e h = h
+      go (Ok p) e h = rw (← e, y) h
 
   pub next_no : (t : List ℕ) (o : Out) → b ≡ false → o ≡ onward r t g → o ≡ onward r t (if_next test f g)
   unfolding onward next_passes if_next pick
   next_no t o y h = go r e h
     where
       go : (r : Reading) → b ≡ next_passes test r → o ≡ onward r t g → o ≡ onward r t (if_next test f g)
-      go (Refused k p) e h = h
-      go (Done p) e h = rw (← e, y) h
+      go (Err x) e h = h
+      go (Ok p) e h = rw (← e, y) h
 
   pub still_yes : (q : Reading) → b ≡ true → q ≡ still f r → q ≡ still (if_next test f g) r
   unfolding still

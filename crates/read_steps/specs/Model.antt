@@ -1,6 +1,6 @@
 -- The grammar as it writes the tape: the rules of meaning/specs/Grammar.antt, line for line, where a rule leaves its entries in place of a
 -- result. Rules have the names that they have there.
-use Rattle.std.specs.Prelude.{ℕ, zero, suc, ◌+◌, ◌-◌, ◌*◌, ◌/◌, ◌%◌, Bool, false, List, eqb, leb, ltb, length, get_or, set, take, replicate}
+use Rattle.std.specs.Prelude.{ℕ, zero, suc, ◌+◌, ◌-◌, ◌*◌, ◌/◌, ◌%◌, Bool, false, List, Result, Ok, Err, eqb, leb, ltb, length, get_or, set, take, replicate}
 use Rattle.types.specs.declared.Token.{Token}
 use Rattle.meaning.specs.Lists.{pick, any}
 use Rattle.meaning.specs.Names.{byte, Name, same, member}
@@ -9,9 +9,15 @@ use Rattle.meaning.specs.Tokens.{end_of_text, arrow, implies, no_token, operator
 use Rattle.meaning.specs.Grammar.{is, is_name, begins_function, begins_term}
 use Rattle.text_names.specs.Word.{plain_form, prefix_form, infix_form, name_of}
 use Rattle.read_steps.specs.declared.Place.{Place}
-use Rattle.read_steps.specs.declared.Reading.{Reading}
-use Rattle.read_steps.specs.declared.Reading.TheVariants.{Done, Refused}
+use Rattle.read_steps.specs.declared.Misread.{Misread}
 use Rattle.tape.specs.Tape.{module_role, parameter_role, parameter_sort, parameter_function, export_sort, export_function, hidden_sort, hidden_function, input_role, output_role, import_role, renamed_role, bound_role, old_role, new_role, actual_role, variable_role, variable_sort, tag_role, alone_role, head_role, close_role, condition_role, conclusion_role, prefix_role, infix_role}
+
+-- where reading is; or the refusal that it ended with
+abbrev pub Reading : Type 0
+Reading = Result Place Misread
+
+abbrev pub misread : ℕ → ℕ → Reading
+misread k q = Err (record { number = k; place = q })
 
 -- the answer, and the tape as it is then
 pub record Out : Type 0 where
@@ -30,23 +36,23 @@ Writer = Place → List ℕ → Out
 
 -- what a writer does after an answer: nothing, where that is a refusal
 unfoldable pub onward : Reading → List ℕ → Writer → Out
-onward (Refused k q) t w = out (Refused k q) t
-onward (Done p) t w = w p t
+onward (Err e) t w = out (Err e) t
+onward (Ok p) t w = w p t
 
 infixl 20 ◌>>◌
 unfoldable pub ◌>>◌ : Writer → Writer → Writer
 ◌>>◌ f g = λ p t. let o = f p t in onward o.answer o.tape g
 
 unfoldable pub stay : Writer
-stay = λ p t. out (Done p) t
+stay = λ p t. out (Ok p) t
 
 -- refused, at the next token
 unfoldable pub refuse : ℕ → Writer
-refuse number = λ p t. out (Refused number p.token.start) t
+refuse number = λ p t. out (misread number p.token.start) t
 
 -- the token may not stand here: 2, or 1 where there is none
 unfoldable pub unexpected : Writer
-unexpected = λ p t. out (Refused (pick (eqb p.token.kind no_token) no_token_there not_allowed) p.token.start) t
+unexpected = λ p t. out (misread (pick (eqb p.token.kind no_token) no_token_there not_allowed) p.token.start) t
 
 -- `f` where the next token's kind passes the test, `g` where it does not
 unfoldable pub if_next : (ℕ → Bool) → Writer → Writer → Writer
@@ -68,7 +74,7 @@ word t = word_in plain_form t
 
 -- the tape with a word more, where there is room
 unfoldable pub written : ℕ → Writer
-written w = λ p t. pick (ltb p.entries (length t)) (out (Done (place p.token p.nodes (p.entries + 1))) (set t p.entries w)) (out (Done p) t)
+written w = λ p t. pick (ltb p.entries (length t)) (out (Ok (place p.token p.nodes (p.entries + 1))) (set t p.entries w)) (out (Ok p) t)
 
 -- a name's word with a role, behind what is written
 abbrev pub as_entry : ℕ → ℕ → Writer
@@ -83,8 +89,8 @@ pushed (suc n) i w t = pushed n (suc i) (get_or t i 0) (set t i w)
 unfoldable pub inserted : ℕ → ℕ → Writer
 inserted start w =
     λ p t. pick (ltb p.entries (length t))
-    (out (Done (place p.token p.nodes (p.entries + 1))) (pushed (p.entries + 1 - start) start w t))
-    (out (Done p) t)
+    (out (Ok (place p.token p.nodes (p.entries + 1))) (pushed (p.entries + 1 - start) start w t))
+    (out (Ok p) t)
 
 -- an entry without a name
 unfoldable pub mark : ℕ → Writer
@@ -112,7 +118,7 @@ by_next = if_next (is (byte ",")) (mark condition_role) (if_next (is implies) (m
 
 -- an equation begins with no node
 unfoldable pub no_nodes : Writer
-no_nodes = λ p t. out (Done (place p.token 0 p.entries)) t
+no_nodes = λ p t. out (Ok (place p.token 0 p.entries)) t
 
 -- a name or an operator in a term, which is one node of the equation
 unfoldable pub counted : Writer → Writer
@@ -120,15 +126,15 @@ counted f = λ p t. let yes = f (place p.token (suc p.nodes) p.entries) t in pic
 
 -- a refusal leaves zeros
 unfoldable pub wiped : Reading → List ℕ → Out
-wiped (Done p) t = out (Done p) t
-wiped (Refused k q) t = out (Refused k q) (replicate (length t) 0)
+wiped (Ok p) t = out (Ok p) t
+wiped (Err e) t = out (Err e) (replicate (length t) 0)
 
 module _ (text : List ℕ) where
   -- ---- single tokens
 
   -- the token that is next, passed over
   unfoldable pub step : Writer
-  step = λ p t. out (Done (place (token_at text p.token.end) p.nodes p.entries)) t
+  step = λ p t. out (Ok (place (token_at text p.token.end) p.nodes p.entries)) t
 
   unfoldable pub expect : ℕ → Writer
   expect k = if_next (is k) step unexpected
@@ -430,7 +436,7 @@ module _ (text : List ℕ) where
       λ p t. let o = name module_role p t in
       onward o.answer o.tape
       (λ q u. pick (taken text (word p.token) p.entries t) (refuse module_twice p u)
-      (pick (member (name_of text (word p.token)) before) (refuse module_twice p u) (out (Done q) u)))
+      (pick (member (name_of text (word p.token)) before) (refuse module_twice p u) (out (Ok q) u)))
 
   -- what a module declares before its hidden section, and from there on
   unfoldable pub front : Writer
@@ -472,7 +478,7 @@ module _ (text : List ℕ) where
   read n before t =
       let o = modules n before (place (token_at text 0) 0 0) t in
       let r = wiped o.answer o.tape in
-      pick (leb (length text) text_size) r (wiped (Refused over_size text_size) t)
+      pick (leb (length text) text_size) r (wiped (misread over_size text_size) t)
 
 -- opens every definition of this file
 unfoldable pub model_opened : Unit {0}

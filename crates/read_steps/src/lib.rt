@@ -15,8 +15,12 @@ pub struct Place {
     pub entries: usize,
 }
 
+// A refusal: its number, and the place in the text where it is.
 #[derive(Clone, Copy)]
-pub enum Reading {
-    Done(Place),
-    Refused { number: u8, place: usize },
+pub struct Misread {
+    pub number: u8,
+    pub place: usize,
 }
+
+// How far reading came; or the refusal that it ended with.
+pub type Reading = Result<Place, Misread>;

@@ -1,4 +1,5 @@
-// The roles as they are handed on from step to step: one byte each.
+// The roles as they are handed on from step to step, one byte each: a byte is below 256, so no step has to ask that an entry's word has room for its
+// role. The crates that read the tape compare words, and take those of `tape::roles` themselves.
 use tape::roles;
 
 pub const MODULE: u8 = roles::MODULE as u8;

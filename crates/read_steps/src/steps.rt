@@ -5,7 +5,7 @@ ghost use Rattle.text_names.specs.Word.{plain_form};
 ghost use Rattle.read_steps.specs.Model.{out, onward, refuse, unexpected, word_in, written, mark, step, expect, short_name, as_entry, name, bare_operator, this_name};
 ghost use Rattle.read_steps.specs.Steps.{still, next_passes, next_short, next_in, next_named};
 
-use super::{Place, Reading, forms};
+use super::{Misread, Place, Reading, forms};
 use meaning::numbers;
 use types::Token;
 
@@ -14,12 +14,8 @@ pub fn next_is(at: Reading, kind: u8) -> bool
     ensures { result ≡ next_passes (is kind) at }
 {
     match at {
-        Reading::Refused { number, place } => false,
-        Reading::Done(p) => {
-            let t = p.token;
-            let k = t.kind;
-            k == kind
-        }
+        Ok(p) => p.token.kind == kind,
+        Err(_) => false,
     }
 }
 
@@ -53,14 +49,11 @@ pub fn begins_function(at: Reading) -> bool
 pub fn refuse(at: Reading, number: u8) -> Reading
     ensures { result ≡ still (refuse number) at }
 {
-    match at {
-        Reading::Refused { number, place } => Reading::Refused { number, place },
-        Reading::Done(p) => {
-            let t = p.token;
-            let place = t.start;
-            Reading::Refused { number, place }
-        }
-    }
+    let p = at?;
+    Err(Misread {
+        number,
+        place: p.token.start,
+    })
 }
 
 // The next token may not stand here.
@@ -77,21 +70,11 @@ pub fn unexpected(at: Reading) -> Reading
 pub fn step(text: &[u8], at: Reading) -> Reading
     ensures { result ≡ still (step text.now) at }
 {
-    match at {
-        Reading::Refused { number, place } => Reading::Refused { number, place },
-        Reading::Done(p) => {
-            let t = p.token;
-            let end = t.end;
-            let token = text_tokens::next_token(text, end);
-            let nodes = p.nodes;
-            let entries = p.entries;
-            Reading::Done(Place {
-                token,
-                nodes,
-                entries,
-            })
-        }
-    }
+    let p = at?;
+    Ok(Place {
+        token: text_tokens::next_token(text, p.token.end),
+        ..p
+    })
 }
 
 // A token of this kind, passed over.
@@ -108,12 +91,7 @@ pub fn expect(text: &[u8], at: Reading, kind: u8) -> Reading
 fn size_of(t: Token) -> usize
     ensures { result ≡ t.end - t.start }
 {
-    let start = t.start;
-    let end = t.end;
-    if start <= end {
-        return end - start;
-    }
-    0
+    t.end.saturating_sub(t.start)
 }
 
 // The word of a name in a form: its token's place and size.
@@ -132,11 +110,8 @@ pub fn next_in(at: Reading, form: u32) -> u32
     ensures { result ≡ next_in form at }
 {
     match at {
-        Reading::Refused { number, place } => 0,
-        Reading::Done(p) => {
-            let t = p.token;
-            word_in(form, t)
-        }
+        Ok(p) => word_in(form, p.token),
+        Err(_) => 0,
     }
 }
 
@@ -152,12 +127,8 @@ pub fn next_short(at: Reading) -> bool
     ensures { result ≡ next_short at }
 {
     match at {
-        Reading::Refused { number, place } => false,
-        Reading::Done(p) => {
-            let t = p.token;
-            let size = size_of(t);
-            size <= numbers::NAME_SIZE
-        }
+        Ok(p) => size_of(p.token) <= numbers::NAME_SIZE,
+        Err(_) => false,
     }
 }
 
@@ -165,23 +136,16 @@ pub fn next_short(at: Reading) -> bool
 pub fn write(tape: &mut [u32], at: Reading, word: u32) -> Reading
     ensures { out result tape.new ≡ onward at tape.old (written word) }
 {
-    match at {
-        Reading::Refused { number, place } => Reading::Refused { number, place },
-        Reading::Done(p) => {
-            let n = p.entries;
-            if n < tape.len() {
-                tape[n] = word;
-                let token = p.token;
-                let nodes = p.nodes;
-                return Reading::Done(Place {
-                    token,
-                    nodes,
-                    entries: n + 1,
-                });
-            }
-            Reading::Done(p)
-        }
+    let p = at?;
+    let n = p.entries;
+    if n < tape.len() {
+        tape[n] = word;
+        return Ok(Place {
+            entries: n + 1,
+            ..p
+        });
     }
+    Ok(p)
 }
 
 // An entry without a name.

@@ -9,13 +9,12 @@ use lib.Dec.{eqb}
 use lib.ListN.{length, get_or, set, length-set}
 use borrow.Author.Rules.{rules}
 use borrow.Author.Tests.{ne_eqb, eqb-true, le-ltb, lt-ltb}
+use Rattle.std.specs.Prelude.{Ok, Err}
 use Rattle.meaning.specs.Lists.{pick}
 use Rattle.meaning.specs.Grammar.{is, begins_term}
 use Rattle.read_steps.specs.declared.Place.{Place}
-use Rattle.read_steps.specs.declared.Reading.{Reading}
-use Rattle.read_steps.specs.declared.Reading.TheVariants.{Done, Refused}
 use Rattle.tape.specs.Tape.{close_role, prefix_role}
-use Rattle.read_steps.specs.Model.{Out, out, place, Writer, onward, ◌>>◌, stay, refuse, unexpected, if_next, step, mark, as_entry, pushed, inserted, with_entries, expect, separated, many, term_name, term_operator, primary_by, prefixed, joins, operand, operands, term_by, in_brackets, primary, term}
+use Rattle.read_steps.specs.Model.{Reading, Out, out, place, Writer, onward, ◌>>◌, stay, refuse, unexpected, if_next, step, mark, as_entry, pushed, inserted, with_entries, expect, separated, many, term_name, term_operator, primary_by, prefixed, joins, operand, operands, term_by, in_brackets, primary, term}
 use Rattle.read_steps.specs.Steps.{still, next_passes, entries_of}
 use Rattle.read_terms.specs.Parts.{token_alone, token_in, arguments_end, operands_from, named}
 use Rattle.read_steps.proofs.Laws.{onward_then, then, quietly, stays, next_yes, next_no, refuse_quiet, unexpected_quiet, step_quiet}
@@ -54,13 +53,13 @@ module _ (end i w : ℕ) (t₀ : List ℕ) (at carried : ℕ) (t : List ℕ) (v 
       go : t ≡ pushed (end - at) at carried t
       go = rw none
 
-module _ (r : Reading) (p : Place) (e : r ≡ Done p) (start w : ℕ) (t : List ℕ) where
+module _ (r : Reading) (p : Place) (e : r ≡ Ok p) (start w : ℕ) (t : List ℕ) where
   pub inserted_in : (u : List ℕ) → p.entries < length t → u ≡ pushed (p.entries + 1 - start) start w t
-      → out (Done (place p.token p.nodes (p.entries + 1))) u ≡ onward r t (inserted start w)
+      → out (Ok (place p.token p.nodes (p.entries + 1))) u ≡ onward r t (inserted start w)
   unfolding onward inserted pick
   inserted_in u h g = rw (e, lt-ltb p.entries (length t) h, g)
 
-  pub inserted_out : length t ≤ p.entries → out (Done p) t ≡ onward r t (inserted start w)
+  pub inserted_out : length t ≤ p.entries → out (Ok p) t ≡ onward r t (inserted start w)
   unfolding onward inserted pick
   inserted_out h = rw (e, le-ltb p.entries (length t) h)
 
@@ -94,10 +93,10 @@ module _ (s : List ℕ) (r : Reading) (t : List ℕ) (b : Bool) where
     stepped o y h = go r e h
       where
         go : (r : Reading) → b ≡ next_passes (is k) r → o ≡ onward r t (token_in s 0 false) → o ≡ onward r t (step s)
-        go (Refused m q) e h = h
-        go (Done p) e h =
+        go (Err x) e h = h
+        go (Ok p) e h =
             let other : eqb p.token.kind 5 ≡ false = ne_eqb p.token.kind 5 λ f. z (sym (eqb-true p.token.kind k (sym e ∙ y)) ∙ f) in
-            h ∙ sym (next_no (is 5) (prefixed s) (step s) (Done p) false (sym other) t (step s p t) refl refl)
+            h ∙ sym (next_no (is 5) (prefixed s) (step s) (Ok p) false (sym other) t (step s p t) refl refl)
 
     expected : (o : Out) → b ≡ true → o ≡ onward r t (token_in s 0 false) → o ≡ onward r t (expect s k)
     unfolding expect
@@ -117,12 +116,12 @@ stepped_quietly : (s : List ℕ) (r q : Reading) (t u : List ℕ) → out q u �
 stepped_quietly s r q t u h = h ∙ sym (quietly r (still (step s) r) t (step s) (step_quiet s) refl)
 
 -- a comma that is next is passed over: a and x come of it
-pub arguments_again : (w : Writer) (r₀ : Reading) (t₀ : List ℕ) (s : List ℕ) (l : ℕ) (begins : ℕ → Bool) (item : Writer) (r : Reading) (t : List ℕ)
-    → Comes w (separated s l 44 begins item) r₀ t₀ r t → 0 < l → (q : Reading) (u : List ℕ) → out q u ≡ onward r t item
-    → (b : Bool) → b ≡ next_passes (is 44) q → (a : Reading) (x : List ℕ) → b ≡ true → out a x ≡ onward q u (token_in s 0 false) → length u ≡ length t
-    → Comes w (separated s (l - 1) 44 begins item) r₀ t₀ a x
-arguments_again w r₀ t₀ s l begins item r t v z q u h b e a x y g k =
-    rw (ap (λ (o : Out). o.tape) same) (separated_again w r₀ t₀ s l begins item r t 44 v z q u h b e a y (ap (λ (o : Out). o.answer) same) k)
+pub arguments_again : (w : Writer) (r₀ : Reading) (t₀ : List ℕ) (s : List ℕ) (n i : ℕ) (begins : ℕ → Bool) (item : Writer) (r : Reading) (t : List ℕ)
+    → Comes w (separated s (n - i) 44 begins item) r₀ t₀ r t → i < n → (q : Reading) (u : List ℕ) → out q u ≡ onward r t item
+    → (b : Bool) → b ≡ next_passes (is 44) q → (a : Reading) (x : List ℕ) → b ≡ true → out a x ≡ onward q u (token_in s 0 false)
+    → Comes w (separated s (n - (i + 1)) 44 begins item) r₀ t₀ a x
+arguments_again w r₀ t₀ s n i begins item r t v z q u h b e a x y g =
+    rw (ap (λ (o : Out). o.tape) same) (separated_again w r₀ t₀ s n i begins item r t 44 v z q u h b e a y (ap (λ (o : Out). o.answer) same))
   where
     same : out a x ≡ out (still (step s) q) u
     same = stepped_quietly s q a u x (stepped s q u b 44 (λ z. omega (arith, z)) e (out a x) y g)
@@ -132,8 +131,8 @@ arguments_again w r₀ t₀ s l begins item r t v z q u h b e a x y g k =
 -- a rule that remembers how many entries there are
 remembers_entries : (r : Reading) (t : List ℕ) (o : Out) (n : ℕ) (f : ℕ → Writer) → n ≡ entries_of r → o ≡ onward r t (f n) → o ≡ onward r t (with_entries f)
 unfolding onward entries_of with_entries
-remembers_entries (Refused k p) t o n f e h = h
-remembers_entries (Done p) t o n f e h = rw e at h
+remembers_entries (Err x) t o n f e h = h
+remembers_entries (Ok p) t o n f e h = rw e at h
 
 module _ (s : List ℕ) (d n : ℕ) (r q : Reading) (t u : List ℕ) where
   -- q and u come of the prefix operator
@@ -149,10 +148,10 @@ module _ (s : List ℕ) (d n : ℕ) (r q : Reading) (t u : List ℕ) where
   module _ (l : ℕ) (w : Writer) (r₀ : Reading) (t₀ : List ℕ) (b : Bool) (c : Comes w (primary s d >> many s l (is 5) (operand s n (primary s d))) r₀ t₀ r t)
       (h : out q u ≡ onward r t (primary s d)) (e : b ≡ next_passes (is 5) q) where
     -- a and x come of the operator
-    pub operands_again : (a : Reading) (x : List ℕ) → b ≡ true → (l ≡ 0 → ⊥) → out a x ≡ onward q u (token_in s n true) → length u ≡ length t
-        → length x ≡ length u → Comes w (primary s d >> many s (l - 1) (is 5) (operand s n (primary s d))) r₀ t₀ a x
+    pub operands_again : (a : Reading) (x : List ℕ) → b ≡ true → (l ≡ 0 → ⊥) → out a x ≡ onward q u (token_in s n true)
+        → Comes w (primary s d >> many s (l - 1) (is 5) (operand s n (primary s d))) r₀ t₀ a x
     unfolding many operand token_in pick
-    operands_again a x y z g i j = record { sized = j ∙ (i ∙ c.sized); comes = c.comes ∙ sym (go l z) }
+    operands_again a x y z g = record { comes = c.comes ∙ sym (go l z) }
       where
         go : (l : ℕ) → (l ≡ 0 → ⊥)
             → onward a x (primary s d >> many s (l - 1) (is 5) (operand s n (primary s d))) ≡ onward r t (primary s d >> many s l (is 5) (operand s n (primary s d)))

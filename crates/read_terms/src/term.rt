@@ -28,13 +28,11 @@ fn push(tape: &mut [u32], i: usize, end: usize, word: u32)
     requires { end ≤ length tape.old }
     ensures { tape.new ≡ pushed (end - i) i word tape.old }
 {
-    let mut at = i;
     let mut carried = word;
-    while at < end {
+    for at in i..end {
         let next = tape[at];
         tape[at] = carried;
         carried = next;
-        at += 1;
     }
 }
 
@@ -42,23 +40,16 @@ fn push(tape: &mut [u32], i: usize, end: usize, word: u32)
 fn insert(tape: &mut [u32], at: Reading, start: usize, word: u32) -> Reading
     ensures { out result tape.new ≡ onward at tape.old (inserted start word) }
 {
-    match at {
-        Reading::Refused { number, place } => Reading::Refused { number, place },
-        Reading::Done(p) => {
-            let n = p.entries;
-            if n < tape.len() {
-                push(tape, start, n + 1, word);
-                let token = p.token;
-                let nodes = p.nodes;
-                return Reading::Done(Place {
-                    token,
-                    nodes,
-                    entries: n + 1,
-                });
-            }
-            Reading::Done(p)
-        }
+    let p = at?;
+    let n = p.entries;
+    if n < tape.len() {
+        push(tape, start, n + 1, word);
+        return Ok(Place {
+            entries: n + 1,
+            ..p
+        });
     }
+    Ok(p)
 }
 
 // The operator that is next, as an infix one: its entry goes before what it joins to what follows, the entries from `start` on.
@@ -161,6 +152,7 @@ fn read_inside(text: &&[u8], tape: &mut [u32], state: &mut [usize; 6], depth: us
 fn read_operands(text: &&[u8], tape: &mut [u32], state: &mut [usize; 6], start: usize, depth: usize)
     ensures { out (kept state.new) tape.new ≡ onward (kept state.old) tape.old (operands_from text.now.now start depth) }
 {
+    // a loop: whether more may come is asked within a turn, so that a primary is read at one place, in one frame
     let mut left: usize = numbers::NODE_LIMIT;
     loop {
         read_primary(text, tape, state, depth);
@@ -214,12 +206,10 @@ fn read_named(text: &&[u8], tape: &mut [u32], state: &mut [usize; 6], depth: usi
 fn read_arguments(text: &&[u8], tape: &mut [u32], state: &mut [usize; 6], depth: usize, left: usize)
     ensures { out (kept state.new) tape.new ≡ onward (kept state.old) tape.old (separated text.now.now left (byte ",") begins_term (term text.now.now depth)) }
 {
-    let mut rest = left;
-    while 0 < rest {
+    for _ in 0..left {
         read_inside(text, tape, state, depth);
         if follows(state, b',') {
             pass_token(text, tape, state, 0, false);
-            rest -= 1;
         } else {
             return;
         }

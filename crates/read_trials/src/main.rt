@@ -4,51 +4,34 @@
 
 ghost use Rattle.std.specs.Prelude.{◌≤◌, length};
 
-use read_steps::Reading;
 use std::io;
 use std::io::{Read, Write};
-
-fn lesser(a: usize, b: usize) -> usize
-    ensures upper_bound { result ≤ a }
-    ensures upper_bound_2 { result ≤ b }
-{
-    if a < b { a } else { b }
-}
 
 // The first place from `at` on with that byte; the end if there is none.
 fn find(input: &[u8], at: usize, byte: u8) -> usize
     ensures { result ≤ length input.now }
 {
-    let mut i = lesser(at, input.len());
-    while i < input.len() {
+    for i in at.min(input.len())..input.len() {
         if input[i] == byte {
             return i;
         }
-        i += 1;
     }
-    i
+    input.len()
 }
 
 // As much of the input from a up to e as there is.
 fn part(input: &[u8], a: usize, e: usize) -> &[u8] {
-    let to = lesser(e, input.len());
-    let from = lesser(a, to);
-    &input[from..to]
-}
-
-fn wide(b: u8) -> usize {
-    b as usize
+    let to = e.min(input.len());
+    &input[a.min(to)..to]
 }
 
 // The decimal number in the bytes, below a million; other bytes are passed over.
 fn number(digits: &[u8]) -> usize {
     let mut value = 0;
-    let mut i = 0;
-    while i < digits.len() {
-        if b'0' <= digits[i] {
-            value = value % 100000 * 10 + (wide(digits[i]) % 256 + 2) % 10;
+    for digit in digits {
+        if b'0' <= *digit {
+            value = value % 100000 * 10 + (usize::from(*digit) + 2) % 10;
         }
-        i += 1;
     }
     value
 }
@@ -63,8 +46,8 @@ fn answer<W: Write>(output: &mut W, text: &[u8]) -> io::Result<()> {
     let none = [0; 1];
     let r = read::read(text, &text[0..0], &none[0..0], 64, &mut tape);
     match r {
-        Reading::Done(p) => told(output, 0, p.entries),
-        Reading::Refused { number, place } => told(output, wide(number), place),
+        Ok(p) => told(output, 0, p.entries),
+        Err(e) => told(output, usize::from(e.number), e.place),
     }
 }
 
@@ -75,7 +58,7 @@ fn run_case<W: Write>(output: &mut W, input: &[u8], at: usize) -> io::Result<usi
         let space = find(input, at, b' ');
         output.write_all(part(input, at, space))?;
         let start = line + 1;
-        let size = lesser(number(part(input, space, line)), input.len() - start);
+        let size = number(part(input, space, line)).min(input.len() - start);
         let end = start + size;
         answer(output, part(input, start, end))?;
         return Ok(end);
@@ -86,13 +69,11 @@ fn run_case<W: Write>(output: &mut W, input: &[u8], at: usize) -> io::Result<usi
 // Every case. There are fewer than there are bytes.
 fn run<W: Write>(output: &mut W, input: &[u8]) -> io::Result<()> {
     let mut at = 0;
-    let mut left = input.len();
-    while 0 < left {
+    for _ in 0..input.len() {
         if input.len() <= at {
             return Ok(());
         }
         at = run_case(output, input, at)?;
-        left -= 1;
     }
     Ok(())
 }

@@ -82,18 +82,15 @@ module _ (s : List ℕ) (at : ℕ) where
         ap (λ (x : Line). place_after x at) h.placed ∙ alike.1
         ∙ ap (λ (x : Reading). after x at) (ap (reading s at) (sym h.placed) ∙ h.meant)
 
-    -- a turn of the loop
-    module _ (left : ℕ) (f : Bool) (g : f ≡ is_front l) (more : 0 < left) where
-      count : left ≡ suc (left - 1)
-      count = omega arith
-
-      pub front_on : f ≡ true → (next : ℕ) → next ≡ place_after l at → front_end s left at ≡ front_end s (left - 1) next
+    -- a turn of the loop, of which so many are left
+    module _ (left : ℕ) (f : Bool) (g : f ≡ is_front l) where
+      pub front_on : f ≡ true → (fewer next : ℕ) → left ≡ suc fewer → next ≡ place_after l at → front_end s left at ≡ front_end s fewer next
       unfolding front_end pick
-      front_on t next e = ap (λ (n : ℕ). front_end s n at) count ∙ rw (← front_read, ← g, t, e, after_read)
+      front_on t fewer next count e = ap (λ (n : ℕ). front_end s n at) count ∙ rw (← front_read, ← g, t, e, after_read)
 
-      pub front_off : f ≡ false → front_end s left at ≡ at
+      pub front_off : 0 < left → f ≡ false → front_end s left at ≡ at
       unfolding front_end pick
-      front_off t = rw (count, ← front_read, ← g, t)
+      front_off more t = let count : left ≡ suc (left - 1) = omega arith in rw (count, ← front_read, ← g, t)
 
 pub front_start : (s : List ℕ) → visible_end s ≡ front_end s (length s) 0
 unfolding visible_end

@@ -22,6 +22,7 @@ pub struct Places {
 }
 
 // What stands at a place: a line, the end of the listing, or no line (answer 21), with the place where the reader stays.
+// An enum of its own: three ways are no Option, the end is no error, and users of this interface match these names.
 #[derive(Clone, Copy)]
 pub enum Line {
     Keyed(Places),
@@ -33,31 +34,27 @@ pub enum Line {
 fn line_end(listing: &[u8], at: usize) -> usize
     ensures { result ≡ run_end in_line listing.now at }
 {
-    let mut i = at;
-    while i < listing.len() {
+    for i in at..listing.len() {
         if listing[i] == b'\n' {
             return i;
         }
-        i += 1;
     }
-    i
+    at.max(listing.len())
 }
 
 // Where the key at `at` ends: at the next LF or `=`, or at the end of the listing.
 fn key_end(listing: &[u8], at: usize) -> usize
     ensures { result ≡ run_end in_key listing.now at }
 {
-    let mut i = at;
-    while i < listing.len() {
+    for i in at..listing.len() {
         if listing[i] == b'\n' {
             return i;
         }
         if listing[i] == b'=' {
             return i;
         }
-        i += 1;
     }
-    i
+    at.max(listing.len())
 }
 
 // The number of a key in the listing's order, from 1 on; 0 if it is none.
@@ -159,12 +156,10 @@ pub fn visible_end(listing: &[u8]) -> usize
     ensures { result ≡ visible_end listing.now }
 {
     let mut at = 0;
-    let mut left = listing.len();
-    while 0 < left {
+    for _ in 0..listing.len() {
         let line = line_at(listing, at);
         if is_front(line) {
             at = place_after(line, at);
-            left -= 1;
         } else {
             return at;
         }

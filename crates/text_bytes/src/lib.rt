@@ -26,7 +26,7 @@ pub fn byte_in(library: &[u8], text: &[u8], i: usize) -> u8
 pub fn lesser(a: usize, b: usize) -> usize
     ensures { result ≡ min a b }
 {
-    if a < b { a } else { b }
+    a.min(b)
 }
 
 // How many bytes the token of the name w may have.

@@ -1,18 +1,22 @@
 // Names compared on slices as far as is seen at once, that is unless a run of digits has a zero in front.
 #![tactic(auto)]
 
-ghost use Rattle.std.specs.Prelude.{◌≡◌, true, ◌+◌, ◌<◌, ltb, length, get_or, drop};
+ghost use Rattle.std.specs.Prelude.{◌≡◌, true, ◌+◌, ◌<◌, ◌≤◌, ltb, length, get_or, drop};
+ghost use Rattle.std.specs.Ordering.{ordering_index};
 ghost use Rattle.meaning.specs.Names.{is_digit};
-ghost use Rattle.text_runs.specs.Runs.{digits_of, by_size, plainly_compared, has_zeros, plain_size, Seen, Decides};
+ghost use Rattle.text_runs.specs.Runs.{digits_of, plainly_compared, has_zeros, plain_size, Seen, Decides};
+ghost use Rattle.text_runs.specs.Codes.{seen_index, decided_index};
 
-use text_spelling::{byte_at, is_digit};
+use std::cmp::Ordering;
+use text_by_bytes::compare_bytes;
+use text_spelling::is_digit;
+use text_words::run_end;
 
 // Past the bytes from `at` on that two names have in common and that are no digits.
 fn plain_end(a: &[u8], b: &[u8], at: usize) -> usize
     ensures { result ≡ at + plain_size (drop at a.now) (drop at b.now) }
 {
-    let mut i = at;
-    while i < a.len() {
+    for i in at..a.len() {
         if b.len() <= i {
             return i;
         }
@@ -22,24 +26,15 @@ fn plain_end(a: &[u8], b: &[u8], at: usize) -> usize
         if is_digit(a[i]) {
             return i;
         }
-        i += 1;
     }
-    i
+    at.max(a.len())
 }
 
 // Past the digits from `at` on.
 fn digits_end(text: &[u8], at: usize) -> usize
     ensures { result ≡ at + digits_of (drop at text.now) }
 {
-    let mut i = at;
-    while i < text.len() {
-        if is_digit(text[i]) {
-            i += 1;
-        } else {
-            return i;
-        }
-    }
-    i
+    run_end(text, at, |b| is_digit(b))
 }
 
 // Is there a digit at i?
@@ -63,76 +58,42 @@ fn has_zeros(text: &[u8], i: usize) -> bool
     false
 }
 
-// Which of the runs of digits from `at` on is shorter: 0 if a's is, 2 if b's is, else `level`.
-fn compare_sizes(a: &[u8], b: &[u8], at: usize, level: u8) -> u8
-    ensures { result ≡ by_size (digits_of (drop at a.now)) (digits_of (drop at b.now)) level }
+// The runs of digits from `at` on, by their sizes and then byte by byte.
+fn compare_digits(a: &[u8], b: &[u8], at: usize) -> Ordering
+    requires at_in_bounds { at ≤ length a.now }
+    requires at_in_bounds_2 { at ≤ length b.now }
+    ensures { ordering_index result ≡ plainly_compared (drop at a.now) (drop at b.now) }
 {
-    let mut i = at;
-    while digit_at(a, i) {
-        if digit_at(b, i) {
-            i += 1;
-        } else {
-            return 2;
-        }
+    let n = digits_end(a, at);
+    let m = digits_end(b, at);
+    if n != m {
+        return n.cmp(&m);
     }
-    if digit_at(b, i) {
-        return 0;
-    }
-    level
+    compare_bytes(&a[at..n], &b[at..m])
 }
 
-// The runs of digits from `at` on, by their sizes and then byte by byte: the first byte in which they differ counts if none goes on alone.
-fn compare_digits(a: &[u8], b: &[u8], at: usize) -> u8
-    ensures { result ≡ plainly_compared (drop at a.now) (drop at b.now) }
-{
-    let mut i = at;
-    while digit_at(a, i) {
-        if digit_at(b, i) {
-            let p = byte_at(a, i);
-            let q = byte_at(b, i);
-            if p < q {
-                return compare_sizes(a, b, i + 1, 0);
-            }
-            if q < p {
-                return compare_sizes(a, b, i + 1, 2);
-            }
-            i += 1;
-        } else {
-            return 2;
-        }
-    }
-    if digit_at(b, i) {
-        return 0;
-    }
-    1
-}
-
-// The runs of digits from i on: 0 if a's comes first, 2 if b's does, 4 if they are the same, 3 where zeros must be looked at.
-fn compare_numbers(a: &[u8], b: &[u8], i: usize) -> u8
+// Which of the runs of digits from i on comes first, `Equal` if they are the same; none where zeros must be looked at.
+fn compare_numbers(a: &[u8], b: &[u8], i: usize) -> Option<Ordering>
     requires i_in_bounds { i < length a.now }
     requires i_in_bounds_2 { i < length b.now }
     requires i_value { is_digit (get_or a.now i 0) ≡ true }
     requires i_value_2 { is_digit (get_or b.now i 0) ≡ true }
-    ensures { Decides (drop i a.now) (drop i b.now) result }
+    ensures { Decides (drop i a.now) (drop i b.now) (decided_index result) }
 {
     if has_zeros(a, i) {
-        return 3;
+        return None;
     }
     if has_zeros(b, i) {
-        return 3;
+        return None;
     }
-    let c = compare_digits(a, b, i);
-    if c == 1 {
-        return 4;
-    }
-    c
+    Some(compare_digits(a, b, i))
 }
 
-// The elements at i: 0 if a's comes first, 2 if b's does, 4 if they are the same run, 3 where zeros must be looked at.
-fn compare_first(a: &[u8], b: &[u8], i: usize) -> u8
+// Which of the elements at i comes first, `Equal` if they are the same run; none where zeros must be looked at.
+fn compare_first(a: &[u8], b: &[u8], i: usize) -> Option<Ordering>
     requires i_in_bounds { i < length a.now }
     requires i_in_bounds_2 { i < length b.now }
-    ensures { Decides (drop i a.now) (drop i b.now) result }
+    ensures { Decides (drop i a.now) (drop i b.now) (decided_index result) }
 {
     let p = a[i];
     let q = b[i];
@@ -140,44 +101,45 @@ fn compare_first(a: &[u8], b: &[u8], i: usize) -> u8
         if is_digit(q) {
             return compare_numbers(a, b, i);
         }
-        return 0;
+        return Some(Ordering::Less);
     }
     if is_digit(q) {
-        return 2;
+        return Some(Ordering::Greater);
     }
     if p < q {
-        return 0;
+        return Some(Ordering::Less);
     }
     if q < p {
-        return 2;
+        return Some(Ordering::Greater);
     }
-    3
+    None
 }
 
-// Which of two names comes first, or 1 if they are the same, where no run with a zero in front must be looked at; else 3.
-pub fn compare_names(a: &[u8], b: &[u8]) -> u8
-    ensures { Seen a.now b.now result }
+// Which of two names comes first, or `Equal` if they are the same, where no run with a zero in front must be looked at.
+pub fn compare_names(a: &[u8], b: &[u8]) -> Option<Ordering>
+    ensures { Seen a.now b.now (seen_index result) }
 {
     let mut i = 0;
+    // a while: each turn goes on behind the run of digits of the turn before it
     while i < a.len() {
         let j = plain_end(a, b, i);
         if b.len() <= j {
             if j < a.len() {
-                return 2;
+                return Some(Ordering::Greater);
             }
-            return 1;
+            return Some(Ordering::Equal);
         }
         if a.len() <= j {
-            return 0;
+            return Some(Ordering::Less);
         }
-        let c = compare_first(a, b, j);
-        if c < 4 {
-            return c;
+        let order = compare_first(a, b, j)?;
+        if order.is_ne() {
+            return Some(order);
         }
         i = digits_end(a, j);
     }
     if b.len() <= i {
-        return 1;
+        return Some(Ordering::Equal);
     }
-    0
+    Some(Ordering::Less)
 }

@@ -9,6 +9,9 @@ use lib.ListN.{length, get_or, take, drop, length-take, length-drop}
 use lib.Seq.{drop-cons, drop-drop, get_or-take, get_or-drop}
 use borrow.Author.Rules.{rules}
 use borrow.Author.Tests.{eqb-false, eq-eqb, ne_eqb, lt-ltb, le-ltb}
+use Rattle.std.specs.declared.cmp.Ordering.{Ordering}
+use Rattle.std.specs.declared.cmp.Ordering.TheVariants.{Less, Equal, Greater}
+use Rattle.std.specs.Ordering.{ordering_index, ordering_then, nat_cmp, is_ne}
 use Rattle.meaning.specs.Lists.{pick}
 use Rattle.meaning.specs.Names.{is_digit}
 use mir.Syntax.{w64}
@@ -17,6 +20,7 @@ use Rattle.text_spelling.specs.Word.{name_of, name_short}
 use Rattle.text_runs.specs.Orders.{compared, bytes_compared}
 use Rattle.text_runs.specs.Runs.{leading, digits_of, zeros_of, size_of_run, rest_of_run, by_size, runs_compared, elements_compared, element_size}
 use Rattle.text_runs.specs.RunLaws.{in_cases, size_less, size_more, size_level, level_size, size_alike, digit_begins, other_on, other_less, other_more, run_first, run_second, runs_decide, runs_pass, runs_level, zeros_digits, digits_length}
+use Rattle.text_runs.specs.Codes.{index_apart, index_level, size_told}
 use Rattle.text_runs.specs.Turns.{compared_less, compared_more, compared_on, compared_end, leads_on, leads_stop, leads_end, left_longer, left_shorter, left_none}
 
 -- ---- digits of two names, byte by byte: as many of a from i on as of b from j on
@@ -41,15 +45,18 @@ module _ (a b : List ℕ) (i j left : ℕ) (la : i + left ≤ length a) (lb : j 
     y_byte : get_or y k 0 ≡ q
     y_byte = get_or-take left (drop j b) k 0 h ∙ get_or-drop j b k 0 ∙ sym eq
 
-    pub digits_less : p < q → bytes_compared (drop k (take left (drop i a))) (drop k (take left (drop j b))) ≡ 0
-    digits_less z = compared_less x y k (omega (arith, x_size)) (omega (arith, y_size)) (omega (arith, x_byte, y_byte))
+    pub digits_apart : (o : Ordering) → (p ≡ q → ⊥) → o ≡ nat_cmp p q
+        → bytes_compared (drop k (take left (drop i a))) (drop k (take left (drop j b))) ≡ ordering_index o
+    digits_apart o z e =
+        in_cases p q
+        (λ l. compared_less x y k (omega (arith, x_size)) (omega (arith, y_size)) (omega (arith, x_byte, y_byte)) ∙ sym (size_less l 1))
+        (λ l. compared_more x y k (omega (arith, x_size)) (omega (arith, y_size)) (omega (arith, x_byte, y_byte)) ∙ sym (size_more l 1))
+        (λ l. absurd (z l))
+        ∙ sym (size_told p q) ∙ ap ordering_index (sym e)
 
-    pub digits_more : q < p → bytes_compared (drop k (take left (drop i a))) (drop k (take left (drop j b))) ≡ 2
-    digits_more z = compared_more x y k (omega (arith, x_size)) (omega (arith, y_size)) (omega (arith, x_byte, y_byte))
-
-    pub digits_on : q ≤ p → p ≤ q → bytes_compared (drop k (take left (drop i a))) (drop k (take left (drop j b)))
+    pub digits_on : p ≡ q → bytes_compared (drop k (take left (drop i a))) (drop k (take left (drop j b)))
         ≡ bytes_compared (drop (k + 1) (take left (drop i a))) (drop (k + 1) (take left (drop j b)))
-    digits_on z u = compared_on x y k (omega (arith, x_size)) (omega (arith, y_size)) (omega (arith, x_byte, y_byte)) (omega (arith, x_byte, y_byte))
+    digits_on z = compared_on x y k (omega (arith, x_size)) (omega (arith, y_size)) (omega (arith, x_byte, y_byte)) (omega (arith, x_byte, y_byte))
 
   pub digits_over : (k : ℕ) → left ≤ k → bytes_compared (drop k (take left (drop i a))) (drop k (take left (drop j b))) ≡ 1
   digits_over k h = compared_end x y k (omega (arith, x_size)) (omega (arith, y_size))
@@ -59,16 +66,6 @@ pub digit_place : (text : List ℕ) (w i left k : ℕ) → i + left ≤ length (
 digit_place text w i left k h g = omega (arith, name_short text w)
 
 -- ---- by size
-
-module _ (n m : ℕ) where
-  pub less_told : n < m → 0 ≡ by_size n m 1
-  less_told h = sym (size_less h 1)
-
-  pub more_told : m < n → 2 ≡ by_size n m 1
-  more_told h = sym (size_more h 1)
-
-  pub level_told : m ≤ n → n ≤ m → 1 ≡ by_size n m 1
-  level_told h g = sym (size_level {n = n} {m = m} (omega arith) 1)
 
 pub zeros_within : (a : List ℕ) (i x e : ℕ) → x ≡ i + zeros_of (drop i a) → e ≡ i + digits_of (drop i a) → x ≤ e
 zeros_within a i x e ex ee = omega (arith, zeros_digits (drop i a))
@@ -90,11 +87,11 @@ module _ (a b : List ℕ) (i x y e f : ℕ) (ex : x ≡ i + zeros_of (drop i a))
   second_size = omega arith
 
   module _ (j k : ℕ) (ej : j ≡ e - x) (ek : k ≡ f - y) where
-    pub runs_shorter : j < k → 0 ≡ runs_compared (drop i a) (drop i b)
+    runs_shorter : j < k → 0 ≡ runs_compared (drop i a) (drop i b)
     unfolding runs_compared by_size pick
     runs_shorter h = rw (lt-ltb (size_of_run (drop i a)) (size_of_run (drop i b)) (omega (arith, first_size, second_size)))
 
-    pub runs_longer : k < j → 2 ≡ runs_compared (drop i a) (drop i b)
+    runs_longer : k < j → 2 ≡ runs_compared (drop i a) (drop i b)
     unfolding runs_compared by_size pick
     runs_longer h =
         rw (
@@ -121,17 +118,30 @@ module _ (a b : List ℕ) (i x y e f : ℕ) (ex : x ≡ i + zeros_of (drop i a))
             ← rests,
           )
 
-      pub runs_by_digits : (c ≡ 1 → ⊥) → c ≡ runs_compared (drop i a) (drop i b)
+      runs_by_digits : (c ≡ 1 → ⊥) → c ≡ runs_compared (drop i a) (drop i b)
       unfolding pick
       runs_by_digits z = sym (level ∙ rw (ne_eqb c 1 z))
 
-      pub runs_by_zeros : (r : ℕ) → c ≡ 1 → r ≡ by_size x y 1 → r ≡ runs_compared (drop i a) (drop i b)
+      runs_by_zeros : (r : ℕ) → c ≡ 1 → r ≡ by_size x y 1 → r ≡ runs_compared (drop i a) (drop i b)
       unfolding pick
       runs_by_zeros r z q =
           let zx = zeros_of (drop i a) in
           let zy = zeros_of (drop i b) in
           let moved = size_alike (i + zx) (i + zy) zx zy 1 (λ l. omega (arith, l)) (λ l. omega (arith, l)) (λ l. omega (arith, l)) in
           q ∙ ap₂ (λ (u v : ℕ). by_size u v 1) ex ey ∙ moved ∙ sym (level ∙ rw (eq-eqb c 1 z))
+
+    pub runs_apart : (o : Ordering) → (j ≡ k → ⊥) → o ≡ nat_cmp j k → ordering_index o ≡ runs_compared (drop i a) (drop i b)
+    runs_apart o z q =
+        ap ordering_index q ∙ size_told j k
+        ∙ in_cases j k (λ l. size_less l 1 ∙ runs_shorter l) (λ l. size_more l 1 ∙ runs_longer l) (λ l. absurd (z l))
+
+    -- r says what their digits say, c, and else what their zeros do, d
+    pub runs_told : j ≡ k → (c d r : Ordering) → ordering_index c ≡ bytes_compared (take j (drop x a)) (take j (drop y b)) → d ≡ nat_cmp x y
+        → r ≡ ordering_then c d → ordering_index r ≡ runs_compared (drop i a) (drop i b)
+    runs_told h Less d r ec ed er = ap ordering_index er ∙ runs_by_digits 0 (omega arith) (omega arith) ec (λ q. omega (arith, q))
+    runs_told h Equal d r ec ed er =
+        ap ordering_index er ∙ runs_by_zeros 1 (omega arith) (omega arith) ec (ordering_index d) refl (ap ordering_index ed ∙ size_told x y)
+    runs_told h Greater d r ec ed er = ap ordering_index er ∙ runs_by_digits 2 (omega arith) (omega arith) ec (λ q. omega (arith, q))
 
 -- ---- elements at i: p and q are the bytes there
 
@@ -160,9 +170,9 @@ module _ (a b : List ℕ) (n m i p q : ℕ) (ln : n ≡ length a) (lm : m ≡ le
   unfolding pick
   run_after u v = sym (opened ∙ rw (u, v))
 
-  pub both_others : (r : ℕ) → s ≡ false → t ≡ false → r ≡ by_size p q 1 → r ≡ elements_compared (drop i a) (drop i b)
+  pub both_others : (o : Ordering) → s ≡ false → t ≡ false → o ≡ nat_cmp p q → ordering_index o ≡ elements_compared (drop i a) (drop i b)
   unfolding pick
-  both_others r u v e = e ∙ sym (opened ∙ rw (u, v))
+  both_others o u v e = ap ordering_index e ∙ size_told p q ∙ sym (opened ∙ rw (u, v))
 
 module _ (a : List ℕ) (i e : ℕ) (ee : e ≡ i + digits_of (drop i a)) where
   pub one_byte : e ≡ i → i + 1 ≡ i + element_size (drop i a)
@@ -245,19 +255,26 @@ module _ (a b : List ℕ) (n m i : ℕ) (ln : n ≡ length a) (lm : m ≡ length
     second : drop i b ≡ r ∷ drop (suc i) b
     second = drop-cons b i 0 (omega arith)
 
-    pub left_decided : (c ≡ 1 → ⊥) → compared (drop i a) (drop i b) ≡ c
+    left_decided : (c ≡ 1 → ⊥) → compared (drop i a) (drop i b) ≡ c
     left_decided z =
         let so = ec ∙ ap₂ elements_compared first second in
         ap₂ compared first second ∙ elements_decide p r (drop (suc i) a) (drop (suc i) b) (λ q. z (so ∙ q)) ∙ sym so
 
-    pub left_on : (e : ℕ) → c ≡ 1 → e ≡ i + element_size (drop i a) → compared (drop i a) (drop i b) ≡ compared (drop e a) (drop e b)
+    left_on : (e : ℕ) → c ≡ 1 → e ≡ i + element_size (drop i a) → compared (drop i a) (drop i b) ≡ compared (drop e a) (drop e b)
     left_on e z q =
         let so = sym (ap₂ elements_compared first second) ∙ sym ec ∙ z in
         let k = element_size (drop i a) in
         ap₂ compared first second ∙ elements_pass p r (drop (suc i) a) (drop (suc i) b) so
         ∙ ap₂ compared (rw (← first) (drop-drop k i a ∙ ap (λ (j : ℕ). drop j a) (sym q))) (rw (← first, ← second) (drop-drop k i b ∙ ap (λ (j : ℕ). drop j b) (sym q)))
 
-    pub left_less : (e : ℕ) → e ≡ i + element_size (drop i a) → n - e < n - i
-    left_less e q = omega (arith, element_some (drop i a))
+  module _ (o : Ordering) (h : i < n) (g : i < m) (eo : ordering_index o ≡ elements_compared (drop i a) (drop i b)) (t : Bool) (et : t ≡ is_ne o) where
+    pub left_first : t ≡ true → compared (drop i a) (drop i b) ≡ ordering_index o
+    left_first z = left_decided (ordering_index o) h g eo (index_apart o (sym et ∙ z))
 
-pub ruleset cases = (leads_on, leads_stop, leads_end, digits_less, digits_more, digits_on, digits_over, digit_place, less_told, more_told, level_told, zeros_within, run_within, runs_shorter, runs_longer, runs_by_digits, runs_by_zeros, both_runs, run_before, run_after, both_others, one_byte, whole_run, left_longer, left_shorter, left_none, left_decided, left_on, left_less, rules)
+    pub left_next : (e : ℕ) → t ≡ false → e ≡ i + element_size (drop i a) → compared (drop i a) (drop i b) ≡ compared (drop e a) (drop e b)
+    left_next e z q = left_on (ordering_index o) h g eo e (index_level o (sym et ∙ z)) q
+
+pub left_less : (a : List ℕ) (n i : ℕ) → i < n → (e : ℕ) → e ≡ i + element_size (drop i a) → n - e < n - i
+left_less a n i h e q = omega (arith, element_some (drop i a))
+
+pub ruleset cases = (leads_on, leads_stop, leads_end, digits_apart, digits_on, digits_over, digit_place, zeros_within, run_within, runs_apart, both_runs, run_before, run_after, both_others, one_byte, whole_run, left_longer, left_shorter, left_none, left_first, left_next, left_less, rules)

@@ -25,15 +25,14 @@ fn part_end(text: &[u8], at: usize) -> usize
     ensures { result ≡ part_end text.now 32768 at }
 {
     let mut i = at;
-    let mut left: usize = numbers::TEXT_SIZE;
-    while 0 < left {
+    // the turns left are the definition's
+    for left in (0..numbers::TEXT_SIZE).rev() {
         let t = text_tokens::next_token(text, i);
         let kind = t.kind;
         if ends_part(kind) {
             return i;
         }
         i = t.end;
-        left -= 1;
     }
     i
 }
@@ -53,8 +52,8 @@ fn part_of(text: &[u8], marked: bool, name: &[u8]) -> Part
     ensures { result ≡ part_of text.now marked name.now }
 {
     let mut i = 0;
-    let mut left: usize = numbers::MODULE_LIMIT;
-    while 0 < left {
+    // the turns left are the definition's
+    for left in (0..numbers::MODULE_LIMIT).rev() {
         let t = text_tokens::next_token(text, i);
         let kind = t.kind;
         if kind == text_tokens::MODULE_KEY {
@@ -67,7 +66,6 @@ fn part_of(text: &[u8], marked: bool, name: &[u8]) -> Part
                 return Part { marked, start, end };
             }
             i = end;
-            left -= 1;
         } else {
             return no_part();
         }

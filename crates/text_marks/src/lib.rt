@@ -8,18 +8,16 @@ ghost use Rattle.meaning.specs.Tokens.{run_end, at_layout, at_equals, at_symbol,
 ghost use Rattle.meaning.specs.Tokens.{opens, comment_end, skip};
 ghost use Rattle.text_marks.specs.Hyphens.{hyphen_before};
 
-use text_names::byte_at;
+use text_names::{byte_at, run_end};
 
 // Is b among the bytes of set?
 pub fn contains(set: &[u8], b: u8) -> bool
     ensures { result ≡ is_in set.now b }
 {
-    let mut i = 0;
-    while i < set.len() {
-        if b == set[i] {
+    for x in set {
+        if b == *x {
             return true;
         }
-        i += 1;
     }
     false
 }
@@ -53,45 +51,21 @@ pub fn is_symbol(b: u8) -> bool
 fn layout_end(text: &[u8], at: usize) -> usize
     ensures { result ≡ run_end at_layout text.now at }
 {
-    let mut i = at;
-    while i < text.len() {
-        if is_layout(text[i]) {
-            i += 1;
-        } else {
-            return i;
-        }
-    }
-    i
+    run_end(text, at, |b| is_layout(b))
 }
 
 // Past the = at `at`.
 pub fn equals_end(text: &[u8], at: usize) -> usize
     ensures { result ≡ run_end at_equals text.now at }
 {
-    let mut i = at;
-    while i < text.len() {
-        if text[i] == b'=' {
-            i += 1;
-        } else {
-            return i;
-        }
-    }
-    i
+    run_end(text, at, |b| b == b'=')
 }
 
 // Past the symbols at `at`.
 pub fn symbols_end(text: &[u8], at: usize) -> usize
     ensures { result ≡ run_end at_symbol text.now at }
 {
-    let mut i = at;
-    while i < text.len() {
-        if is_symbol(text[i]) {
-            i += 1;
-        } else {
-            return i;
-        }
-    }
-    i
+    run_end(text, at, |b| is_symbol(b))
 }
 
 // Does a hyphen stand at i, before b?
@@ -130,15 +104,12 @@ fn in_comment(text: &[u8], i: usize) -> bool
 fn inside_end(text: &[u8], at: usize) -> usize
     ensures { result ≡ run_end in_comment text.now at }
 {
-    let mut i = at;
-    while i < text.len() {
-        if in_comment(text, i) {
-            i += 1;
-        } else {
+    for i in at..text.len() {
+        if !in_comment(text, i) {
             return i;
         }
     }
-    i
+    at.max(text.len())
 }
 
 // The byte before i, and 0 before byte 0: no layout stands there.
@@ -179,15 +150,14 @@ pub fn skip(text: &[u8], at: usize) -> usize
     ensures { result ≡ skip text.now (length text.now) at }
 {
     let mut i = at;
-    let mut left = text.len();
-    while 0 < left {
+    // the turns left are the definition's
+    for left in (0..text.len()).rev() {
         let j = layout_end(text, i);
         let k = comment_end(text, j);
         if k == j {
             return j;
         }
         i = k;
-        left -= 1;
     }
     i
 }

@@ -5,6 +5,9 @@ use mathlib.Core.Bool.{Bool, true, false}
 use mathlib.Core.List.{List}
 use Prim.Native.Nat.{ℕ}
 use lib.Dec.{ltb}
+use Rattle.std.specs.declared.cmp.Ordering.{Ordering}
+use Rattle.std.specs.declared.cmp.Ordering.TheVariants.{Less, Equal, Greater}
+use Rattle.std.specs.Ordering.{ordering_index, is_le}
 use Rattle.meaning.specs.Lists.{pick}
 use Rattle.meaning.specs.Names.{same, bytes_not_after, not_after}
 use Rattle.meaning.specs.OrderLaws.{same_equal, order_reflexive, bytes_ordered, not_after_self}
@@ -21,11 +24,17 @@ module _ (x y : List ℕ) (le : List ℕ → List ℕ → Bool) (self : (w : Lis
       go false true e f = refl
       go false false e f = refl
 
-module _ (x y : List ℕ) (c : ℕ) where
-  pub not_after_told : c ≡ compared x y → ltb c 2 ≡ not_after x y
-  unfolding compared
-  not_after_told h = told_by x y not_after not_after_self c h
+index_le : (o : Ordering) → ltb (ordering_index o) 2 ≡ is_le o
+index_le Less = refl
+index_le Equal = refl
+index_le Greater = refl
 
-  pub bytes_told : c ≡ bytes_compared x y → ltb c 2 ≡ bytes_not_after x y
+-- the same of the comparison o
+module _ (x y : List ℕ) (o : Ordering) (r : Bool) (e : r ≡ is_le o) where
+  pub not_after_told : ordering_index o ≡ compared x y → r ≡ not_after x y
+  unfolding compared
+  not_after_told h = e ∙ sym (index_le o) ∙ told_by x y not_after not_after_self (ordering_index o) h
+
+  pub bytes_told : ordering_index o ≡ bytes_compared x y → r ≡ bytes_not_after x y
   unfolding bytes_compared
-  bytes_told h = told_by x y bytes_not_after (order_reflexive bytes_ordered) c h
+  bytes_told h = e ∙ sym (index_le o) ∙ told_by x y bytes_not_after (order_reflexive bytes_ordered) (ordering_index o) h

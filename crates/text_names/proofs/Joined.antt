@@ -2,7 +2,7 @@
 use mathlib.Core.Path.{◌≡◌, sym, ◌∙◌}
 use mathlib.Core.Bool.{Bool, true}
 use mathlib.Core.List.{List}
-use Prim.Native.Nat.{ℕ, ◌+◌, ◌-◌, ◌*◌, ◌/◌, ◌%◌, ◌<◌, ◌≤◌, min}
+use Prim.Native.Nat.{ℕ, ◌+◌, ◌-◌, ◌*◌, ◌/◌, ◌%◌, ◌≤◌, min}
 use native.Mathlib.Omega.{arith}
 use lib.ListN.{length, take, drop}
 use lib.Seq.{take-length}
@@ -10,12 +10,16 @@ use borrow.Author.Rules.{rules}
 use borrow.Author.Tests.{leb-true, lt-ltb}
 use mir.Syntax.{w32}
 use mir.Val.{Fits}
+use Rattle.std.proofs.Common.{Option, Some}
+use Rattle.std.specs.declared.cmp.Ordering.{Ordering}
+use Rattle.std.specs.Ordering.{ordering_index}
 use Rattle.meaning.specs.Lists.{pick}
 use Rattle.meaning.specs.Names.{same}
 use Rattle.text_names.specs.Word.{token_of, name_of, plain_name}
 use Rattle.text_spelling.specs.Word.{word_parts}
 use Rattle.text_runs.specs.Orders.{compared}
 use Rattle.text_runs.specs.Runs.{Seen}
+use Rattle.text_runs.specs.Codes.{seen_index, seen_told}
 use Rattle.text_names.specs.Joint.{joint, name_in_library, name_in_text}
 use Rattle.text_seams.specs.Sides.{has_room, have_room, both_behind}
 use Rattle.text_places.proofs.Places.{first_true, second_true, same_words, alone}
@@ -89,18 +93,20 @@ module _ (l t : List ℕ) where
       second_part : take (b / 256 + b % 256 - b / 256) (drop (b / 256) t) ≡ name_of (joint l t) b
       second_part = text_part b (second_room (length t) a b q y e)
 
-      pub here_seen : (r : ℕ) → Seen (take (a / 256 + a % 256 - a / 256) (drop (a / 256) t)) (take (b / 256 + b % 256 - b / 256) (drop (b / 256) t)) r → r < 3
-          → r ≡ compared (name_of (joint l t) a) (name_of (joint l t) b)
-      here_seen r h z = sym (rw (← first_part, ← second_part) (h.told z))
+      pub here_seen : (r : Option Ordering)
+          → Seen (take (a / 256 + a % 256 - a / 256) (drop (a / 256) t)) (take (b / 256 + b % 256 - b / 256) (drop (b / 256) t)) (seen_index r)
+          → (o : Ordering) → r ≡ Some o → ordering_index o ≡ compared (name_of (joint l t) a) (name_of (joint l t) b)
+      here_seen r h o z = rw (← first_part, ← second_part) (seen_told _ _ r o h z)
 
       pub here_same : (r : Bool) → r ≡ same (take (a / 256 + a % 256 - a / 256) (drop (a / 256) t)) (take (b / 256 + b % 256 - b / 256) (drop (b / 256) t))
           → r ≡ same (name_of (joint l t) a) (name_of (joint l t) b)
       here_same r h = rw (first_part, second_part) at h
 
-    pub there_seen : q ≡ both_behind (length t) a b → (r : ℕ) → Seen (name_of l (a - length t * 256)) (name_of l (b - length t * 256)) r → r < 3
-        → r ≡ compared (name_of (joint l t) a) (name_of (joint l t) b)
-    there_seen e r h z =
-        sym (rw (← library_name a (first_behind (length t) a b q y e), ← library_name b (second_behind (length t) a b q y e)) (h.told z))
+    pub there_seen : q ≡ both_behind (length t) a b → (r : Option Ordering)
+        → Seen (name_of l (a - length t * 256)) (name_of l (b - length t * 256)) (seen_index r)
+        → (o : Ordering) → r ≡ Some o → ordering_index o ≡ compared (name_of (joint l t) a) (name_of (joint l t) b)
+    there_seen e r h o z =
+        rw (← library_name a (first_behind (length t) a b q y e), ← library_name b (second_behind (length t) a b q y e)) (seen_told _ _ r o h z)
 
     pub there_same : q ≡ both_behind (length t) a b → (r : Bool) → r ≡ same (name_of l (a - length t * 256)) (name_of l (b - length t * 256))
         → r ≡ same (name_of (joint l t) a) (name_of (joint l t) b)

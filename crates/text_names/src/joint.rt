@@ -1,11 +1,13 @@
 // Names of two texts as one, the customer's text with the library behind it: a place is one of both together, and so is a name's word.
 // Most names lie in the text, which therefore comes first: their words are as they were read, and are compared there.
 ghost use Rattle.std.specs.Prelude.{◌≡◌};
+ghost use Rattle.std.specs.Ordering.{ordering_index};
 ghost use Rattle.meaning.specs.Names.{same, not_after};
 ghost use Rattle.text_names.specs.Word.{name_of};
 ghost use Rattle.text_runs.specs.Orders.{compared};
 ghost use Rattle.text_names.specs.Joint.{joint};
 
+use std::cmp::Ordering;
 use text_comparing::compare_names;
 use text_elements::compare_across;
 use text_places::same_across;
@@ -25,35 +27,33 @@ fn same_elsewhere(library: &[u8], text: &[u8], a: u32, b: u32) -> bool
 }
 
 // Names of the library are compared there as far as that tells, and all others element by element.
-fn compare_elsewhere(library: &[u8], text: &[u8], a: u32, b: u32) -> u8
-    ensures { result ≡ compared (name_of (joint library.now text.now) a) (name_of (joint library.now text.now) b) }
+fn compare_elsewhere(library: &[u8], text: &[u8], a: u32, b: u32) -> Ordering
+    ensures { ordering_index result ≡ compared (name_of (joint library.now text.now) a) (name_of (joint library.now text.now) b) }
 {
     // called twice, it stays out of `same_name`, which then is inlined where it is called
     if same_elsewhere(library, text, a, b) {
-        return 1;
+        return Ordering::Equal;
     }
     if both_behind(text, a, b) {
         let by = text.len() as u32 * 256;
-        let c = super::compare_at_once(library, a - by, b - by);
-        if c < 3 {
-            return c;
+        if let Some(order) = super::compare_at_once(library, a - by, b - by) {
+            return order;
         }
     }
     compare_across(library, text, a, b)
 }
 
-// 1 if a and b are the same name, 0 if a comes first, 2 if b does. They are compared where they stand in the texts.
-pub fn compare(library: &[u8], text: &[u8], a: u32, b: u32) -> u8
-    ensures { result ≡ compared (name_of (joint library.now text.now) a) (name_of (joint library.now text.now) b) }
+// Which of two names comes first, `Equal` if they are the same. They are compared where they stand in the texts.
+pub fn compare(library: &[u8], text: &[u8], a: u32, b: u32) -> Ordering
+    ensures { ordering_index result ≡ compared (name_of (joint library.now text.now) a) (name_of (joint library.now text.now) b) }
 {
     if have_room(text, a, b) {
         let x = (a / 256) as usize;
         let y = (b / 256) as usize;
         let n = x + (a % 256) as usize;
         let m = y + (b % 256) as usize;
-        let c = compare_names(&text[x..n], &text[y..m]);
-        if c < 3 {
-            return c;
+        if let Some(order) = compare_names(&text[x..n], &text[y..m]) {
+            return order;
         }
     }
     // handed on as parts, so that what is here stays in registers
@@ -81,7 +81,7 @@ pub fn same_name(library: &[u8], text: &[u8], a: u32, b: u32) -> bool
 pub fn not_after(library: &[u8], text: &[u8], a: u32, b: u32) -> bool
     ensures { result ≡ not_after (name_of (joint library.now text.now) a) (name_of (joint library.now text.now) b) }
 {
-    compare(library, text, a, b) < 2
+    compare(library, text, a, b).is_le()
 }
 
 // Is w, of the text, the name that v is of the library? Each is a word of its own text.

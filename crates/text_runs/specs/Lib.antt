@@ -3,3 +3,4 @@ pub mod Runs
 pub mod RunLaws
 pub mod Canonical
 pub mod Turns
+pub mod Codes

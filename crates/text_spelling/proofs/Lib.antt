@@ -1,5 +1,4 @@
 pub mod Auto
-pub mod Bytes
 pub mod Same
 pub mod Forms
 pub mod Joined

@@ -14,10 +14,7 @@ pub use text_bytes::{byte_at, lesser, token_room};
 pub fn is_digit(b: u8) -> bool
     ensures { result ≡ is_digit b }
 {
-    if b'0' <= b {
-        return b <= b'9';
-    }
-    false
+    b.is_ascii_digit()
 }
 
 // ---- the bytes of a name
@@ -77,15 +74,14 @@ pub fn name_byte(library: &[u8], text: &[u8], w: u32, i: usize) -> u8
 pub fn same_bytes(a: &[u8], b: &[u8]) -> bool
     ensures { result ≡ same a.now b.now }
 {
+    // a loop: as `==` it makes `text_names::joint::same_name` too large to be compiled into its callers, and texts of many names take half as much again
     if a.len() != b.len() {
         return false;
     }
-    let mut i = 0;
-    while i < a.len() {
+    for i in 0..a.len() {
         if a[i] != b[i] {
             return false;
         }
-        i += 1;
     }
     true
 }
@@ -105,14 +101,12 @@ pub fn same_wherever(
     if n != name_size(behind, other, b) {
         return false;
     }
-    let mut i = 0;
-    while i < n {
+    for i in 0..n {
         let p = name_byte(library, text, a, i);
         let q = name_byte(behind, other, b, i);
         if p != q {
             return false;
         }
-        i += 1;
     }
     true
 }
@@ -125,13 +119,11 @@ pub fn is_called(library: &[u8], text: &[u8], a: u32, asked: &[u8]) -> bool
     if n != asked.len() {
         return false;
     }
-    let mut i = 0;
-    while i < n {
+    for i in 0..n {
         let p = name_byte(library, text, a, i);
         if p != asked[i] {
             return false;
         }
-        i += 1;
     }
     true
 }
@@ -143,12 +135,10 @@ pub fn is_operator(library: &[u8], text: &[u8], w: u32) -> bool
     ensures { result ≡ is_operator (name_of (joint library.now text.now) w) }
 {
     let n = name_size(library, text, w);
-    let mut i = 0;
-    while i < n {
+    for i in 0..n {
         if name_byte(library, text, w, i) == b'_' {
             return true;
         }
-        i += 1;
     }
     false
 }

@@ -10,7 +10,7 @@ ghost use Rattle.text_tokens.specs.Table.{in_word};
 use text_marks::{
     comment_sign, contains, equals_end, hyphen_before, is_mark, is_symbol, skip, symbols_end,
 };
-use text_names::{byte_at, is_word, same_bytes, word_end};
+use text_names::{byte_at, is_word, run_end, same_bytes, word_end};
 use types::Token;
 
 // The kinds of tokens. A mark and `=` are their own bytes; the fifteen keywords are numbered in the order of their table.
@@ -62,14 +62,7 @@ pub const WHEN_KEY: u8 = 143;
 fn word_stop(table: &[u8], at: usize) -> usize
     ensures { result ≡ run_end in_word table.now at }
 {
-    let mut i = at;
-    while i < table.len() {
-        if table[i] == 32 {
-            return i;
-        }
-        i += 1;
-    }
-    i
+    run_end(table, at, |b| b != b' ')
 }
 
 // The number of the first word of the table that w is, from 1 on; 0 if it is none.
@@ -78,6 +71,7 @@ pub fn number_in(table: &[u8], w: &[u8]) -> usize
 {
     let mut at = 0;
     let mut n = 1;
+    // no `for`: each turn goes on behind the word of the turn before it
     loop {
         let e = word_stop(table, at);
         if same_bytes(w, &table[at..e]) {

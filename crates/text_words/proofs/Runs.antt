@@ -1,12 +1,14 @@
 -- Laws of runs of bytes and of single bytes of a text, in the code's terms: the byte at i, and i + 1.
 use mathlib.Core.Path.{◌≡◌, refl, sym, ap, ◌∙◌}
-use mathlib.Core.Bool.{Bool, true, false, false≢true}
+use mathlib.Core.Bool.{Bool, true, false, false≢true, ◌||◌}
 use mathlib.Core.List.{List, [], ◌∷◌}
 use Prim.Native.Nat.{ℕ, suc, ◌+◌, ◌-◌, ◌*◌, ◌^◌, ◌<◌, ◌≤◌, zero-le, suc-le-suc}
 use native.Mathlib.Numerals.{add-one}
 use native.Mathlib.Nat.{add-zero, not-suc-le-zero}
 use native.Mathlib.Omega.{arith}
-use lib.Dec.{eqb}
+use lib.Dec.{eqb, leb}
+use borrow.Author.Tests.{leb-true, le-leb, lt-leb, ne_eqb}
+use Rattle.std.specs.Char.{is_ascii_alphanumeric}
 use lib.ListN.{length, get_or, drop, drop_of_length-le, length-drop}
 use lib.Seq.{drop-cons, drop-drop, get_or-drop}
 use mir.Syntax.{w64}
@@ -104,3 +106,42 @@ word_less s i j l h = omega (arith, run_from at_hyphen s i j h)
 
 pub word_fits : (s : List ℕ) (i j : ℕ) → i < length s → j ≡ run_end at_hyphen s i → length s * 1 < 2 ^ 63 → Fits w64 (j + 1)
 word_fits s i j l h m = omega (arith, run_within at_hyphen s i j h l)
+
+-- ---- a word's byte: a letter, a digit or the single quote
+
+word_told : (b : ℕ) → pick (is_ascii_alphanumeric b) true (eqb b 39) ≡ is_word b
+unfolding is_word pick
+word_told b = go (leb 97 b) (leb 65 b) (leb 48 b) refl refl refl
+  where
+    left : (t : Bool) → pick (t || false) true false ≡ t
+    left true = refl
+    left false = refl
+
+    go : (p q r : Bool) → leb 97 b ≡ p → leb 65 b ≡ q → leb 48 b ≡ r → pick (is_ascii_alphanumeric b) true (eqb b 39) ≡ is_word b
+    go true q r e f g =
+        let h = leb-true 97 b e in
+        rw (e, le-leb 65 b (omega arith), le-leb 48 b (omega arith), lt-leb b 57 (omega arith), lt-leb b 90 (omega arith), ne_eqb b 39 (λ z. omega arith))
+        (both (leb b 122))
+      where
+        both : (t : Bool) → pick t true false ≡ t
+        both true = refl
+        both false = refl
+    go false true r e f g =
+        let h = leb-true 65 b f in
+        rw (e, f, le-leb 48 b (omega arith), lt-leb b 57 (omega arith), ne_eqb b 39 (λ z. omega arith)) (left (leb b 90))
+    go false false true e f g =
+        let h = leb-true 48 b g in
+        rw (e, f, g, ne_eqb b 39 (λ z. omega arith)) (twice (leb b 57))
+      where
+        twice : (t : Bool) → pick ((t || false) || false) true false ≡ t
+        twice true = refl
+        twice false = refl
+    go false false false e f g = rw (e, f, g)
+
+pub word_by_class : (b : ℕ) (s : Bool) → s ≡ is_ascii_alphanumeric b → s ≡ true → s ≡ is_word b
+unfolding pick
+word_by_class b s e h = h ∙ rw (sym e ∙ h) at (word_told b)
+
+pub word_by_quote : (b : ℕ) (s : Bool) → s ≡ is_ascii_alphanumeric b → s ≡ false → eqb b 39 ≡ is_word b
+unfolding pick
+word_by_quote b s e h = rw (sym e ∙ h) at (word_told b)

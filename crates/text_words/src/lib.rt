@@ -1,8 +1,9 @@
 // Identifiers of a text: which bytes they have, and where one ends.
 #![tactic(auto)]
 
-ghost use Rattle.std.specs.Prelude.{◌≡◌};
+ghost use Rattle.std.specs.Prelude.{◌≡◌, ℕ, Bool};
 ghost use Rattle.meaning.specs.Tokens.{is_word, run_end, at_hyphen, at_word};
+ghost use Rattle.text_words.specs.Tests.{Tells, in_front};
 
 use text_spelling::byte_at;
 
@@ -10,38 +11,35 @@ use text_spelling::byte_at;
 pub fn is_word(b: u8) -> bool
     ensures { result ≡ is_word b }
 {
-    if b'a' <= b {
-        return b <= b'z';
+    b.is_ascii_alphanumeric() || b == b'\''
+}
+
+// Past the bytes from `at` on that pass a test.
+pub fn run_end<F: Fn(u8) -> bool>(text: &[u8], at: usize, passes: F) -> usize
+    requires { F.IsAlwaysCallable passes }
+    ensures { (test : ℕ → Bool) → Tells (F.post passes) test → result ≡ run_end (in_front test) text.now at }
+{
+    for i in at..text.len() {
+        if !passes(text[i]) {
+            return i;
+        }
     }
-    if b'A' <= b {
-        return b <= b'Z';
-    }
-    if b'0' <= b {
-        return b <= b'9';
-    }
-    b == b'\''
+    at.max(text.len())
 }
 
 // Past the hyphens at `at`.
 fn hyphens_end(text: &[u8], at: usize) -> usize
     ensures { result ≡ run_end at_hyphen text.now at }
 {
-    let mut i = at;
-    while i < text.len() {
-        if text[i] == b'-' {
-            i += 1;
-        } else {
-            return i;
-        }
-    }
-    i
+    run_end(text, at, |b| b == b'-')
 }
 
-// Past the identifier at `at`: each turn goes over hyphens and the one byte behind them, so that no hyphen is read twice.
+// Past the identifier at `at`.
 pub fn word_end(text: &[u8], at: usize) -> usize
     ensures { result ≡ run_end at_word text.now at }
 {
     let mut i = at;
+    // a while: each turn goes over hyphens and the one byte behind them, so that no hyphen is read twice
     while i < text.len() {
         let j = hyphens_end(text, i);
         if is_word(byte_at(text, j)) {

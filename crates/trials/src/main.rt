@@ -9,17 +9,10 @@ use std::alloc::Global;
 use std::io;
 use std::io::{Read, Write};
 
-fn lesser(a: usize, b: usize) -> usize
-    ensures upper_bound { result ≤ a }
-    ensures upper_bound_2 { result ≤ b }
-{
-    if a < b { a } else { b }
-}
-
 // As much of the bytes from a up to e as there is.
 fn part(bytes: &[u8], a: usize, e: usize) -> &[u8] {
-    let to = lesser(e, bytes.len());
-    let from = lesser(a, to);
+    let to = e.min(bytes.len());
+    let from = a.min(to);
     &bytes[from..to]
 }
 
@@ -27,61 +20,44 @@ fn part(bytes: &[u8], a: usize, e: usize) -> &[u8] {
 fn line_end(bytes: &[u8], at: usize) -> usize
     ensures { result ≤ length bytes.now }
 {
-    let mut i = lesser(at, bytes.len());
-    while i < bytes.len() {
+    for i in at..bytes.len() {
         if bytes[i] == b'\n' {
             return i;
         }
-        i += 1;
     }
-    i
-}
-
-fn wide(b: u8) -> usize {
-    b as usize
+    bytes.len()
 }
 
 // The decimal number in the bytes, of at most seven digits.
 fn number(digits: &[u8]) -> usize {
     let mut value = 0;
-    let mut i = 0;
-    while i < digits.len() {
-        value = value % 1000000 * 10 + (wide(digits[i]) % 256 + 2) % 10;
-        i += 1;
+    for b in digits {
+        value = value % 1000000 * 10 + (usize::from(*b) + 2) % 10;
     }
     value
 }
 
 // The first place where a and b differ: where one ends, at the latest.
 fn first_difference(a: &[u8], b: &[u8]) -> usize {
-    let size = lesser(a.len(), b.len());
-    let mut i = 0;
-    while i < size {
-        if a[i] != b[i] {
-            return i;
-        }
-        i += 1;
-    }
-    i
+    let size = a.len().min(b.len());
+    a.iter().zip(b).position(|(x, y)| *x != *y).unwrap_or(size)
 }
 
 // Is what was printed what must be? Prints what comes of the case, behind its name.
 fn compared<W: Write>(output: &mut W, printed: &[u8], wanted: &[u8]) -> io::Result<bool> {
-    let place = first_difference(printed, wanted);
-    if printed.len() == wanted.len() {
-        if place == wanted.len() {
-            output.write_all(b" ok\n")?;
-            return Ok(true);
-        }
+    if printed == wanted {
+        output.write_all(b" ok\n")?;
+        return Ok(true);
     }
+    let place = first_difference(printed, wanted);
     writeln!(output, " differs at {place}")?;
     Ok(false)
 }
 
 // The response to the input, where the case's line says what is lent.
 fn respond(line: &[u8], input: &[u8], work: &mut [u32], out: &mut [u8], page: &mut [u8]) -> usize {
-    let memory = lesser(number(part(line, 0, 7)), work.len());
-    let output = lesser(number(part(line, 8, 15)), out.len());
+    let memory = number(part(line, 0, 7)).min(work.len());
+    let output = number(part(line, 8, 15)).min(out.len());
     responding::respond(input, &mut work[0..memory], &mut out[0..output], page)
 }
 
@@ -103,8 +79,8 @@ struct Places {
 // Their sizes stand in the case's line, which ends at `end`.
 fn places_of(cases: &[u8], line: &[u8], end: usize) -> Places {
     let input = behind(end, cases.len());
-    let printed = input + lesser(number(part(line, 16, 23)), cases.len() - input);
-    let next = printed + lesser(number(part(line, 24, 31)), cases.len() - printed);
+    let printed = input + number(part(line, 16, 23)).min(cases.len() - input);
+    let next = printed + number(part(line, 24, 31)).min(cases.len() - printed);
     Places {
         input,
         printed,
@@ -140,12 +116,6 @@ fn run_case<W: Write>(
     Ok(Ran { well, next })
 }
 
-fn one_if(b: bool) -> usize
-    ensures { result ≤ 1 }
-{
-    if b { 1 } else { 0 }
-}
-
 fn told<W: Write>(output: &mut W, good: usize, all: usize) -> io::Result<()> {
     writeln!(output, "{good} of {all}")
 }
@@ -160,18 +130,16 @@ fn run<W: Write>(
 ) -> io::Result<()> {
     let mut at = 0;
     let mut good = 0;
-    let mut all = 0;
-    while all < cases.len() {
+    for all in 0..cases.len() {
         if cases.len() <= at {
             return told(output, good, all);
         }
         let ran = run_case(output, cases, at, work, out, page)?;
         let well = ran.well;
         at = ran.next;
-        good += one_if(well);
-        all += 1;
+        good += usize::from(well);
     }
-    told(output, good, all)
+    told(output, good, cases.len())
 }
 
 fn run_with<W: Write>(output: &mut W, cases: &[u8], work: &mut [u32]) -> io::Result<()> {

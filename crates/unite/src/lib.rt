@@ -40,16 +40,10 @@ fn with_items(f: Form, parameters: u32, visible: u32, hidden: u32) -> Form
     ensures { result ≡ with_items f parameters visible hidden }
 {
     Form {
-        parameters: f.parameters,
         parameter_count: parameters,
-        visible: f.visible,
         visible_count: visible,
-        hidden: f.hidden,
         hidden_count: hidden,
-        equations: f.equations,
-        equation_count: f.equation_count,
-        nodes: f.nodes,
-        node_count: f.node_count,
+        ..f
     }
 }
 
@@ -91,10 +85,8 @@ pub fn unite_parameters(
 {
     let more = g.parameter_count;
     let mut n = f.parameter_count;
-    let mut k = 0;
-    while k < more {
+    for k in 0..more {
         n = unite_parameter(library, text, work, t, g, f, k, n);
-        k += 1;
     }
     with_items(f, n, f.visible_count, f.hidden_count)
 }

@@ -2,13 +2,12 @@
 use mathlib.Core.Path.{◌≡◌, refl, sym, ap, ap₂, ◌∙◌}
 use mathlib.Core.Bool.{Bool, true, false, ◌&&◌, false≢true}
 use mathlib.Core.Option.{none, some}
+use Rattle.std.specs.Prelude.{Some, None}
 use mathlib.Core.List.{List, [], ◌∷◌, map}
 use Prim.Native.Nat.{ℕ, zero, suc, ◌+◌, ◌*◌, ◌-◌, ◌≤◌, ◌<◌}
 use native.Mathlib.Omega.{arith}
 use lib.Dec.{eqb, ltb}
 use lib.ListN.{get_or}
-use mir.Syntax.{w32}
-use mir.Val.{Fits}
 use borrow.Author.Rules.{rules}
 use borrow.Author.Tests.{eq-eqb, ne_eqb, eqb-false, ltb-true, ltb-false}
 use Rattle.meaning.specs.Lists.{pick, any}
@@ -27,10 +26,9 @@ use Rattle.form_order.specs.Sorting.{ordered_names}
 use Rattle.form_order.specs.Ordered.{row_item, row_called, ordered_items, row_slot, slot_called, ordered_slots}
 use Rattle.unite_pairs.specs.declared.Test.{Test}
 use Rattle.unite_pairs.specs.declared.Test.TheVariants.{Sorts, Functions, Overloading}
-use Rattle.unite_checks.specs.declared.Found.TheVariants.{At, Nothing}
 use Rattle.unite_pairs.specs.Pairs.{but_name}
 use Rattle.unite_pairs.proofs.Cases.{sorts_first}
-use Rattle.unite_checks.specs.Clashes.{named, wrong, clash_name, repeated_name, first_rival, wrong_parts}
+use Rattle.unite_checks.specs.Clashes.{named, wrong, clash_name, repeated_name, first_rival, has_rival, wrong_parts}
 
 -- ---- what the order table points at from place i on
 
@@ -88,6 +86,69 @@ row_told w b p i k r ek er = er ∙ ap (λ (j : ℕ). row_at w (b + j * row_size
 pub name_told : (w : List ℕ) (b p i k r : ℕ) → k ≡ get_or w (p + i) 0 → r ≡ get_or w (b + k * slot_size) 0 → r ≡ get_or w (b + get_or w (p + i) 0 * slot_size) 0
 name_told w b p i k r ek er = er ∙ ap (λ (j : ℕ). get_or w (b + j * slot_size) 0) ek
 
+-- ---- `has_rival`
+
+pub record Inner (text tape w : List ℕ) (b n p : ℕ) (t : Test) (i : ℕ) (x : Row) (j : ℕ) : Type 0 where
+  pub behind : i < j
+  pub inside : j ≤ n
+  pub comes : any (wrong t (item_of text tape x)) (From (row_item text tape w b) w p n j) ≡ has_rival text tape w b n p t i x
+
+module _ (text tape w : List ℕ) (b n p : ℕ) (t : Test) (i : ℕ) (x : Row) where
+  abbrev at_odds_with : Item → Bool
+  at_odds_with = wrong t (item_of text tape x)
+
+  abbrev behind : ℕ → List Item
+  behind j = From (row_item text tape w b) w p n j
+
+  inner_start : i < n → Inner text tape w b n p t i x (i + 1)
+  unfolding has_rival
+  inner_start h = record { behind = omega arith; inside = omega arith; comes = refl }
+
+  module _ (j : ℕ) (inv : Inner text tape w b n p t i x j) where
+    module _ (y : Row) (c : Bool) (l : j < n) (ey : y ≡ row_at w (b + get_or w (p + j) 0 * row_size))
+        (ec : c ≡ same (name_of text x.name) (name_of text y.name)) where
+      next : behind j ≡ item_of text tape y ∷ behind (j + 1)
+      next = from_here (row_item text tape w b) w p n j l ∙ ap (λ (r : Row). item_of text tape r ∷ behind (j + 1)) (sym ey)
+
+      module _ (o : Bool) (eo : o ≡ but_name t (item_of text tape x) (item_of text tape y)) (g : c ≡ true) where
+        tested : at_odds_with (item_of text tape y) ≡ o
+        unfolding item_of
+        tested = wrong_parts t (item_of text tape x) (item_of text tape y) ∙ rw (← ec, g, ← eo)
+
+        pub inner_again : o ≡ false → Inner text tape w b n p t i x (j + 1)
+        unfolding any pick
+        inner_again q =
+            let step : any at_odds_with (behind j) ≡ any at_odds_with (behind (j + 1)) = rw (next, tested, q) in
+            record { behind = omega (arith, inv.behind); inside = omega arith; comes = sym step ∙ inv.comes }
+
+        pub inner_found : o ≡ true → true ≡ has_rival text tape w b n p t i x
+        unfolding any pick
+        inner_found q = let found : any at_odds_with (behind j) ≡ true = rw (next, tested, q) in sym found ∙ inv.comes
+
+      -- those from y on have another name than x
+      pub inner_other : InOrder text w (b + 1) row_size p n → x ≡ row_at w (b + get_or w (p + i) 0 * row_size) → c ≡ false
+          → false ≡ has_rival text tape w b n p t i x
+      unfolding item_of
+      inner_other ord ex g =
+          let ki = get_or w (p + i) 0 in
+          let kj = get_or w (p + j) 0 in
+          let mine : name_of text x.name ≡ name_in text w (b + 1) row_size ki =
+          ap (λ (r : Row). name_of text r.name) ex ∙ row_called text tape w b ki in
+          let other : name_of text y.name ≡ name_in text w (b + 1) row_size kj =
+          ap (λ (r : Row). name_of text r.name) ey ∙ row_called text tape w b kj in
+          let differ : same (name_in text w (b + 1) row_size ki) (name_in text w (b + 1) row_size kj) ≡ false =
+          ap₂ same (sym mine) (sym other) ∙ sym ec ∙ g in
+          let apart : (l : ℕ) → j ≤ l → l < n → at_odds_with (row_item text tape w b (get_or w (p + l) 0)) ≡ false =
+          λ l m k. wrong_parts t (item_of text tape x) (row_item text tape w b (get_or w (p + l) 0))
+          ∙ ap (λ (q : Bool). q && but_name t (item_of text tape x) (row_item text tape w b (get_or w (p + l) 0)))
+          (ap₂ same mine (row_called text tape w b (get_or w (p + l) 0))
+          ∙ later_differ text w (b + 1) row_size p n i j ord (omega (arith, inv.behind)) differ l m k) in
+          sym (none_from (row_item text tape w b) w p n at_odds_with (n - j) j refl apart) ∙ inv.comes
+
+    pub inner_end : n ≤ j → false ≡ has_rival text tape w b n p t i x
+    unfolding any
+    inner_end l = sym (ap (any at_odds_with) (from_none (row_item text tape w b) w p n j l)) ∙ inv.comes
+
 -- ---- `find_clash`
 
 abbrev called : Item → Name
@@ -97,95 +158,45 @@ pub record Outer (text tape w : List ℕ) (b n p : ℕ) (t : Test) (i : ℕ) : T
   pub inside : i ≤ n
   pub comes : at_odds called (wrong t) (From (row_item text tape w b) w p n i) ≡ at_odds called (wrong t) (From (row_item text tape w b) w p n 0)
 
-pub record Inner (text tape w : List ℕ) (b n p : ℕ) (t : Test) (i : ℕ) (x : Row) (j : ℕ) : Type 0 where
-  pub behind : i < j
-  pub inside : j ≤ n
-  pub comes : any (wrong t (item_of text tape x)) (From (row_item text tape w b) w p n j)
-      ≡ any (wrong t (item_of text tape x)) (From (row_item text tape w b) w p n (i + 1))
-
 module _ (text tape w : List ℕ) (b n p : ℕ) (t : Test) where
-  abbrev f : ℕ → Item
-  f k = row_item text tape w b k
-
   abbrev later : ℕ → List Item
-  later i = From f w p n i
+  later i = From (row_item text tape w b) w p n i
 
   pub outer_start : Outer text tape w b n p t 0
   outer_start = record { inside = omega arith; comes = refl }
 
-  inner_start : (i : ℕ) (x : Row) → i < n → Inner text tape w b n p t i x (i + 1)
-  inner_start i x h = record { behind = omega arith; inside = omega arith; comes = refl }
+  module _ (i : ℕ) (x : Row) (r : Bool) (h : i < n) (out : Outer text tape w b n p t i) (ex : x ≡ row_at w (b + get_or w (p + i) 0 * row_size))
+      (er : r ≡ has_rival text tape w b n p t i x) where
+    here : later i ≡ item_of text tape x ∷ later (i + 1)
+    here = from_here (row_item text tape w b) w p n i h ∙ ap (λ (y : Row). item_of text tape y ∷ later (i + 1)) (sym ex)
+
+    rivals : any (wrong t (item_of text tape x)) (later (i + 1)) ≡ r
+    unfolding has_rival
+    rivals = sym er
+
+    pub outer_again : r ≡ false → Outer text tape w b n p t (i + 1)
+    unfolding at_odds pick
+    outer_again g =
+        let step : at_odds called (wrong t) (later i) ≡ at_odds called (wrong t) (later (i + 1)) = rw (here, rivals, g) in
+        record { inside = omega arith; comes = sym step ∙ out.comes }
+
+    at_odds_here : r ≡ true → some (name_of text x.name) ≡ at_odds called (wrong t) (later 0)
+    unfolding at_odds pick item_of
+    at_odds_here g = let found : at_odds called (wrong t) (later i) ≡ some (name_of text x.name) = rw (here, rivals, g) in sym found ∙ out.comes
 
   module _ (ord : InOrder text w (b + 1) row_size p n) where
     found_all : at_odds called (wrong t) (later 0) ≡ clash_name t (items_at text tape w b n)
     unfolding clash_name least_at_odds
-    found_all = ap (at_odds called (wrong t)) (from_all f w p n ∙ ordered_items text tape w b p n ord)
+    found_all = ap (at_odds called (wrong t)) (from_all (row_item text tape w b) w p n ∙ ordered_items text tape w b p n ord)
 
-    module _ (i : ℕ) (x : Row) (h : i < n) (ex : x ≡ row_at w (b + get_or w (p + i) 0 * row_size)) (out : Outer text tape w b n p t i) where
-      here : later i ≡ item_of text tape x ∷ later (i + 1)
-      here = from_here f w p n i h ∙ ap (λ (r : Row). item_of text tape r ∷ later (i + 1)) (sym ex)
+    pub outer_found : (i : ℕ) (x : Row) (r : Bool) → i < n → Outer text tape w b n p t i → x ≡ row_at w (b + get_or w (p + i) 0 * row_size)
+        → r ≡ has_rival text tape w b n p t i x → r ≡ true → named text (Some x.name) ≡ clash_name t (items_at text tape w b n)
+    unfolding named
+    outer_found i x r h out ex er g = at_odds_here i x r h out ex er g ∙ found_all
 
-      module _ (j : ℕ) (inv : Inner text tape w b n p t i x j) where
-        module _ (y : Row) (c : Bool) (l : j < n) (ey : y ≡ row_at w (b + get_or w (p + j) 0 * row_size))
-            (ec : c ≡ same (name_of text x.name) (name_of text y.name)) where
-          next : later j ≡ item_of text tape y ∷ later (j + 1)
-          next = from_here f w p n j l ∙ ap (λ (r : Row). item_of text tape r ∷ later (j + 1)) (sym ey)
-
-          module _ (o : Bool) (eo : o ≡ but_name t (item_of text tape x) (item_of text tape y)) (g : c ≡ true) where
-            tested : wrong t (item_of text tape x) (item_of text tape y) ≡ o
-            unfolding item_of
-            tested = wrong_parts t (item_of text tape x) (item_of text tape y) ∙ rw (← ec, g, ← eo)
-
-            pub inner_again : o ≡ false → Inner text tape w b n p t i x (j + 1)
-            unfolding any pick
-            inner_again q =
-                let step : any (wrong t (item_of text tape x)) (later j) ≡ any (wrong t (item_of text tape x)) (later (j + 1)) =
-                rw (next, tested, q) in
-                record { behind = omega (arith, inv.behind); inside = omega arith; comes = sym step ∙ inv.comes }
-
-            pub outer_found : (z : Row) → o ≡ true → z ≡ row_at w (b + get_or w (p + i) 0 * row_size)
-                → named text (At z.name) ≡ clash_name t (items_at text tape w b n)
-            unfolding any at_odds pick named item_of
-            outer_found z q ez =
-                let some_later : any (wrong t (item_of text tape x)) (later (i + 1)) ≡ true = sym inv.comes ∙ rw (next, tested, q) in
-                let found : at_odds called (wrong t) (later i) ≡ some (name_of text x.name) = rw (here, some_later) in
-                let same_row : z ≡ x = ez ∙ sym ex in
-                ap (λ (r : Row). some (name_of text r.name)) same_row ∙ sym found ∙ out.comes ∙ found_all
-
-          pub inner_other : c ≡ false → Inner text tape w b n p t i x n
-          unfolding any item_of
-          inner_other g =
-              let ki = get_or w (p + i) 0 in
-              let kj = get_or w (p + j) 0 in
-              let mine : name_of text x.name ≡ name_in text w (b + 1) row_size ki =
-              ap (λ (r : Row). name_of text r.name) ex ∙ row_called text tape w b ki in
-              let other : name_of text y.name ≡ name_in text w (b + 1) row_size kj =
-              ap (λ (r : Row). name_of text r.name) ey ∙ row_called text tape w b kj in
-              let differ : same (name_in text w (b + 1) row_size ki) (name_in text w (b + 1) row_size kj) ≡ false =
-              ap₂ same (sym mine) (sym other) ∙ sym ec ∙ g in
-              let apart : (l : ℕ) → j ≤ l → l < n → wrong t (item_of text tape x) (f (get_or w (p + l) 0)) ≡ false =
-              λ l m k. wrong_parts t (item_of text tape x) (f (get_or w (p + l) 0))
-              ∙ ap (λ (q : Bool). q && but_name t (item_of text tape x) (f (get_or w (p + l) 0)))
-              (ap₂ same mine (row_called text tape w b (get_or w (p + l) 0))
-              ∙ later_differ text w (b + 1) row_size p n i j ord (omega (arith, inv.behind)) differ l m k) in
-              let none_later = none_from f w p n (wrong t (item_of text tape x)) (n - j) j refl apart in
-              record {
-                behind = h;
-                inside = omega arith;
-                comes = ap (any (wrong t (item_of text tape x))) (from_none f w p n n (omega arith)) ∙ sym none_later ∙ inv.comes;
-              }
-
-        pub outer_again : n ≤ j → Outer text tape w b n p t (i + 1)
-        unfolding any at_odds pick
-        outer_again l =
-            let none_later : any (wrong t (item_of text tape x)) (later (i + 1)) ≡ false =
-            sym inv.comes ∙ ap (any (wrong t (item_of text tape x))) (from_none f w p n j l) in
-            let step : at_odds called (wrong t) (later i) ≡ at_odds called (wrong t) (later (i + 1)) = rw (here, none_later) in
-            record { inside = omega arith; comes = sym step ∙ out.comes }
-
-    pub outer_none : (i : ℕ) → n ≤ i → Outer text tape w b n p t i → named text Nothing ≡ clash_name t (items_at text tape w b n)
+    pub outer_none : (i : ℕ) → n ≤ i → Outer text tape w b n p t i → named text None ≡ clash_name t (items_at text tape w b n)
     unfolding at_odds named
-    outer_none i l out = sym (ap (at_odds called (wrong t)) (from_none f w p n i l)) ∙ out.comes ∙ found_all
+    outer_none i l out = sym (ap (at_odds called (wrong t)) (from_none (row_item text tape w b) w p n i l)) ∙ out.comes ∙ found_all
 
 -- ---- `first_rival`
 
@@ -221,7 +232,7 @@ module _ (text tape w : List ℕ) (b n p i : ℕ) (x : Row) (h : i < n) where
       never false = refl
 
   start_at : (t : Test) → Inner text tape w b n p t i x (first_rival t x.kind i n)
-  unfolding first_rival pick any
+  unfolding first_rival has_rival pick any
   start_at Functions = inner_start text tape w b n p Functions i x h
   start_at Overloading = inner_start text tape w b n p Overloading i x h
   start_at Sorts = go (eqb x.kind 0) refl
@@ -239,9 +250,6 @@ module _ (text tape w : List ℕ) (b n p i : ℕ) (x : Row) (h : i < n) where
 
   pub rival_start : (t : Test) (j : ℕ) → j ≡ first_rival t x.kind i n → Inner text tape w b n p t i x j
   rival_start t j e = rw e (start_at t)
-
-pub next_fits : (j n : ℕ) → j < n → Fits w32 n → Fits w32 (j + 1)
-next_fits j n h f = omega (arith, h, f.fits)
 
 -- ---- `find_repeated`
 
@@ -300,14 +308,14 @@ module _ (text w : List ℕ) (b n p : ℕ) where
           let e : i ≡ i + 1 - 1 = omega arith in
           record { begun = omega arith; comes = ap (λ (k : ℕ). at_odds slot_name one_name (rest k)) (sym e) ∙ sym step ∙ inv.comes }
 
-      pub neighbours_found : c ≡ true → named text (At x) ≡ repeated_name (slots_at text w b n)
+      pub neighbours_found : c ≡ true → named text (Some x) ≡ repeated_name (slots_at text w b n)
       unfolding at_odds any pick named
       neighbours_found g =
           let some_later : any (one_name (slot (i - 1))) (rest i) ≡ true = rw (from_here (row_slot text w b) w p n i h, compared, g) in
           let found : at_odds slot_name one_name (rest (i - 1)) ≡ some (slot (i - 1)).name = rw (here_now, some_later) in
           ap some mine ∙ sym found ∙ inv.comes ∙ repeated_all
 
-    pub neighbours_end : (i : ℕ) → n ≤ i → Neighbours text w b n p i → named text Nothing ≡ repeated_name (slots_at text w b n)
+    pub neighbours_end : (i : ℕ) → n ≤ i → Neighbours text w b n p i → named text None ≡ repeated_name (slots_at text w b n)
     unfolding at_odds any pick named
     neighbours_end i l inv = sym (go (ltb (i - 1) n) refl) ∙ inv.comes ∙ repeated_all
       where
@@ -327,7 +335,9 @@ pub ruleset cases = (
   rival_overloading,
   rival_start,
   inner_again,
+  inner_found,
   inner_other,
+  inner_end,
   outer_found,
   outer_again,
   outer_none,

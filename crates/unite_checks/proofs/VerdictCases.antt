@@ -1,7 +1,9 @@
 -- What the places of the checks ask, one law each: the hypotheses are the facts that the place has.
+use Rattle.std.specs.Prelude.{Ok, Err}
 use mathlib.Core.Path.{◌≡◌, sym, ap, ◌∙◌}
 use mathlib.Core.Logic.{⊎_elim, inl, inr}
 use mathlib.Core.List.{List, [], append-nil}
+use Rattle.std.specs.Prelude.{Option, Some, None}
 use Prim.Native.Nat.{ℕ, ◌+◌, ◌*◌, ◌≤◌, ◌<◌}
 use native.Mathlib.Omega.{arith}
 use lib.ListN.{length}
@@ -12,15 +14,11 @@ use Rattle.meaning.specs.Origins.{Item}
 use Rattle.meaning.specs.Checks.{◌>>◌, unless, consistent}
 use Rattle.meaning.specs.Numbers.{clashing, overloading, bad_parameter, no_room}
 use Rattle.form_rows.specs.Rows.{row_size}
-use Rattle.form.specs.declared.Verdict.{Verdict}
-use Rattle.form.specs.declared.Verdict.TheVariants.{Fine, Stop}
 use Rattle.form.specs.Memory.{part, Same, Kept}
 use Rattle.form.specs.Forms.{slots_at, items_at, slot_size}
 use Rattle.form.specs.FormLaws.{Apart, kept_same, kept_wider, kept_then, slots_same, items_same, tape_same}
-use Rattle.form.specs.Verdicts.{lone_of, told}
+use Rattle.form.specs.Verdicts.{Verdict, refusal, lone_of, told}
 use Rattle.form_order.specs.Order.{PutInOrder, NamesApart}
-use Rattle.unite_checks.specs.declared.Found.{Found}
-use Rattle.unite_checks.specs.declared.Found.TheVariants.{At, Nothing}
 use Rattle.unite_pairs.specs.declared.Test.TheVariants.{Sorts, Functions, Overloading}
 use Rattle.unite_checks.specs.Clashes.{named, clash_name, repeated_name}
 use Rattle.unite_checks.specs.Consistent.{nobody, within, overloading_check, functions_check, items_check, names_check, checks_consistent, RowsLaid, Laid, ItemsChecked, Checked}
@@ -28,41 +26,41 @@ use Rattle.unite_checks.specs.Consistent.{nobody, within, overloading_check, fun
 -- ---- `room`, `total_room`
 
 module _ (a a_limit b b_limit c c_limit : ℕ) where
-  pub within_fine : a ≤ a_limit → b ≤ b_limit → c ≤ c_limit → Fine ≡ within a a_limit b b_limit c c_limit
+  pub within_fine : a ≤ a_limit → b ≤ b_limit → c ≤ c_limit → Ok tt ≡ within a a_limit b b_limit c c_limit
   unfolding within pick
   within_fine h k l = rw (le-leb a a_limit h, le-leb b b_limit k, le-leb c c_limit l)
 
-  pub within_first : a_limit < a → Stop no_room nobody ≡ within a a_limit b b_limit c c_limit
+  pub within_first : a_limit < a → Err (refusal no_room nobody) ≡ within a a_limit b b_limit c c_limit
   unfolding within pick
   within_first h = rw (lt-leb a a_limit h)
 
-  pub within_second : a ≤ a_limit → b_limit < b → Stop no_room nobody ≡ within a a_limit b b_limit c c_limit
+  pub within_second : a ≤ a_limit → b_limit < b → Err (refusal no_room nobody) ≡ within a a_limit b b_limit c c_limit
   unfolding within pick
   within_second h k = rw (le-leb a a_limit h, lt-leb b b_limit k)
 
-  pub within_third : a ≤ a_limit → b ≤ b_limit → c_limit < c → Stop no_room nobody ≡ within a a_limit b b_limit c c_limit
+  pub within_third : a ≤ a_limit → b ≤ b_limit → c_limit < c → Err (refusal no_room nobody) ≡ within a a_limit b b_limit c c_limit
   unfolding within pick
   within_third h k l = rw (le-leb a a_limit h, le-leb b b_limit k, lt-leb c c_limit l)
 
 -- ---- one search after the other
 
-module _ (text : List ℕ) (items : List Item) (f : Found) where
-  module _ (x : ℕ) (h : f ≡ At x) where
+module _ (text : List ℕ) (items : List Item) (f : Option ℕ) where
+  module _ (x : ℕ) (h : f ≡ Some x) where
     pub overloading_stop : named text f ≡ clash_name Overloading items
-        → told text (Stop overloading (record { name = x; actual = 0 })) ≡ overloading_check items
+        → told text (Err (refusal overloading (record { name = x; actual = 0 }))) ≡ overloading_check items
     unfolding overloading_check told unless named
     overloading_stop e = rw (lone_of text x, ← e, h)
 
-    pub functions_stop : named text f ≡ clash_name Functions items → told text (Stop clashing (record { name = x; actual = 0 })) ≡ functions_check items
+    pub functions_stop : named text f ≡ clash_name Functions items → told text (Err (refusal clashing (record { name = x; actual = 0 }))) ≡ functions_check items
     unfolding functions_check told unless named ◌>>◌
     functions_stop e = rw (lone_of text x, ← e, h)
 
-    pub sorts_stop : named text f ≡ clash_name Sorts items → told text (Stop clashing (record { name = x; actual = 0 })) ≡ items_check items
+    pub sorts_stop : named text f ≡ clash_name Sorts items → told text (Err (refusal clashing (record { name = x; actual = 0 }))) ≡ items_check items
     unfolding items_check told unless named ◌>>◌
     sorts_stop e = rw (lone_of text x, ← e, h)
 
-  module _ (h : f ≡ Nothing) where
-    pub overloading_fine : named text f ≡ clash_name Overloading items → told text Fine ≡ overloading_check items
+  module _ (h : f ≡ None) where
+    pub overloading_fine : named text f ≡ clash_name Overloading items → told text (Ok tt) ≡ overloading_check items
     unfolding overloading_check told unless named
     overloading_fine e = rw (← e, h)
 
@@ -117,7 +115,7 @@ rows_laid text w w' t q np b n p laid put = record {
   room = omega (arith, laid.room, put.kept.size);
 }
 
-module _ (text w w' : List ℕ) (t q np b n p : ℕ) (f : Found) (laid : Laid (length w) t q np b n p) (put : PutInOrder text w w' q slot_size p np)
+module _ (text w w' : List ℕ) (t q np b n p : ℕ) (f : Option ℕ) (laid : Laid (length w) t q np b n p) (put : PutInOrder text w w' q slot_size p np)
     (e : named text f ≡ repeated_name (slots_at text w' q np)) where
   wide : Kept p (p + (np + n)) w w'
   wide = kept_wider p (p + np) p (p + (np + n)) w w' (omega arith) (omega arith) put.kept
@@ -131,15 +129,15 @@ module _ (text w w' : List ℕ) (t q np b n p : ℕ) (f : Found) (laid : Laid (l
       ap (names_check (slots_at text w q np)) (sym (append-nil (items_at text (part w 0 t) w b n)))
       ∙ checks_consistent (record { parameters = slots_at text w q np; items = items_at text (part w 0 t) w b n }) []
 
-  pub consistent_stop : (x : ℕ) → f ≡ At x → Checked text w w' t q np b n p (Stop bad_parameter (record { name = x; actual = 0 }))
+  pub consistent_stop : (x : ℕ) → f ≡ Some x → Checked text w w' t q np b n p (Err (refusal bad_parameter (record { name = x; actual = 0 })))
   unfolding names_check told unless named ◌>>◌
   consistent_stop x h =
       let found : named text f ≡ repeated_name (slots_at text w q np) = e ∙ ap repeated_name slots_kept in
-      let verdict : told text (Stop bad_parameter (record { name = x; actual = 0 })) ≡ names_check (slots_at text w q np) (items_at text (part w 0 t) w b n) =
+      let verdict : told text (Err (refusal bad_parameter (record { name = x; actual = 0 }))) ≡ names_check (slots_at text w q np) (items_at text (part w 0 t) w b n) =
       rw (lone_of text x, ← found, h) in
       record { verdict = verdict ∙ whole; kept = wide }
 
-  pub consistent_fine : (w'' : List ℕ) (r : Verdict) → f ≡ Nothing → ItemsChecked text w' w'' t b n p r → Checked text w w'' t q np b n p r
+  pub consistent_fine : (w'' : List ℕ) (r : Verdict) → f ≡ None → ItemsChecked text w' w'' t b n p r → Checked text w w'' t q np b n p r
   unfolding names_check unless named ◌>>◌
   consistent_fine w'' r h done =
       let found : named text f ≡ repeated_name (slots_at text w q np) = e ∙ ap repeated_name slots_kept in

@@ -1,5 +1,5 @@
 -- What the checks after a clause or a union ask of places, and what comes of them (meaning/specs/Checks.antt, `checked`).
-use Rattle.std.specs.Prelude.{◌≡◌, refl, Bool, true, false, ◌&&◌, List, [], ℕ, zero, suc, ◌+◌, ◌≤◌, leb}
+use Rattle.std.specs.Prelude.{◌≡◌, refl, Bool, true, false, ◌&&◌, List, [], ℕ, zero, suc, ◌+◌, ◌≤◌, leb, Ok, Err}
 use Rattle.std.proofs.Math.Path.{sym, ap}
 use Rattle.std.proofs.Common.{◌∙◌, inl, arith, leb-true}
 use Rattle.std.proofs.lemmas.Bool.{false≢true}
@@ -10,16 +10,12 @@ use Rattle.meaning.specs.Normal.{Visible, Normal}
 use Rattle.meaning.specs.Checks.{fine, stop, ◌>>◌, Check, needs, consistent, size, fits, room, checked}
 use Rattle.form.specs.declared.Form.{Form}
 use Rattle.form.specs.declared.Block.{Block}
-use Rattle.form.specs.declared.Culprit.{Culprit}
-use Rattle.form.specs.declared.Made.{Made}
-use Rattle.form.specs.declared.Made.TheVariants.{Done, Refused}
-use Rattle.form.specs.declared.Verdict.{Verdict}
-use Rattle.form.specs.declared.Verdict.TheVariants.{Fine, Stop}
+use Rattle.form.specs.declared.Refusal.{Refusal}
 use Rattle.form.specs.Memory.{part, Kept}
 use Rattle.form.specs.Forms.{slots_at, visible_at, Stands, slot_size}
 use Rattle.form.specs.FormLaws.{length_items}
 use Rattle.form.specs.Blocks.{BlockLaid, Lies, Fits, Makes, MadeIn}
-use Rattle.form.specs.Verdicts.{culprit_of, nobody_of, told}
+use Rattle.form.specs.Verdicts.{Verdict, Made, refusal, culprit_of, nobody_of, told}
 use Rattle.form_frames.specs.Changes.{wider, outside, still_stands}
 use Rattle.unite_checks.specs.Consistent.{nobody, Laid, Checked}
 use Rattle.unite_checks.specs.Made.{makes_as, stops, goes_on}
@@ -45,7 +41,7 @@ unfoldable pub enough : Form → Bool
 enough f = leb f.parameter_count parameter_room && leb (f.visible_count + f.hidden_count) item_room && leb f.equation_count equation_room
 
 unfoldable pub fitting : Form → Made
-fitting f = pick (enough f) (Done f) (Refused no_room nobody)
+fitting f = pick (enough f) (Ok f) (Err (refusal no_room nobody))
 
 pub record CheckedForm (text : List ℕ) (t : ℕ) (w : List ℕ) (f : Form) (b : Block) (r : Made) (w' : List ℕ) : Type 0 where
   pub kept : Kept b.low b.high w w'
@@ -78,7 +74,7 @@ fitting_in : (b : Block) (f : Form) → Lies b f → f.node_count ≤ b.node_roo
 unfolding fitting pick
 fitting_in b f l nodes = go (enough f) refl
   where
-    go : (c : Bool) → enough f ≡ c → MadeIn b (pick c (Done f) (Refused no_room nobody))
+    go : (c : Bool) → enough f ≡ c → MadeIn b (pick c (Ok f) (Err (refusal no_room nobody)))
     go true e = record { lies = l; fits = enough_fits f e; nodes = nodes }
     go false e = tt
 
@@ -86,7 +82,7 @@ fitting_made : (text tape w : List ℕ) (f : Form) (n : Normal) → Stands text 
 unfolding fitting fits needs pick ◌>>◌
 fitting_made text tape w f n s = go (enough f)
   where
-    go : (c : Bool) → Makes text tape w (pick c (Done f) (Refused no_room nobody)) (fits c >> fine n)
+    go : (c : Bool) → Makes text tape w (pick c (Ok f) (Err (refusal no_room nobody))) (fits c >> fine n)
     go true = s
     go false = (refl, nobody_of text)
 
@@ -110,14 +106,14 @@ module _ (size t : ℕ) (f : Form) (b : Block) (c : CheckRoom size t f b) where
     unfolding visible_at
     verdict_meant n s = ap (λ (u : Visible). consistent u []) (sym s.visible) ∙ sym k.verdict
 
-    pub checked_stop : (j : ℕ) (x : Culprit) → v ≡ Stop j x → CheckedForm text t w f b (Refused j x) w'
+    pub checked_stop : (x : Refusal) → v ≡ Err x → CheckedForm text t w f b (Err x) w'
     unfolding checked told
-    checked_stop j x e = record {
+    checked_stop x e = record {
       kept = block_kept;
       made_in = tt;
       made = λ n s.
-          makes_as text (part w' 0 t) w' (Refused j x) (stop j (culprit_of text x)) (checked n)
-          (stops (consistent n.visible []) (room n >> fine n) j (culprit_of text x) (verdict_meant n s ∙ ap (told text) e)) (refl, refl);
+          makes_as text (part w' 0 t) w' (Err x) (stop x.number (culprit_of text x.culprit)) (checked n)
+          (stops (consistent n.visible []) (room n >> fine n) x.number (culprit_of text x.culprit) (verdict_meant n s ∙ ap (told text) e)) (refl, refl);
     }
 
     -- 18
@@ -132,7 +128,7 @@ module _ (size t : ℕ) (f : Form) (b : Block) (c : CheckRoom size t f b) where
         ap length (sym s.hidden) ∙ length_items text (part w 0 t) w f.hidden f.hidden_count in
         rw (names, items, hidden, ← s.equation_count)
 
-    pub checked_fine : (r : Made) → v ≡ Fine → r ≡ fitting f → CheckedForm text t w f b r w'
+    pub checked_fine : (r : Made) → v ≡ Ok tt → r ≡ fitting f → CheckedForm text t w f b r w'
     unfolding checked told
     checked_fine r e q =
         rw q (record {

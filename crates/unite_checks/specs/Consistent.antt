@@ -1,5 +1,5 @@
 -- The checks in their order, and what they leave of the memory: its order table alone changes.
-use Rattle.std.specs.Prelude.{◌≡◌, refl, ◌&&◌, List, [], ◌++◌, ℕ, ◌+◌, ◌*◌, ◌^◌, ◌≤◌, ◌<◌, leb}
+use Rattle.std.specs.Prelude.{◌≡◌, refl, ◌&&◌, List, [], ◌++◌, ℕ, ◌+◌, ◌*◌, ◌^◌, ◌≤◌, ◌<◌, leb, Ok, Err}
 use Rattle.std.proofs.Common.{sym, ap, ◌∙◌, append-nil}
 use Rattle.meaning.specs.Lists.{pick}
 use Rattle.meaning.specs.Numbers.{clashing, overloading, bad_parameter, no_room}
@@ -8,12 +8,10 @@ use Rattle.meaning.specs.Normal.{Slot, Visible}
 use Rattle.meaning.specs.Checks.{Check, ◌>>◌, unless, consistent}
 use Rattle.form_rows.specs.Rows.{row_size}
 use Rattle.form.specs.declared.Culprit.{Culprit}
-use Rattle.form.specs.declared.Verdict.{Verdict}
-use Rattle.form.specs.declared.Verdict.TheVariants.{Fine, Stop}
 use Rattle.form.specs.Memory.{part, Kept}
 use Rattle.form.specs.Forms.{slots_at, items_at, slot_size}
 use Rattle.form.specs.FormLaws.{Apart, items_split}
-use Rattle.form.specs.Verdicts.{told}
+use Rattle.form.specs.Verdicts.{Verdict, refusal, told}
 use Rattle.unite_pairs.specs.declared.Test.TheVariants.{Sorts, Functions, Overloading}
 use Rattle.unite_checks.specs.Clashes.{wrong, clash_name, repeated_name}
 
@@ -25,7 +23,7 @@ nobody = record { name = 0; actual = 0 }
 
 -- three numbers, each within its limit
 unfoldable pub within : ℕ → ℕ → ℕ → ℕ → ℕ → ℕ → Verdict
-within a a_limit b b_limit c c_limit = pick (leb a a_limit && leb b b_limit && leb c c_limit) Fine (Stop no_room nobody)
+within a a_limit b b_limit c c_limit = pick (leb a a_limit && leb b b_limit && leb c c_limit) (Ok tt) (Err (refusal no_room nobody))
 
 -- ---- clashes and overloading
 

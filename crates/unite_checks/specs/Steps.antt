@@ -6,7 +6,7 @@ use Rattle.meaning.specs.Clauses.{renaming, rename, bind}
 use Rattle.text_names.specs.Word.{name_of}
 use Rattle.form.specs.declared.Form.{Form}
 use Rattle.form.specs.declared.Block.{Block}
-use Rattle.form.specs.declared.Made.{Made}
+use Rattle.form.specs.Verdicts.{Made}
 use Rattle.form.specs.Memory.{part, Kept}
 use Rattle.form.specs.Forms.{Stands}
 use Rattle.form.specs.Blocks.{BlockLaid, Outside, Fits, Makes, MadeThere, MadeIn}

@@ -5,24 +5,29 @@ ghost use Rattle.unite_checks.specs.Checked.{CheckRoom, fitting, CheckedForm};
 
 use super::consistency::consistent;
 use super::room::room;
-use form::{Block, Form, Made, Verdict};
+use form::{Block, Form, Refusal};
 
 // The form, if it fits.
-fn fitting(f: Form) -> Made
+fn fitting(f: Form) -> Result<Form, Refusal>
     requires { f.visible_count + f.hidden_count ≤ 131072 }
     ensures { result ≡ fitting f }
 {
     let parameters = f.parameter_count;
     let items = f.visible_count + f.hidden_count;
     let equations = f.equation_count;
-    match room(parameters, items, equations) {
-        Verdict::Stop(k, w) => Made::Refused(k, w),
-        Verdict::Fine => Made::Done(f),
-    }
+    room(parameters, items, equations)?;
+    Ok(f)
 }
 
 // The form of the block, if it is consistent and fits.
-pub fn checked(library: &[u8], text: &[u8], work: &mut [u32], t: usize, f: Form, b: Block) -> Made
+pub fn checked(
+    library: &[u8],
+    text: &[u8],
+    work: &mut [u32],
+    t: usize,
+    f: Form,
+    b: Block,
+) -> Result<Form, Refusal>
     requires { CheckRoom (length work.old) t f b }
     ensures { CheckedForm (joint library.now text.now) t work.old f b result work.new }
 {
@@ -31,10 +36,8 @@ pub fn checked(library: &[u8], text: &[u8], work: &mut [u32], t: usize, f: Form,
     let visible = f.visible;
     let rows = f.visible_count;
     let order = b.order;
-    match consistent(
+    consistent(
         library, text, work, t, parameters, names, visible, rows, order,
-    ) {
-        Verdict::Stop(k, w) => Made::Refused(k, w),
-        Verdict::Fine => fitting(f),
-    }
+    )?;
+    fitting(f)
 }

@@ -4,9 +4,8 @@ ghost use Rattle.text_names.specs.Joint.{joint};
 ghost use Rattle.form_rows.specs.Rows.{row_at, row_size};
 ghost use Rattle.form.specs.Forms.{slots_at, items_at, slot_size};
 ghost use Rattle.form_order.specs.Order.{InOrder};
-ghost use Rattle.unite_checks.specs.Clashes.{named, clash_name, first_rival, repeated_name};
+ghost use Rattle.unite_checks.specs.Clashes.{named, clash_name, first_rival, has_rival, repeated_name};
 
-use super::Found;
 use form::SLOT_SIZE;
 use form_order::{name_in, number_in};
 use form_rows::entries::same_word;
@@ -40,8 +39,38 @@ fn first_rival(test: Test, x: Row, i: u32, n: u32) -> u32
     }
 }
 
-// The least name of two of the n items at b that are at odds. Items of one name stand side by side in the order table, so that a row is
+// Is a row behind x, which is i-th in order, at odds with it? Items of one name stand side by side in the order table, so that a row is
 // tested against no more than those of its name.
+fn has_rival(
+    library: &[u8],
+    text: &[u8],
+    tape: &[u32],
+    w: &[u32],
+    b: u32,
+    n: u32,
+    p: u32,
+    test: Test,
+    i: u32,
+    x: Row,
+) -> bool
+    requires in_order { InOrder (joint library.now text.now) w.now (b + 1) row_size p n }
+    requires i_in_order { i < n }
+    requires x_there { x ≡ row_at w.now (b + get_or w.now (p + i) 0 * row_size) }
+    ensures { result ≡ has_rival (joint library.now text.now) tape.now w.now b n p test i x }
+{
+    for j in first_rival(test, x, i, n)..n {
+        let y = row_by(w, b, p, j);
+        if !same_called(library, text, x, y) {
+            return false;
+        }
+        if at_odds(library, text, tape, test, x, y) {
+            return true;
+        }
+    }
+    false
+}
+
+// The word of the least name of two of the n items at b that are at odds, if there are such.
 pub fn find_clash(
     library: &[u8],
     text: &[u8],
@@ -51,32 +80,17 @@ pub fn find_clash(
     n: u32,
     p: u32,
     test: Test,
-) -> Found
+) -> Option<u32>
     requires { InOrder (joint library.now text.now) w.now (b + 1) row_size p n }
     ensures { named (joint library.now text.now) result ≡ clash_name test (items_at (joint library.now text.now) tape.now w.now b n) }
 {
-    let mut i = 0;
-    'outer: while i < n {
+    for i in 0..n {
         let x = row_by(w, b, p, i);
-        let mut j = first_rival(test, x, i, n);
-        while j < n {
-            let y = row_by(w, b, p, j);
-            if same_called(library, text, x, y) {
-                if at_odds(library, text, tape, test, x, y) {
-                    break 'outer;
-                }
-                j += 1;
-            } else {
-                j = n;
-            }
+        if has_rival(library, text, tape, w, b, n, p, test, i, x) {
+            return Some(x.name);
         }
-        i += 1;
     }
-    if i < n {
-        let x = row_by(w, b, p, i);
-        return Found::At(x.name);
-    }
-    Found::Nothing
+    None
 }
 
 // The word of the name of the parameter that is i-th in order.
@@ -87,19 +101,17 @@ fn name_by(w: &[u32], b: u32, p: u32, i: u32) -> u32
     name_in(w, b, SLOT_SIZE, k)
 }
 
-// The least name of two of the n parameters at b: in the order table the two are neighbours.
-pub fn find_repeated(library: &[u8], text: &[u8], w: &[u32], b: u32, n: u32, p: u32) -> Found
+// The word of the least name of two of the n parameters at b, if there are such: in the order table the two are neighbours.
+pub fn find_repeated(library: &[u8], text: &[u8], w: &[u32], b: u32, n: u32, p: u32) -> Option<u32>
     requires { InOrder (joint library.now text.now) w.now b slot_size p n }
     ensures { named (joint library.now text.now) result ≡ repeated_name (slots_at (joint library.now text.now) w.now b n) }
 {
-    let mut i = 1;
-    while i < n {
+    for i in 1..n {
         let x = name_by(w, b, p, i - 1);
         let y = name_by(w, b, p, i);
         if same_word(library, text, x, y) {
-            return Found::At(x);
+            return Some(x);
         }
-        i += 1;
     }
-    Found::Nothing
+    None
 }

@@ -8,9 +8,8 @@ ghost use Rattle.form.specs.Verdicts.{told};
 ghost use Rattle.form_order.specs.Order.{InOrder};
 ghost use Rattle.unite_checks.specs.Consistent.{overloading_check, functions_check, items_check, Laid, RowsLaid, ItemsChecked, Checked};
 
-use super::Found;
 use super::clashes::{find_clash, find_repeated};
-use form::{Culprit, SLOT_SIZE, Verdict};
+use form::{Culprit, Refusal, SLOT_SIZE};
 use form_order::order_names;
 use form_rows::ROW_SIZE;
 use meaning::numbers;
@@ -24,14 +23,17 @@ fn check_overloading(
     b: u32,
     n: u32,
     p: u32,
-) -> Verdict
+) -> Result<(), Refusal>
     requires { InOrder (joint library.now text.now) w.now (b + 1) row_size p n }
     ensures { told (joint library.now text.now) result ≡ overloading_check (items_at (joint library.now text.now) tape.now w.now b n) }
 {
     let found = find_clash(library, text, tape, w, b, n, p, Test::Overloading);
     match found {
-        Found::At(x) => Verdict::Stop(numbers::OVERLOADING, Culprit { name: x, actual: 0 }),
-        Found::Nothing => Verdict::Fine,
+        Some(x) => Err(Refusal {
+            number: numbers::OVERLOADING,
+            culprit: Culprit { name: x, actual: 0 },
+        }),
+        None => Ok(()),
     }
 }
 
@@ -43,14 +45,17 @@ fn check_functions(
     b: u32,
     n: u32,
     p: u32,
-) -> Verdict
+) -> Result<(), Refusal>
     requires { InOrder (joint library.now text.now) w.now (b + 1) row_size p n }
     ensures { told (joint library.now text.now) result ≡ functions_check (items_at (joint library.now text.now) tape.now w.now b n) }
 {
     let found = find_clash(library, text, tape, w, b, n, p, Test::Functions);
     match found {
-        Found::At(x) => Verdict::Stop(numbers::CLASHING, Culprit { name: x, actual: 0 }),
-        Found::Nothing => check_overloading(library, text, tape, w, b, n, p),
+        Some(x) => Err(Refusal {
+            number: numbers::CLASHING,
+            culprit: Culprit { name: x, actual: 0 },
+        }),
+        None => check_overloading(library, text, tape, w, b, n, p),
     }
 }
 
@@ -62,14 +67,17 @@ fn check_items(
     b: u32,
     n: u32,
     p: u32,
-) -> Verdict
+) -> Result<(), Refusal>
     requires { InOrder (joint library.now text.now) w.now (b + 1) row_size p n }
     ensures { told (joint library.now text.now) result ≡ items_check (items_at (joint library.now text.now) tape.now w.now b n) }
 {
     let found = find_clash(library, text, tape, w, b, n, p, Test::Sorts);
     match found {
-        Found::At(x) => Verdict::Stop(numbers::CLASHING, Culprit { name: x, actual: 0 }),
-        Found::Nothing => check_functions(library, text, tape, w, b, n, p),
+        Some(x) => Err(Refusal {
+            number: numbers::CLASHING,
+            culprit: Culprit { name: x, actual: 0 },
+        }),
+        None => check_functions(library, text, tape, w, b, n, p),
     }
 }
 
@@ -82,7 +90,7 @@ fn check_ordered(
     b: u32,
     n: u32,
     p: u32,
-) -> Verdict
+) -> Result<(), Refusal>
     requires t_in_bounds { t ≤ length work.now }
     requires in_order { InOrder (joint library.now text.now) work.now (b + 1) row_size p n }
     ensures { told (joint library.now text.now) result ≡ items_check (items_at (joint library.now text.now) (part work.now 0 t) work.now b n) }
@@ -99,7 +107,7 @@ fn check_rows(
     b: u32,
     n: u32,
     p: u32,
-) -> Verdict
+) -> Result<(), Refusal>
     requires { RowsLaid (length work.old) t b n p }
     ensures { ItemsChecked (joint library.now text.now) work.old work.new t b n p result }
 {
@@ -118,14 +126,17 @@ pub fn consistent(
     b: u32,
     n: u32,
     p: u32,
-) -> Verdict
+) -> Result<(), Refusal>
     requires { Laid (length work.old) t q np b n p }
     ensures { Checked (joint library.now text.now) work.old work.new t q np b n p result }
 {
     order_names(library, text, work, q, SLOT_SIZE, np, p);
     let twice = find_repeated(library, text, work, q, np, p);
     match twice {
-        Found::At(x) => Verdict::Stop(numbers::BAD_PARAMETER, Culprit { name: x, actual: 0 }),
-        Found::Nothing => check_rows(library, text, work, t, b, n, p),
+        Some(x) => Err(Refusal {
+            number: numbers::BAD_PARAMETER,
+            culprit: Culprit { name: x, actual: 0 },
+        }),
+        None => check_rows(library, text, work, t, b, n, p),
     }
 }

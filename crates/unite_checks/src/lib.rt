@@ -5,10 +5,3 @@ pub mod checked;
 pub mod clashes;
 pub mod consistency;
 pub mod room;
-
-// The word of a culprit's name, or none.
-#[derive(Clone, Copy)]
-pub enum Found {
-    At(u32),
-    Nothing,
-}

@@ -121,9 +121,6 @@ module _ (text : List ℕ) (t : ℕ) (w₀ : List ℕ) (g : Form) (n : ℕ) (o :
   join_start = record { inside = omega arith; sized = refl; comes = rw sub-zero }
 
   module _ (w : List ℕ) (h : Form) (k : ℕ) (inv : Joining text t w₀ g n o f w h k) where
-    pub join_sized : length w ≡ length w₀
-    join_sized = inv.sized
-
     pub join_tape : t ≤ length w₀ → t ≤ length w
     join_tape l = rw inv.sized l
 
@@ -148,6 +145,6 @@ pub ruleset equations = (one_home, one_position, one_count, one_run, row_told)
 
 pub ruleset settling = (seek_start, seek_again, seek_found, seek_end, settle_found, settle_new, row_full, nodes_full, row_settled, row_joined)
 
-pub ruleset joining = (join_start, join_sized, join_tape, join_again, join_end)
+pub ruleset joining = (join_start, join_tape, join_again, join_end)
 
 pub ruleset turns = (equations, settling, joining, rules)

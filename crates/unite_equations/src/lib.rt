@@ -75,12 +75,10 @@ fn has_equation(
     requires { t ≤ length work.now }
     ensures { result ≡ has_equation (joint library.now text.now) t work.now f q 0 n }
 {
-    let mut i = 0;
-    while i < n {
+    for i in 0..n {
         if is_equation(library, text, work, t, f, q, i) {
             return true;
         }
-        i += 1;
     }
     false
 }
@@ -90,16 +88,9 @@ fn with_counts(f: Form, equations: u32, nodes: u32) -> Form
     ensures { result ≡ with_counts f equations nodes }
 {
     Form {
-        parameters: f.parameters,
-        parameter_count: f.parameter_count,
-        visible: f.visible,
-        visible_count: f.visible_count,
-        hidden: f.hidden,
-        hidden_count: f.hidden_count,
-        equations: f.equations,
         equation_count: equations,
-        nodes: f.nodes,
         node_count: nodes,
+        ..f
     }
 }
 
@@ -197,10 +188,8 @@ fn absorb_first(
     ensures { out result work.new ≡ joined (joint library.now text.now) t work.old g 0 n o f }
 {
     let mut h = f;
-    let mut k = 0;
-    while k < n {
+    for k in 0..n {
         h = absorb_equation(library, text, work, t, g, k, o, h);
-        k += 1;
     }
     h
 }

@@ -41,12 +41,10 @@ pub fn find_item(
     requires { t ≤ length work.now }
     ensures { result ≡ before (one_item (item_of (joint library.now text.now) (part work.now 0 t) x)) (items_at (joint library.now text.now) (part work.now 0 t) work.now base n) }
 {
-    let mut i = 0;
-    while i < n {
+    for i in 0..n {
         if is_item(library, text, work, t, base, i, x) {
             return i;
         }
-        i += 1;
     }
     n
 }

@@ -125,11 +125,9 @@ pub fn absorb_within(
     ensures { AbsorbedWithin (joint library.now text.now) (part work.old 0 t) work.old m visible drop s ns d nd o cap result work.new }
 {
     let mut n = nd;
-    let mut k = 0;
-    while k < ns {
+    for k in 0..ns {
         if n < cap {
             n = absorb_row(library, text, work, t, m, visible, drop, s, k, d, n, o);
-            k += 1;
         } else {
             return n;
         }

@@ -1,11 +1,12 @@
 -- Laws of runs of nodes: compared, put under other rows, and copied.
-use mathlib.Core.Path.{◌≡◌, refl, sym, ap, ◌∙◌}
+use mathlib.Core.Path.{◌≡◌, sym, ap, ◌∙◌}
 use mathlib.Core.Bool.{Bool, true, false}
 use mathlib.Core.List.{List}
 use Prim.Native.Nat.{ℕ, suc, ◌+◌, ◌-◌, ◌*◌, ◌/◌, ◌%◌, ◌<◌, ◌≤◌}
-use native.Mathlib.Numerals.{add-one}
+use Rattle.std.proofs.Common.{add-zero}
+use native.Mathlib.Nat.{sub-zero}
 use native.Mathlib.Omega.{arith}
-use lib.ListN.{length, get_or, set, length-set}
+use lib.ListN.{get_or, set}
 use borrow.Author.Rules.{rules}
 use borrow.Author.Tests.{lt-ltb, le-ltb}
 use Rattle.meaning.specs.Lists.{pick}
@@ -21,38 +22,37 @@ pub node_at_told : (text : List ℕ) (t : ℕ) (w : List ℕ) (visible hidden a 
 unfolding same_at
 node_at_told text t w visible hidden a b u v r e f g = rw (← e, ← f) g
 
--- ---- `same_nodes`: the nodes from i and from j on are left to compare
+-- ---- `same_nodes`: the first k nodes are the same
 
-pub record Running (text : List ℕ) (t : ℕ) (w : List ℕ) (visible hidden a b c i j left : ℕ) : Type 0 where
-  pub low : i + left ≡ a + c
-  pub high : j + left ≡ b + c
-  pub comes : same_run text t w visible hidden i j left ≡ same_run text t w visible hidden a b c
+pub record Running (text : List ℕ) (t : ℕ) (w : List ℕ) (visible hidden a b c k : ℕ) : Type 0 where
+  pub inside : k ≤ c
+  pub comes : same_run text t w visible hidden (a + k) (b + k) (c - k) ≡ same_run text t w visible hidden a b c
 
 module _ (text : List ℕ) (t : ℕ) (w : List ℕ) (visible hidden a b c : ℕ) where
-  pub run_start : Running text t w visible hidden a b c a b c
-  run_start = record { low = refl; high = refl; comes = refl }
+  pub run_start : Running text t w visible hidden a b c 0
+  run_start = record { inside = omega arith; comes = simp (add-zero, sub-zero) }
 
-  module _ (i j left : ℕ) (inv : Running text t w visible hidden a b c i j left) where
-    module _ (h : 0 < left) (r : Bool) (e : r ≡ same_at text t w visible hidden i j) where
-      step : same_run text t w visible hidden i j left ≡ pick r (same_run text t w visible hidden (suc i) (suc j) (left - 1)) false
+  module _ (k : ℕ) (inv : Running text t w visible hidden a b c k) where
+    module _ (h : k < c) (r : Bool) (e : r ≡ same_at text t w visible hidden (a + k) (b + k)) where
+      step : same_run text t w visible hidden (a + k) (b + k) (c - k) ≡ pick r (same_run text t w visible hidden (a + (k + 1)) (b + (k + 1)) (c - (k + 1))) false
       unfolding same_run
-      step = let l : left ≡ suc (left - 1) = omega arith in ap (same_run text t w visible hidden i j) l ∙ rw (← e)
+      step =
+          let l : c - k ≡ suc (c - (k + 1)) = omega arith in
+          let p : a + (k + 1) ≡ suc (a + k) = omega arith in
+          let q : b + (k + 1) ≡ suc (b + k) = omega arith in
+          ap (same_run text t w visible hidden (a + k) (b + k)) l ∙ rw (← e, p, q)
 
-      pub run_again : r ≡ true → Running text t w visible hidden a b c (i + 1) (j + 1) (left - 1)
+      pub run_again : r ≡ true → Running text t w visible hidden a b c (k + 1)
       unfolding pick
-      run_again f = record {
-        low = omega (arith, inv.low);
-        high = omega (arith, inv.high);
-        comes = rw (add-one i, add-one j) (sym (step ∙ rw f) ∙ inv.comes);
-      }
+      run_again f = record { inside = omega arith; comes = sym (step ∙ rw f) ∙ inv.comes }
 
       pub run_other : r ≡ false → false ≡ same_run text t w visible hidden a b c
       unfolding pick
       run_other f = sym (step ∙ rw f) ∙ inv.comes
 
-    pub run_end : left ≤ 0 → true ≡ same_run text t w visible hidden a b c
+    pub run_end : c ≤ k → true ≡ same_run text t w visible hidden a b c
     unfolding same_run
-    run_end h = let l : left ≡ 0 = omega arith in ap (same_run text t w visible hidden i j) (sym l) ∙ inv.comes
+    run_end h = let l : c - k ≡ 0 = omega arith in ap (same_run text t w visible hidden (a + k) (b + k)) (sym l) ∙ inv.comes
 
 -- ---- `renoded`, `renode`, `copy_node`
 
@@ -77,42 +77,34 @@ pub node_copied : (w w' : List ℕ) (visible hidden a b v u : ℕ) → v ≡ get
     → w' ≡ set w b (renode w visible hidden (get_or w a 0))
 node_copied w w' visible hidden a b v u e f g = rw (← e, ← f) g
 
--- ---- `copy_nodes`: the nodes from i on are left to copy, to j
+-- ---- `copy_nodes`: the first k nodes are copied
 
-pub record Copying (w₀ : List ℕ) (visible hidden a b c : ℕ) (w : List ℕ) (i j left : ℕ) : Type 0 where
-  pub sized : length w ≡ length w₀
-  pub low : i + left ≡ a + c
-  pub high : j + left ≡ b + c
-  pub comes : copied w visible hidden i j left ≡ copied w₀ visible hidden a b c
+pub record Copying (w₀ : List ℕ) (visible hidden a b c : ℕ) (w : List ℕ) (k : ℕ) : Type 0 where
+  pub inside : k ≤ c
+  pub comes : copied w visible hidden (a + k) (b + k) (c - k) ≡ copied w₀ visible hidden a b c
 
 module _ (w₀ : List ℕ) (visible hidden a b c : ℕ) where
-  pub copy_start : Copying w₀ visible hidden a b c w₀ a b c
-  copy_start = record { sized = refl; low = refl; high = refl; comes = refl }
+  pub copy_start : Copying w₀ visible hidden a b c w₀ 0
+  copy_start = record { inside = omega arith; comes = simp (add-zero, sub-zero) }
 
-  module _ (w : List ℕ) (i j left : ℕ) (inv : Copying w₀ visible hidden a b c w i j left) where
-    pub copy_again : (w' : List ℕ) → 0 < left → w' ≡ set w j (renode w visible hidden (get_or w i 0))
-        → Copying w₀ visible hidden a b c w' (i + 1) (j + 1) (left - 1)
+  module _ (w : List ℕ) (k : ℕ) (inv : Copying w₀ visible hidden a b c w k) where
+    pub copy_again : (w' : List ℕ) → k < c → w' ≡ set w (b + k) (renode w visible hidden (get_or w (a + k) 0))
+        → Copying w₀ visible hidden a b c w' (k + 1)
     unfolding copied
     copy_again w' h e =
-        let l : left ≡ suc (left - 1) = omega arith in
-        let step : copied w visible hidden i j left ≡ copied w' visible hidden (suc i) (suc j) (left - 1) =
-        ap (copied w visible hidden i j) l ∙ rw e in
-        record {
-          sized = ap length e ∙ length-set w j (renode w visible hidden (get_or w i 0)) ∙ inv.sized;
-          low = omega (arith, inv.low);
-          high = omega (arith, inv.high);
-          comes = rw (add-one i, add-one j) (sym step ∙ inv.comes);
-        }
+        let l : c - k ≡ suc (c - (k + 1)) = omega arith in
+        let p : a + (k + 1) ≡ suc (a + k) = omega arith in
+        let q : b + (k + 1) ≡ suc (b + k) = omega arith in
+        let step : copied w visible hidden (a + k) (b + k) (c - k) ≡ copied w' visible hidden (a + (k + 1)) (b + (k + 1)) (c - (k + 1)) =
+        ap (copied w visible hidden (a + k) (b + k)) l ∙ rw (e, p, q) in
+        record { inside = omega arith; comes = sym step ∙ inv.comes }
 
-    pub copy_sized : length w ≡ length w₀
-    copy_sized = inv.sized
-
-    pub copy_end : left ≤ 0 → w ≡ copied w₀ visible hidden a b c
+    pub copy_end : c ≤ k → w ≡ copied w₀ visible hidden a b c
     unfolding copied
-    copy_end h = let l : left ≡ 0 = omega arith in sym (ap (copied w visible hidden i j) l) ∙ inv.comes
+    copy_end h = let l : c - k ≡ 0 = omega arith in sym (ap (copied w visible hidden (a + k) (b + k)) l) ∙ inv.comes
 
 pub ruleset rows = (node_at_told, run_start, run_again, run_other, run_end, row_small, row_large, renode_visible, renode_hidden)
 
-pub ruleset copies = (node_copied, copy_start, copy_again, copy_sized, copy_end)
+pub ruleset copies = (node_copied, copy_start, copy_again, copy_end)
 
 pub ruleset runs = (rows, copies, rules)

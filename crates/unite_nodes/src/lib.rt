@@ -186,15 +186,10 @@ pub fn same_nodes(
     requires { t ≤ length work.now }
     ensures { result ≡ same_run (joint library.now text.now) t work.now visible hidden (base + a) (base + b) c }
 {
-    let mut i = base as usize + a as usize;
-    let mut j = base as usize + b as usize;
-    let mut left = c;
-    while 0 < left {
-        if same_node_at(library, text, work, t, visible, hidden, i, j) {
-            i += 1;
-            j += 1;
-            left -= 1;
-        } else {
+    let i = base as usize + a as usize;
+    let j = base as usize + b as usize;
+    for k in 0..c as usize {
+        if !same_node_at(library, text, work, t, visible, hidden, i + k, j + k) {
             return false;
         }
     }
@@ -246,13 +241,9 @@ pub fn copy_nodes(
 )
     ensures { work.new ≡ copied work.old visible hidden (source + a) (base + b) c }
 {
-    let mut i = source as usize + a as usize;
-    let mut j = base as usize + b as usize;
-    let mut left = c;
-    while 0 < left {
-        copy_node(work, visible, hidden, i, j);
-        i += 1;
-        j += 1;
-        left -= 1;
+    let i = source as usize + a as usize;
+    let j = base as usize + b as usize;
+    for k in 0..c as usize {
+        copy_node(work, visible, hidden, i + k, j + k);
     }
 }

@@ -1,6 +1,6 @@
 -- What the places of the tests on two items ask, one law each: the hypotheses are the facts that the place has.
 use mathlib.Core.Path.{◌≡◌, refl, sym, ap, ◌∙◌}
-use mathlib.Core.Bool.{Bool, true, false, and-true, and-false}
+use mathlib.Core.Bool.{Bool, true, false, not, and-true, and-false}
 use mathlib.Core.List.{List, map}
 use Prim.Native.Nat.{ℕ, ◌-◌, ◌≤◌, ◌<◌, min}
 use native.Mathlib.Omega.{arith}
@@ -38,13 +38,9 @@ module _ (text tape : List ℕ) (k : ℕ) (sorts : List ℕ) where
 
 module _ (text tape : List ℕ) (a b : Row) where
   module _ (p : Bool) (e : p ≡ same_origin (origin_of text tape a.origin) (origin_of text tape b.origin)) where
-    pub origin_one : p ≡ true → false ≡ other_origin (item_of text tape a) (item_of text tape b)
+    pub origin_other : not p ≡ other_origin (item_of text tape a) (item_of text tape b)
     unfolding other_origin item_of
-    origin_one h = rw (← e, h)
-
-    pub origin_other : p ≡ false → true ≡ other_origin (item_of text tape a) (item_of text tape b)
-    unfolding other_origin item_of
-    origin_other h = rw (← e, h)
+    origin_other = ap not e
 
   pub sorts_first : (a.kind ≡ 0 → ⊥) → false ≡ two_sorts (item_of text tape a) (item_of text tape b)
   unfolding two_sorts item_of
@@ -119,28 +115,23 @@ module _ (text tape : List ℕ) (a b : Row) where
 
 -- ---- sections
 
-module _ (text : List ℕ) (a b : Section) where
-  pub parameter_export : a ≡ Export → false ≡ in_one_parameter (section_of text a) (section_of text b)
-  unfolding in_one_parameter section_of
-  parameter_export h = rw h
+pub parameter_first : (text : List ℕ) (a b : Section) → ((p : ℕ) → a ≡ Parameter p → ⊥) → false ≡ in_one_parameter (section_of text a) (section_of text b)
+unfolding in_one_parameter section_of
+parameter_first text Export b n = refl
+parameter_first text Hidden b n = refl
+parameter_first text (Parameter p) b n = absurd (n p refl)
 
-  pub parameter_hidden : a ≡ Hidden → false ≡ in_one_parameter (section_of text a) (section_of text b)
-  unfolding in_one_parameter section_of
-  parameter_hidden h = rw h
+pub parameter_second : (text : List ℕ) (p : ℕ) (a b : Section) → a ≡ Parameter p → ((q : ℕ) → b ≡ Parameter q → ⊥)
+    → false ≡ in_one_parameter (section_of text a) (section_of text b)
+unfolding in_one_parameter in_parameter section_of
+parameter_second text p a Export h n = rw h
+parameter_second text p a Hidden h n = rw h
+parameter_second text p a (Parameter q) h n = absurd (n q refl)
 
-  module _ (p : ℕ) (h : a ≡ Parameter p) where
-    pub parameter_other : b ≡ Export → false ≡ in_one_parameter (section_of text a) (section_of text b)
-    unfolding in_one_parameter in_parameter section_of
-    parameter_other g = rw (h, g)
-
-    pub parameter_none : b ≡ Hidden → false ≡ in_one_parameter (section_of text a) (section_of text b)
-    unfolding in_one_parameter in_parameter section_of
-    parameter_none g = rw (h, g)
-
-    pub parameter_told : (q : ℕ) (r : Bool) → b ≡ Parameter q → r ≡ same (name_of text p) (name_of text q)
-        → r ≡ in_one_parameter (section_of text a) (section_of text b)
-    unfolding in_one_parameter in_parameter section_of
-    parameter_told q r g t = rw (h, g) t
+pub parameter_told : (text : List ℕ) (a b : Section) (p q : ℕ) (r : Bool) → a ≡ Parameter p → b ≡ Parameter q
+    → r ≡ same (name_of text p) (name_of text q) → r ≡ in_one_parameter (section_of text a) (section_of text b)
+unfolding in_one_parameter in_parameter section_of
+parameter_told text a b p q r h g t = rw (h, g) t
 
 -- ---- equal inputs and different outputs
 
@@ -187,7 +178,6 @@ module _ (text tape : List ℕ) (k : ℕ) (a : List ℕ) (l : ℕ) (b : List ℕ
     output_told r g t = rw (shape_function text tape k a h, shape_function text tape l b g) t
 
 pub ruleset cases = (
-  origin_one,
   origin_other,
   sorts_first,
   sorts_second,
@@ -203,10 +193,8 @@ pub ruleset cases = (
   test_sorts,
   test_functions,
   test_overloading,
-  parameter_export,
-  parameter_hidden,
-  parameter_other,
-  parameter_none,
+  parameter_first,
+  parameter_second,
   parameter_told,
   types_apart,
   types_one,

@@ -15,7 +15,8 @@ use form_rows::entries::same_word;
 use form_rows::{Row, kinds};
 use form_sections::Section;
 
-// What two items of one name are tested for.
+// What two items of one name are tested for. An enum and no function handed over: the search asks it in two places, where it begins and at a pair,
+// and its contract names the test (`clash_name`).
 #[derive(Clone, Copy)]
 pub enum Test {
     Sorts,
@@ -37,10 +38,7 @@ fn other_origin(library: &[u8], text: &[u8], tape: &[u32], a: Row, b: Row) -> bo
 {
     let o = a.origin;
     let p = b.origin;
-    if same_origin(library, text, tape, o, p) {
-        return false;
-    }
-    true
+    !same_origin(library, text, tape, o, p)
 }
 
 // Two sorts of different origins?
@@ -118,14 +116,9 @@ fn other_output(
 fn in_one_parameter(library: &[u8], text: &[u8], a: Section, b: Section) -> bool
     ensures { result ≡ in_one_parameter (section_of (joint library.now text.now) a) (section_of (joint library.now text.now) b) }
 {
-    match a {
-        Section::Export => false,
-        Section::Hidden => false,
-        Section::Parameter(p) => match b {
-            Section::Export => false,
-            Section::Hidden => false,
-            Section::Parameter(q) => same_word(library, text, p, q),
-        },
+    match (a, b) {
+        (Section::Parameter(p), Section::Parameter(q)) => same_word(library, text, p, q),
+        _ => false,
     }
 }
 

@@ -86,6 +86,7 @@ fn sorts_agree(
     let end = kind as usize;
     let mut at = 8;
     let mut next = 0;
+    // a while: the output stands in the ninth place and is asked first, in the one call that asks the inputs
     while sort_agrees(library, text, work, t, f, g, sorts[at]) {
         if next == 9 {
             return true;
@@ -170,13 +171,11 @@ fn all_among(
 {
     let base = f.visible;
     let count = f.visible_count;
-    let mut i = 0;
-    while i < count {
+    for i in 0..count {
         let row = read_row(work, base, i);
         if is_other(library, text, work, t, p, f, g, row, typed) {
             return false;
         }
-        i += 1;
     }
     true
 }

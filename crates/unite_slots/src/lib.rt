@@ -29,8 +29,7 @@ pub fn has_slot(library: &[u8], text: &[u8], work: &[u32], f: Form, q: usize) ->
 {
     let base = f.parameters;
     let count = f.parameter_count;
-    let mut i = 0;
-    while i < count {
+    for i in 0..count {
         if same_slot(
             library,
             text,
@@ -40,7 +39,6 @@ pub fn has_slot(library: &[u8], text: &[u8], work: &[u32], f: Form, q: usize) ->
         ) {
             return true;
         }
-        i += 1;
     }
     false
 }

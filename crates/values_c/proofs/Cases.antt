@@ -6,6 +6,7 @@ use Prim.Native.Nat.{ℕ, ◌+◌, ◌≤◌}
 use borrow.Author.Rules.{rules}
 use lib.ListN.{length, set}
 use lib.Seq.{set_out}
+use Rattle.std.specs.Int.{from_bool}
 use Rattle.meaning.specs.Lists.{pick}
 use Rattle.values_c.specs.Values.{laid, bit_of}
 
@@ -18,12 +19,9 @@ module _ (xs : List ℕ) (i : ℕ) where
   unfolding laid
   three_laid a b c xs₁ xs₂ xs₃ e₁ e₂ e₃ = rw (e₃, e₂, e₁)
 
-pub bit_yes : (b : Bool) → b ≡ true → 1 ≡ bit_of b
+pub bit_told : (b : Bool) (r : ℕ) → r ≡ from_bool b → r ≡ bit_of b
 unfolding bit_of pick
-bit_yes b e = rw e
+bit_told true r e = e
+bit_told false r e = e
 
-pub bit_no : (b : Bool) → b ≡ false → 0 ≡ bit_of b
-unfolding bit_of pick
-bit_no b e = rw e
-
-pub ruleset cases = (bit_yes, bit_no, no_room, three_laid, rules)
+pub ruleset cases = (bit_told, no_room, three_laid, rules)

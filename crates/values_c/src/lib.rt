@@ -29,8 +29,5 @@ pub fn put_three(values: &mut [usize], i: usize, a: usize, b: usize, c: usize)
 pub fn bit(b: bool) -> usize
     ensures { result ≡ bit_of b }
 {
-    if b {
-        return 1;
-    }
-    0
+    usize::from(b)
 }

@@ -7,8 +7,8 @@ use Rattle.answer_listing.proofs.list_module.Goals as goal
 pub write_listing-requires : goal.write_listing-requires
 write_listing-requires c = search cases
 
-pub returns-in-Fits : goal.returns-in-Fits
-returns-in-Fits c = search (listed_answered, c.read_form-f.ensures, c.table_start-table.ensures, c.requires, rules)
+pub returns-in-Some : goal.returns-in-Some
+returns-in-Some c = search (listed_answered, c.read_form-f.ensures, c.table_start-table.ensures, c.requires, rules)
 
-pub returns-in-TooLong : goal.returns-in-TooLong
-returns-in-TooLong c = search cases
+pub returns-in-None : goal.returns-in-None
+returns-in-None c = search cases

@@ -7,8 +7,8 @@ use Rattle.asf.proofs.module_sought.Goals as goal
 pub slice_bounds-name_of_module-end : goal.slice_bounds-name_of_module-end
 slice_bounds-name_of_module-end c = search (given_within, rules)
 
-pub returns-in-Refused : goal.returns-in-Refused
-returns-in-Refused c = search (refused_sought, rules)
+pub returns-in-Err : goal.returns-in-Err
+returns-in-Err c = search (refused_sought, rules)
 
-pub returns-in-Normalised : goal.returns-in-Normalised
-returns-in-Normalised c = search (form_sought, rules)
+pub returns-in-Ok : goal.returns-in-Ok
+returns-in-Ok c = search (form_sought, rules)

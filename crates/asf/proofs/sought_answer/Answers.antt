@@ -6,17 +6,17 @@ use Rattle.asf.proofs.sought_answer.Goals as goal
 pub list_module-requires : goal.list_module-requires
 list_module-requires c = search (form_held, rules)
 
-pub returns-in-Short : goal.returns-in-Short
-returns-in-Short c = search (short_answered, rules)
+pub returns-in-Err-Short : goal.returns-in-Err-Short
+returns-in-Err-Short c = search (short_answered, rules)
 
-pub returns-in-Unread : goal.returns-in-Unread
-returns-in-Unread c = search (unread_answered, rules)
+pub returns-in-Err-Unread : goal.returns-in-Err-Unread
+returns-in-Err-Unread c = search (unread_answered, rules)
 
-pub returns-in-Absent : goal.returns-in-Absent
-returns-in-Absent c = search (absent_answered, rules)
+pub returns-in-Err-Absent : goal.returns-in-Err-Absent
+returns-in-Err-Absent c = search (absent_answered, rules)
 
-pub returns-in-Refused : goal.returns-in-Refused
-returns-in-Refused c = search (refused_answered, rules)
+pub returns-in-Err-Refused : goal.returns-in-Err-Refused
+returns-in-Err-Refused c = search (refused_answered, rules)
 
-pub returns-in-Normalised : goal.returns-in-Normalised
-returns-in-Normalised c = search (form_answered, rules)
+pub returns-in-Ok : goal.returns-in-Ok
+returns-in-Ok c = search (form_answered, rules)

@@ -12,5 +12,5 @@ read_both-requires c = search (tape_room, rules)
 pub asked_sought-requires : goal.asked_sought-requires
 asked_sought-requires c = search (read_spoken, rules)
 
-pub returns-in-Refused : goal.returns-in-Refused
-returns-in-Refused c = search (unread_sought, rules)
+pub returns-in-Err : goal.returns-in-Err
+returns-in-Err c = search (unread_sought, rules)

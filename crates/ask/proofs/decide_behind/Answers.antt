@@ -13,14 +13,14 @@ read_both-requires c = search reading_second
 pub slice_bounds-decide_read-end : goal.slice_bounds-decide_read-end
 slice_bounds-decide_read-end c = search reading_second
 
-pub overflow_add-end-in-Done : goal.overflow_add-end-in-Done
-overflow_add-end-in-Done c = search reading_second
+pub overflow_add-end-in-Ok : goal.overflow_add-end-in-Ok
+overflow_add-end-in-Ok c = search reading_second
 
-pub slice_bounds-decide_read-end-in-Done : goal.slice_bounds-decide_read-end-in-Done
-slice_bounds-decide_read-end-in-Done c = search reading_second
+pub slice_bounds-decide_read-end-in-Ok : goal.slice_bounds-decide_read-end-in-Ok
+slice_bounds-decide_read-end-in-Ok c = search reading_second
 
 pub decide_read-requires : goal.decide_read-requires
 decide_read-requires c = search reading_second
 
-pub returns-in-Refused : goal.returns-in-Refused
-returns-in-Refused c = search (second_refused, c.nameless.ensures, c.in-Refused.is, c.read_both.ensures, c.requires, rules)
+pub returns-in-Err : goal.returns-in-Err
+returns-in-Err c = search (second_refused, c.nameless.ensures, c.in-Err.is, c.read_both.ensures, c.requires, rules)

@@ -2,8 +2,8 @@
 use Rattle.ask.proofs.Cases.{deciding_sets}
 use Rattle.ask.proofs.decide_sets.Goals as goal
 
-pub returns-in-Against : goal.returns-in-Against
-returns-in-Against c = search deciding_sets
+pub returns-in-Some : goal.returns-in-Some
+returns-in-Some c = search deciding_sets
 
-pub returns-in-Nothing : goal.returns-in-Nothing
-returns-in-Nothing c = search deciding_sets
+pub returns-in-None : goal.returns-in-None
+returns-in-None c = search deciding_sets

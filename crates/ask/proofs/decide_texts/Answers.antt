@@ -11,5 +11,5 @@ read_both-requires c = search reading_first
 pub decide_from-requires : goal.decide_from-requires
 decide_from-requires c = search reading_first
 
-pub returns-in-Refused : goal.returns-in-Refused
-returns-in-Refused c = search reading_first
+pub returns-in-Err : goal.returns-in-Err
+returns-in-Err c = search reading_first

@@ -8,6 +8,6 @@ pub returns-then-first-role : goal.returns-then-first-role
 unfolding between
 returns-then-first-role c = search choices
 
-pub returns : goal.returns
+pub returns-else-first-role : goal.returns-else-first-role
 unfolding between
-returns c = search choices
+returns-else-first-role c = search choices

@@ -8,6 +8,6 @@ pub returns-then-is_between : goal.returns-then-is_between
 unfolding declaring
 returns-then-is_between c = search choices
 
-pub returns : goal.returns
+pub returns-else-is_between : goal.returns-else-is_between
 unfolding declaring
-returns c = search choices
+returns-else-is_between c = search choices

@@ -9,8 +9,8 @@ loop-j-init c = search sections
 pub loop-j-preserved : goal.loop-j-preserved
 loop-j-preserved c = search sections
 
-pub returns-else-is_of_section : goal.returns-else-is_of_section
-returns-else-is_of_section c = search sections
+pub returns-then-not-is_of_section : goal.returns-then-not-is_of_section
+returns-then-not-is_of_section c = search sections
 
 pub returns : goal.returns
 returns c = search sections

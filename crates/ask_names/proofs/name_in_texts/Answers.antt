@@ -14,5 +14,5 @@ slice_bounds-name_read-end c = search reading
 pub name_read-requires : goal.name_read-requires
 name_read-requires c = search reading
 
-pub returns-in-Refused : goal.returns-in-Refused
-returns-in-Refused c = search reading
+pub returns-in-Err : goal.returns-in-Err
+returns-in-Err c = search reading

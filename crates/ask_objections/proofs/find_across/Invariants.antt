@@ -1,6 +1,5 @@
 -- `ask_objections::find_across` meets its contract.
 -- Assumes nothing.
-use Prim.Native.Nat.{◌-◌}
 use Rattle.meaning.specs.Names.{same}
 use Rattle.text_names.specs.Word.{name_of}
 use Rattle.text_names.specs.Joint.{joint}
@@ -10,6 +9,3 @@ use Rattle.ask_objections.proofs.find_across.Given as goal
 
 abbrev pub invariant-loop-k : goal.invariant-loop-k
 invariant-loop-k l = Seeking (same (name_of (joint l.library l.text) l.w)) (joint l.behind l.other) l.more (heads_in l.g) l.count l.k
-
-abbrev pub decreases-loop-k : goal.decreases-loop-k
-decreases-loop-k l = l.count - l.k

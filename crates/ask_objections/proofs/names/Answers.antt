@@ -6,11 +6,8 @@ use Rattle.ask_objections.proofs.names.Goals as goal
 pub loop-j-init : goal.loop-j-init
 loop-j-init c = search names
 
-pub loop-j-preserved-then-used_alike : goal.loop-j-preserved-then-used_alike
-loop-j-preserved-then-used_alike c = search names
-
-pub returns-else-used_alike : goal.returns-else-used_alike
-returns-else-used_alike c = search names
+pub returns-then-not-used_alike : goal.returns-then-not-used_alike
+returns-then-not-used_alike c = search names
 
 pub loop-j-preserved : goal.loop-j-preserved
 loop-j-preserved c = search names

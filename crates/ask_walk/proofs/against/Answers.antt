@@ -8,17 +8,11 @@ loop-pass-init c = search passing
 pub enum_known-w : goal.enum_known-w
 enum_known-w c = search passing
 
-pub returns-in-Against : goal.returns-in-Against
-returns-in-Against c = search passing
+pub returns-in-Some : goal.returns-in-Some
+returns-in-Some c = search passing
 
 pub enum_told-1 : goal.enum_told-1
 enum_told-1 c = search passing
-
-pub overflow_add-pass : goal.overflow_add-pass
-overflow_add-pass c = search passing
-
-pub loop-pass-smaller : goal.loop-pass-smaller
-loop-pass-smaller c = search passing
 
 pub loop-pass-preserved : goal.loop-pass-preserved
 loop-pass-preserved c = search passing

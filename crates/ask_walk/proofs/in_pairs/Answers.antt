@@ -11,8 +11,8 @@ returns-then-new_count-j c = search pairing
 pub enum_known-w : goal.enum_known-w
 enum_known-w c = search pairing
 
-pub returns-in-Against : goal.returns-in-Against
-returns-in-Against c = search pairing
+pub returns-in-Some : goal.returns-in-Some
+returns-in-Some c = search pairing
 
 pub enum_told-1 : goal.enum_told-1
 enum_told-1 c = search pairing

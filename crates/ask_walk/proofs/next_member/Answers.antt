@@ -1,4 +1,5 @@
 -- `ask_walk::next_member` meets its contract. Assumes nothing.
+use Rattle.ask_walk.specs.Walk.{next_member}
 use Rattle.ask_walk.proofs.Walking.{seeking}
 use Rattle.ask_walk.proofs.next_member.Goals as goal
 
@@ -8,14 +9,9 @@ loop-k-init c = search seeking
 pub returns-then-has : goal.returns-then-has
 returns-then-has c = search seeking
 
-pub overflow_add-k : goal.overflow_add-k
-overflow_add-k c = search seeking
-
-pub loop-k-smaller : goal.loop-k-smaller
-loop-k-smaller c = search seeking
-
 pub loop-k-preserved : goal.loop-k-preserved
 loop-k-preserved c = search seeking
 
 pub returns : goal.returns
+unfolding next_member
 returns c = search seeking

@@ -3,8 +3,8 @@
 use Rattle.clause.proofs.Cases.{ends}
 use Rattle.clause.proofs.binding_right.Goals as goal
 
-pub returns-in-Stop : goal.returns-in-Stop
-returns-in-Stop c = search ends
+pub returns-in_err-pairs_right : goal.returns-in_err-pairs_right
+returns-in_err-pairs_right c = search ends
 
-pub returns-in-Fine : goal.returns-in-Fine
-returns-in-Fine c = search ends
+pub returns : goal.returns
+returns c = search ends

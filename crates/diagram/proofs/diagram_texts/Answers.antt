@@ -11,5 +11,5 @@ read_both-requires c = search reading
 pub diagram_read-requires : goal.diagram_read-requires
 diagram_read-requires c = search reading
 
-pub returns-in-Refused : goal.returns-in-Refused
-returns-in-Refused c = search reading
+pub returns-in-Err : goal.returns-in-Err
+returns-in-Err c = search reading

@@ -15,17 +15,17 @@ finished-requires c = finish_room _ _ _ _ _ _ c.requires.k_bound c.requires.resu
 
 pub kept-requires : goal.kept-requires
 kept-requires c = keep_room _ _ _ _ _ _ c.requires.k_bound c.requires.resumed.prepared.ready _ _ c.started-so_far.ensures _ _ c.joined-rows.ensures
-    _ _ c.finished.ensures _ c.in-Done.is _ (search rules)
+    _ _ c.finished.ensures _ c.in-Ok.is _ (search rules)
 
-pub returns-in-Refused : goal.returns-in-Refused
-returns-in-Refused c = asked_refused _ _ _ _ _ _ _ c.requires.k_bound _ _ _ _ c.name_of_module-module.ensures
+pub returns-in-Err : goal.returns-in-Err
+returns-in-Err c = asked_refused _ _ _ _ _ _ _ c.requires.k_bound _ _ _ c.name_of_module-name.ensures
     (steps_refused _ _ _ _ _ _ c.requires.k_bound c.requires.resumed.prepared.ready _ _ c.started-so_far.ensures _ _ c.joined-rows.ensures
-    _ _ c.finished.ensures _ _ c.in-Refused.is)
+    _ _ c.finished.ensures _ c.in-Err.is)
 
-pub shape_of-work-in-Done : goal.shape_of-work-in-Done
-shape_of-work-in-Done c = search (c.started-so_far.auto, c.joined-rows.auto, c.finished.auto, c.kept.auto, rules)
+pub shape_of-work-in-Ok : goal.shape_of-work-in-Ok
+shape_of-work-in-Ok c = search (c.started-so_far.auto, c.joined-rows.auto, c.finished.auto, c.kept.auto, rules)
 
-pub returns-in-Done : goal.returns-in-Done
-returns-in-Done c = asked_kept _ _ _ _ _ _ _ c.requires.k_bound _ _
+pub returns-in-Ok : goal.returns-in-Ok
+returns-in-Ok c = asked_kept _ _ _ _ _ _ _ c.requires.k_bound _ _
     (steps_kept _ _ _ _ _ _ c.requires.k_bound c.requires.resumed.prepared.ready _ _ c.started-so_far.ensures _ _ c.joined-rows.ensures
-    _ _ c.finished.ensures _ c.in-Done.is _ _ c.kept.ensures)
+    _ _ c.finished.ensures _ c.in-Ok.is _ _ c.kept.ensures)

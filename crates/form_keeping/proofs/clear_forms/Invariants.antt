@@ -1,9 +1,5 @@
-use Prim.Native.Nat.{◌-◌}
 use Rattle.form_keeping.proofs.Cases.{Clearing}
 use Rattle.form_keeping.proofs.clear_forms.Given as goal
 
 abbrev pub invariant-loop-k : goal.invariant-loop-k
 invariant-loop-k l = Clearing l.table l.n l.kept l.initial.w l.w l.k l.nothing
-
-abbrev pub decreases-loop-k : goal.decreases-loop-k
-decreases-loop-k l = l.n - l.k

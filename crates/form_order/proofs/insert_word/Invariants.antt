@@ -4,6 +4,3 @@ use Rattle.form_order.proofs.insert_word.Given as goal
 
 abbrev pub invariant-loop-k : goal.invariant-loop-k
 invariant-loop-k l = Moved l.a l.e l.initial.w l.w l.k
-
-abbrev pub decreases-loop-k : goal.decreases-loop-k
-decreases-loop-k l = l.k

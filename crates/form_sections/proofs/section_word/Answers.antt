@@ -2,7 +2,7 @@
 -- Assumes nothing.
 use Rattle.meaning.specs.Lists.{pick}
 use Rattle.form_sections.specs.Sections.{section_word}
-use Rattle.form_sections.proofs.Cases.{parameter_word, parameter_lost, tests}
+use Rattle.form_sections.proofs.Cases.{parameter_word, tests}
 use borrow.Author.Rules.{rules}
 use Rattle.form_sections.proofs.section_word.Goals as goal
 
@@ -14,10 +14,5 @@ pub returns-in-Hidden : goal.returns-in-Hidden
 unfolding section_word pick
 returns-in-Hidden c = search tests
 
-pub returns-then-p-lt4294967294 : goal.returns-then-p-lt4294967294
-unfolding section_word pick
-returns-then-p-lt4294967294 c = search (parameter_word, rules)
-
-pub returns-else-p-lt4294967294 : goal.returns-else-p-lt4294967294
-unfolding section_word pick
-returns-else-p-lt4294967294 c = search (parameter_lost, rules)
+pub returns-in-Parameter : goal.returns-in-Parameter
+returns-in-Parameter c = search (parameter_word, rules)

@@ -5,14 +5,14 @@ use Rattle.form_sections.specs.Sections.{word_section}
 use Rattle.form_sections.proofs.Cases.{tests}
 use Rattle.form_sections.proofs.word_section.Goals as goal
 
-pub returns-then-w-eq0 : goal.returns-then-w-eq0
+pub returns-in-0 : goal.returns-in-0
 unfolding word_section pick
-returns-then-w-eq0 c = search tests
+returns-in-0 c = search tests
 
-pub returns-then-w-eq1 : goal.returns-then-w-eq1
+pub returns-in-1 : goal.returns-in-1
 unfolding word_section pick
-returns-then-w-eq1 c = search tests
+returns-in-1 c = search tests
 
-pub returns : goal.returns
+pub returns-in_default : goal.returns-in_default
 unfolding word_section pick
-returns c = search tests
+returns-in_default c = search tests

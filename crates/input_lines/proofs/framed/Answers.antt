@@ -3,9 +3,6 @@
 use Rattle.input_lines.proofs.Cases.{cases}
 use Rattle.input_lines.proofs.framed.Goals as goal
 
-pub has_library_line-requires : goal.has_library_line-requires
-has_library_line-requires c = search cases
-
 pub slice_bounds-said_by-count : goal.slice_bounds-said_by-count
 slice_bounds-said_by-count c = search cases
 
@@ -20,12 +17,6 @@ said_by-size-requires c = search cases
 
 pub returns-then-size-gt-TEXT_SIZE : goal.returns-then-size-gt-TEXT_SIZE
 returns-then-size-gt-TEXT_SIZE c = search cases
-
-pub overflow_add-from : goal.overflow_add-from
-overflow_add-from c = search cases
-
-pub overflow_add-to : goal.overflow_add-to
-overflow_add-to c = search cases
 
 pub returns-then-to-rest : goal.returns-then-to-rest
 returns-then-to-rest c = search cases

@@ -9,12 +9,6 @@ returns-then-rest-e c = search cases
 pub returns-then-e-gt17 : goal.returns-then-e-gt17
 returns-then-e-gt17 c = search cases
 
-pub slice_bounds-same_bytes-count : goal.slice_bounds-same_bytes-count
-slice_bounds-same_bytes-count c = search cases
-
-pub slice_bounds-same_bytes-start : goal.slice_bounds-same_bytes-start
-slice_bounds-same_bytes-start c = search cases
-
 pub slice_bounds-same_bytes-end : goal.slice_bounds-same_bytes-end
 slice_bounds-same_bytes-end c = search cases
 
@@ -24,20 +18,11 @@ slice_bounds-said_by-count c = search cases
 pub slice_bounds-said_by-start : goal.slice_bounds-said_by-start
 slice_bounds-said_by-start c = search cases
 
-pub slice_bounds-said_by-end : goal.slice_bounds-said_by-end
-slice_bounds-said_by-end c = search cases
-
-pub said_by-n-requires : goal.said_by-n-requires
-said_by-n-requires c = search cases
-
 pub slice_bounds-is_decimal-count : goal.slice_bounds-is_decimal-count
 slice_bounds-is_decimal-count c = search cases
 
 pub slice_bounds-is_decimal-start : goal.slice_bounds-is_decimal-start
 slice_bounds-is_decimal-start c = search cases
-
-pub slice_bounds-is_decimal-end : goal.slice_bounds-is_decimal-end
-slice_bounds-is_decimal-end c = search cases
 
 pub returns-then-same_bytes : goal.returns-then-same_bytes
 returns-then-same_bytes c = search cases

@@ -1,14 +1,9 @@
 -- `input_lines::line_end` meets its contract.
 -- Assumes nothing.
 use mathlib.Core.Path.{◌≡◌}
-use Prim.Native.Nat.{◌-◌}
-use lib.ListN.{length}
 use Rattle.meaning.specs.Tokens.{run_end}
 use Rattle.meaning.specs.Answer.{in_line}
 use Rattle.input_lines.proofs.line_end.Given as goal
 
 abbrev pub invariant-loop-i : goal.invariant-loop-i
 invariant-loop-i l = run_end in_line l.input l.start ≡ run_end in_line l.input l.i
-
-abbrev pub decreases-loop-i : goal.decreases-loop-i
-decreases-loop-i l = length l.input - l.i

@@ -2,8 +2,5 @@
 use Rattle.list_keeping.proofs.Cases.{cases}
 use Rattle.list_keeping.proofs.put_hidden.Goals as goal
 
-pub put_table-requires : goal.put_table-requires
-put_table-requires c = search cases
-
 pub returns : goal.returns
 returns c = search cases

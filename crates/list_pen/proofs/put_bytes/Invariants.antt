@@ -3,8 +3,5 @@
 use Rattle.list_pen.proofs.Cases.{Copying}
 use Rattle.list_pen.proofs.put_bytes.Given as goal
 
-abbrev pub invariant-loop-left : goal.invariant-loop-left
-invariant-loop-left l = Copying l.limit l.text l.start l.size l.at l.initial.out l.i l.left l.to l.out
-
-abbrev pub decreases-loop-left : goal.decreases-loop-left
-decreases-loop-left l = l.left
+abbrev pub invariant-loop-byte : goal.invariant-loop-byte
+invariant-loop-byte l = Copying l.limit l.byte-items l.at l.initial.out l.byte-index l.to l.out

@@ -2,32 +2,8 @@
 use Rattle.list_texts.proofs.Cases.{cases}
 use Rattle.list_texts.proofs.compare_equations.Goals as goal
 
-pub loop-i-init : goal.loop-i-init
-loop-i-init c = search cases
-
-pub overflow_mul-i : goal.overflow_mul-i
-overflow_mul-i c = search cases
-
-pub equation_part-x-requires : goal.equation_part-x-requires
-equation_part-x-requires c = search cases
-
-pub overflow_mul-i-in-loop-i : goal.overflow_mul-i-in-loop-i
-overflow_mul-i-in-loop-i c = search cases
-
-pub equation_part-y-requires : goal.equation_part-y-requires
-equation_part-y-requires c = search cases
-
-pub compare_parts-c-requires : goal.compare_parts-c-requires
-compare_parts-c-requires c = search cases
-
-pub returns-then-c-lt3 : goal.returns-then-c-lt3
-returns-then-c-lt3 c = search cases
-
-pub overflow_add-i : goal.overflow_add-i
-overflow_add-i c = search cases
-
-pub loop-i-smaller : goal.loop-i-smaller
-loop-i-smaller c = search cases
+pub returns-in-Some : goal.returns-in-Some
+returns-in-Some c = search cases
 
 pub loop-i-preserved : goal.loop-i-preserved
 loop-i-preserved c = search cases

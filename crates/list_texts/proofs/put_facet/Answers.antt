@@ -2,9 +2,6 @@
 use Rattle.list_texts.proofs.Cases.{cases}
 use Rattle.list_texts.proofs.put_facet.Goals as goal
 
-pub put_shape-requires : goal.put_shape-requires
-put_shape-requires c = search cases
-
 pub returns-in-Origin : goal.returns-in-Origin
 returns-in-Origin c = search cases
 

@@ -5,6 +5,3 @@ use Rattle.list_types.proofs.is_hidden_there.Goals as goal
 
 pub returns-then-same_word : goal.returns-then-same_word
 returns-then-same_word c = search cases
-
-pub returns : goal.returns
-returns c = search cases

@@ -3,12 +3,6 @@
 use Rattle.list_types.proofs.Cases.{cases}
 use Rattle.list_types.proofs.put_others.Goals as goal
 
-pub loop-i-init : goal.loop-i-init
-loop-i-init c = search cases
-
-pub loop-i-smaller : goal.loop-i-smaller
-loop-i-smaller c = search cases
-
 pub loop-i-preserved : goal.loop-i-preserved
 loop-i-preserved c = search cases
 

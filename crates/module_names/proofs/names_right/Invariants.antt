@@ -12,6 +12,3 @@ abbrev pub invariant-loop-j : goal.invariant-loop-j
 invariant-loop-j l =
     names_right (declared (joint l.library l.text) l.tape (heads_in l.h)) (take l.k (declared (joint l.library l.text) l.tape (heads_in l.h))) (named_in (joint l.library l.text) l.tape (heads_in l.h) l.k)
     ≡ names_right (declared (joint l.library l.text) l.tape (heads_in l.h)) (take l.k (declared (joint l.library l.text) l.tape (heads_in l.h))) (picked names_module (joint l.library l.text) l.tape l.j (l.end - l.j))
-
-abbrev pub decreases-loop-j : goal.decreases-loop-j
-decreases-loop-j l = l.end - l.j

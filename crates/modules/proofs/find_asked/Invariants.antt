@@ -1,6 +1,5 @@
 -- `modules::find_asked` meets its contract.
 -- Assumes nothing.
-use Prim.Native.Nat.{◌-◌}
 use Rattle.meaning.specs.Names.{Name, same}
 use Rattle.text_names.specs.Joint.{joint}
 use Rattle.modules.proofs.Cases.{Seeking}
@@ -9,6 +8,3 @@ use Rattle.modules.proofs.find_asked.Given as goal
 
 abbrev pub invariant-loop-k : goal.invariant-loop-k
 invariant-loop-k l = Seeking (λ (w : Name). same w l.asked) (joint l.library l.text) l.tape (heads_in l.h) l.count l.k
-
-abbrev pub decreases-loop-k : goal.decreases-loop-k
-decreases-loop-k l = l.count - l.k

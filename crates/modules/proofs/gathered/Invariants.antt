@@ -7,6 +7,3 @@ use Rattle.modules.proofs.gathered.Given as goal
 
 abbrev pub invariant-loop-k : goal.invariant-loop-k
 invariant-loop-k l = Gathering (named_set (joint l.library l.text) l.tape (heads_in l.h)) l.n l.set l.all l.k
-
-abbrev pub decreases-loop-k : goal.decreases-loop-k
-decreases-loop-k l = l.k

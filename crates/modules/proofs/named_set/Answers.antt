@@ -3,15 +3,13 @@
 use Rattle.form_rows.proofs.Auto.{on, done}
 use Rattle.modules.proofs.Cases.{scans}
 use Rattle.modules.proofs.named_set.Goals as goal
+use Rattle.modules.proofs.named_set.Goals.{then-names_module, else-names_module}
 
 pub loop-j-init : goal.loop-j-init
 loop-j-init c = search scans
 
-pub loop-j-preserved-then-names_module : goal.loop-j-preserved-then-names_module
-loop-j-preserved-then-names_module c = search (on, scans)
-
 pub loop-j-preserved : goal.loop-j-preserved
-loop-j-preserved c = search (on, scans)
+loop-j-preserved c = elim c.if-names_module.branch [ then-names_module w ↦ search (on, scans) | else-names_module w ↦ search (on, scans) ]
 
 pub returns : goal.returns
 returns c = search (done, scans)

@@ -10,6 +10,3 @@ use Rattle.modules.proofs.named_set.Given as goal
 abbrev pub invariant-loop-j : goal.invariant-loop-j
 invariant-loop-j l =
     named_set (joint l.library l.text) l.tape (heads_in l.h) l.k ≡ with_named (declared (joint l.library l.text) l.tape (heads_in l.h)) l.k (holds l.set) (picked names_module (joint l.library l.text) l.tape l.j (l.end - l.j))
-
-abbrev pub decreases-loop-j : goal.decreases-loop-j
-decreases-loop-j l = l.end - l.j

@@ -9,6 +9,6 @@ pub returns-then-role-eq-IMPORT : goal.returns-then-role-eq-IMPORT
 unfolding names_module pick
 returns-then-role-eq-IMPORT c = search tests
 
-pub returns : goal.returns
+pub returns-else-role-eq-IMPORT : goal.returns-else-role-eq-IMPORT
 unfolding names_module pick
-returns c = search tests
+returns-else-role-eq-IMPORT c = search tests

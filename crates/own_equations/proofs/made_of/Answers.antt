@@ -3,8 +3,8 @@
 use Rattle.own_equations.proofs.Cases.{cases}
 use Rattle.own_equations.proofs.made_of.Goals as goal
 
-pub returns-in-Stop : goal.returns-in-Stop
-returns-in-Stop c = search cases
+pub returns-in-Err : goal.returns-in-Err
+returns-in-Err c = search cases
 
-pub returns-in-All : goal.returns-in-All
-returns-in-All c = search cases
+pub returns-in-Ok : goal.returns-in-Ok
+returns-in-Ok c = search cases

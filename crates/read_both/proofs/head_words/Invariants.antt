@@ -1,12 +1,8 @@
 -- `read_both::head_words` meets its contract.
 -- Assumes nothing.
-use Rattle.std.proofs.Common.{◌-◌}
 use Rattle.form_rows.specs.Entries.{word_at}
 use Rattle.read_both.proofs.Cases.{Changing}
 use Rattle.read_both.proofs.head_words.Given as goal
 
 abbrev pub invariant-loop-k : goal.invariant-loop-k
 invariant-loop-k l = Changing (word_at l.tape) l.count l.initial.h l.h l.k
-
-abbrev pub decreases-loop-k : goal.decreases-loop-k
-decreases-loop-k l = l.count - l.k

@@ -7,8 +7,8 @@ use Rattle.read_both.proofs.read_both.Goals as goal
 pub read_customer-requires : goal.read_customer-requires
 read_customer-requires c = search (no_library, rules)
 
-pub read_customer-requires-in-Done : goal.read_customer-requires-in-Done
-read_customer-requires-in-Done c = search (library_stands, rules)
+pub read_customer-requires-in-Ok : goal.read_customer-requires-in-Ok
+read_customer-requires-in-Ok c = search (library_stands, rules)
 
-pub returns-in-Refused : goal.returns-in-Refused
-returns-in-Refused c = search (library_refused, rules)
+pub returns-in-Err : goal.returns-in-Err
+returns-in-Err c = search (library_refused, rules)

@@ -1,42 +1,17 @@
--- `read_modules::is_taken` meets its contract. The entries before i declare no module with the name.
+-- `read_modules::is_taken` meets its contract.
 -- Assumes nothing.
-use Rattle.text_names.proofs.Auto.{on, done}
-use Rattle.read_steps.specs.Model.{taken}
-use Rattle.read_modules.proofs.Cases.{cases}
+use Rattle.std.proofs.Common.{take, ◌∙◌, rules, tests}
+use Rattle.std.proofs.lemmas.Iterator.{YieldsList-from_slice, YieldsList-from_take}
+use Rattle.std.proofs.lemmas.Iterator.Search.{any_from_yields_List}
+use Rattle.read_steps.specs.Model.{declares, taken}
+use Rattle.read_modules.proofs.Cases.{taken_any}
 use Rattle.read_modules.proofs.is_taken.Goals as goal
-
-pub loop-i-init : goal.loop-i-init
-unfolding taken
-loop-i-init c = search cases
-
-pub returns-then-tape-i : goal.returns-then-tape-i
-unfolding taken
-returns-then-tape-i c = search (done, cases)
-
-pub offset_bounds-tape-i : goal.offset_bounds-tape-i
-unfolding taken
-offset_bounds-tape-i c = search cases
-
-pub bounds-tape-i : goal.bounds-tape-i
-unfolding taken
-bounds-tape-i c = search cases
-
-pub returns-then-declares : goal.returns-then-declares
-unfolding taken
-returns-then-declares c = search (done, cases)
-
-pub overflow_add-i : goal.overflow_add-i
-unfolding taken
-overflow_add-i c = search cases
-
-pub loop-i-smaller : goal.loop-i-smaller
-unfolding taken
-loop-i-smaller c = search cases
-
-pub loop-i-preserved : goal.loop-i-preserved
-unfolding taken
-loop-i-preserved c = search (on, cases)
 
 pub returns : goal.returns
 unfolding taken
-returns c = search (done, cases)
+returns c =
+    let s = c.args.text.now in
+    let w = c.args.w in
+    let tape = c.args.tape.now in
+    any_from_yields_List (declares s w) _ _ c.any.result c.any.ensures.ran (YieldsList-from_take c.args.n (YieldsList-from_slice tape cc) cc) (λ x b q k. search (rules, tests))
+    ∙ taken_any s w (take c.args.n tape)

@@ -3,8 +3,8 @@
 use Rattle.read_modules.proofs.Cases.{cases}
 use Rattle.read_modules.proofs.twice.Goals as goal
 
-pub returns-in-Refused : goal.returns-in-Refused
-returns-in-Refused c = search cases
+pub returns-in_err-read : goal.returns-in_err-read
+returns-in_err-read c = search cases
 
-pub returns-in-Done : goal.returns-in-Done
-returns-in-Done c = search cases
+pub returns : goal.returns
+returns c = search cases

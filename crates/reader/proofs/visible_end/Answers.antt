@@ -5,11 +5,11 @@ use Rattle.reader.proofs.Front.{front_start, front_on, front_off, front_out}
 use borrow.Author.Rules.{rules}
 use Rattle.reader.proofs.visible_end.Goals as goal
 
-pub loop-left-init : goal.loop-left-init
-loop-left-init c = search (front_start, rules)
+pub loop-init : goal.loop-init
+loop-init c = search (front_start, rules)
 
-pub loop-left-preserved : goal.loop-left-preserved
-loop-left-preserved c = search (on, front_on, rules)
+pub loop-preserved : goal.loop-preserved
+loop-preserved c = search (on, front_on, rules)
 
 pub returns-else-is_front : goal.returns-else-is_front
 returns-else-is_front c = search (done, front_off, rules)

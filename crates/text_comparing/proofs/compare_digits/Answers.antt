@@ -1,36 +1,19 @@
 -- `text_comparing::compare_digits` meets its contract.
 -- Assumes nothing.
-use Rattle.text_spelling.proofs.Auto.{on, done}
-use Rattle.text_comparing.proofs.AtOnce.{digit_fits, digit_less, digits_less, digits_more, digits_on, digits_first, digits_second, digits_level}
+use mathlib.Core.Path.{ap, ◌∙◌}
+use Rattle.std.specs.Ordering.{ordering_index}
+use Rattle.text_comparing.proofs.AtOnce.{digits_to, digits_to_2, digits_apart, digits_level}
 use borrow.Author.Rules.{rules}
 use Rattle.text_comparing.proofs.compare_digits.Goals as goal
 
-pub overflow_add-i : goal.overflow_add-i
-overflow_add-i c = search (digit_fits, rules)
+pub returns-then-n-m : goal.returns-then-n-m
+returns-then-n-m c = ap ordering_index c.cmp.ensures ∙ digits_apart _ _ _ _ _ c.digits_end-n.ensures c.digits_end-m.ensures c.if-n-m.true
 
-pub returns-then-p-q : goal.returns-then-p-q
-returns-then-p-q c = search (done, digits_less, rules)
+pub slice_bounds-compare_bytes-end : goal.slice_bounds-compare_bytes-end
+slice_bounds-compare_bytes-end c = search (digits_to, rules)
 
-pub overflow_add-i-then-q-p : goal.overflow_add-i-then-q-p
-overflow_add-i-then-q-p c = search (digit_fits, rules)
-
-pub returns-then-q-p : goal.returns-then-q-p
-returns-then-q-p c = search (done, digits_more, rules)
-
-pub overflow_add-i-then-digit_at : goal.overflow_add-i-then-digit_at
-overflow_add-i-then-digit_at c = search (digit_fits, rules)
-
-pub loop-p-smaller : goal.loop-p-smaller
-loop-p-smaller c = digit_less c.args.a.now c.loop-p.i _ c.digit_at.ensures c.loop-p-test.true
-
-pub loop-p-preserved : goal.loop-p-preserved
-loop-p-preserved c = search (on, digits_on, rules)
-
-pub returns-else-digit_at : goal.returns-else-digit_at
-returns-else-digit_at c = search (done, digits_first, rules)
-
-pub returns-then-digit_at-2 : goal.returns-then-digit_at-2
-returns-then-digit_at-2 c = search (done, digits_second, rules)
+pub slice_bounds-compare_bytes-end-2 : goal.slice_bounds-compare_bytes-end-2
+slice_bounds-compare_bytes-end-2 c = search (digits_to_2, rules)
 
 pub returns : goal.returns
-returns c = search (done, digits_level, rules)
+returns c = search (digits_level, rules)

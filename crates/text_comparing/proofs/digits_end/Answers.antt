@@ -1,15 +1,10 @@
 -- `text_comparing::digits_end` meets its contract.
 -- Assumes nothing.
+use mathlib.Core.Path.{◌∙◌}
 use borrow.Author.Rules.{rules}
-use Rattle.text_spelling.proofs.Auto.{on, done}
-use Rattle.text_comparing.proofs.AtOnce.{run_on, run_stop, run_over}
+use Rattle.meaning.specs.Names.{is_digit}
+use Rattle.text_comparing.proofs.AtOnce.{run_leading}
 use Rattle.text_comparing.proofs.digits_end.Goals as goal
 
-pub loop-i-preserved : goal.loop-i-preserved
-loop-i-preserved c = search (on, run_on, rules)
-
-pub returns-else-is_digit : goal.returns-else-is_digit
-returns-else-is_digit c = search (done, run_stop, rules)
-
 pub returns : goal.returns
-returns c = search (done, run_over, rules)
+returns c = c.run_end.ensures is_digit (λ b r f p. search rules) ∙ run_leading is_digit c.args.text.now c.args.at

@@ -16,15 +16,6 @@ overflow_add-j c = search cases
 pub returns-then-p-q : goal.returns-then-p-q
 returns-then-p-q c = search (done, cases)
 
-pub returns-then-q-p : goal.returns-then-q-p
-returns-then-q-p c = search (done, cases)
-
-pub overflow_add-k : goal.overflow_add-k
-overflow_add-k c = search cases
-
-pub loop-k-smaller : goal.loop-k-smaller
-loop-k-smaller c = search cases
-
 pub loop-k-preserved : goal.loop-k-preserved
 loop-k-preserved c = search (on, cases)
 

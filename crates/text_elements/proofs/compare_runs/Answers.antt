@@ -1,6 +1,6 @@
 -- `text_elements::compare_runs` meets its contract.
 -- Assumes nothing.
-use Rattle.text_elements.proofs.Elements.{cases, run_within, runs_by_digits, runs_by_zeros}
+use Rattle.text_elements.proofs.Elements.{cases, run_within, runs_apart, runs_told}
 use mathlib.Core.Path.{refl}
 use native.Mathlib.Omega.{arith}
 use Rattle.text_elements.proofs.compare_runs.Goals as goal
@@ -12,21 +12,15 @@ pub overflow_sub-k : goal.overflow_sub-k
 overflow_sub-k c = search cases
 
 pub returns-then-j-k : goal.returns-then-j-k
-returns-then-j-k c = search cases
+returns-then-j-k c = runs_apart _ _ _ _ _ _ _ c.zeros_end-x.ensures c.zeros_end-y.ensures c.digits_end.ensures
+    c.digits_end-2.ensures _ _ refl refl _ c.if-j-k.true c.cmp.ensures
 
-pub returns-then-k-j : goal.returns-then-k-j
-returns-then-k-j c = search cases
-
-pub compare_digits-c-requires : goal.compare_digits-c-requires
-compare_digits-c-requires c = record {
+pub compare_digits-requires : goal.compare_digits-requires
+compare_digits-requires c = record {
   left_in_bounds = run_within _ _ _ _ _ _ c.requires.n_value c.requires.i_le_n c.zeros_end-x.ensures c.digits_end.ensures (omega arith);
-  left_in_bounds_2 = run_within _ _ _ _ _ _ c.requires.m_value c.requires.i_le_m c.zeros_end-y.ensures c.digits_end-2.ensures (omega (arith, c.if-k-j.false));
+  left_in_bounds_2 = run_within _ _ _ _ _ _ c.requires.m_value c.requires.i_le_m c.zeros_end-y.ensures c.digits_end-2.ensures (omega (arith, c.if-j-k.false));
 }
 
-pub returns-then-c-eq1 : goal.returns-then-c-eq1
-returns-then-c-eq1 c = runs_by_zeros _ _ _ _ _ _ _ c.zeros_end-x.ensures c.zeros_end-y.ensures c.digits_end.ensures
-    c.digits_end-2.ensures _ _ refl refl _ c.if-k-j.false c.if-j-k.false c.compare_digits-c.ensures _ c.if-c-eq1.true c.by_size.ensures
-
 pub returns : goal.returns
-returns c = runs_by_digits _ _ _ _ _ _ _ c.zeros_end-x.ensures c.zeros_end-y.ensures c.digits_end.ensures
-    c.digits_end-2.ensures _ _ refl refl _ c.if-k-j.false c.if-j-k.false c.compare_digits-c.ensures c.if-c-eq1.false
+returns c = runs_told _ _ _ _ _ _ _ c.zeros_end-x.ensures c.zeros_end-y.ensures c.digits_end.ensures
+    c.digits_end-2.ensures _ _ refl refl c.if-j-k.false _ _ _ c.compare_digits.ensures c.cmp-2.ensures c.then.ensures

@@ -5,6 +5,3 @@ use Rattle.text_fetching.proofs.part_end.Given as goal
 
 abbrev pub invariant-loop-left : goal.invariant-loop-left
 invariant-loop-left l = part_end l.text 32768 l.at ≡ part_end l.text l.left l.i
-
-abbrev pub decreases-loop-left : goal.decreases-loop-left
-decreases-loop-left l = l.left

@@ -18,12 +18,6 @@ slice_bounds-same_bytes-end c = search cases
 pub returns-then-same_bytes : goal.returns-then-same_bytes
 returns-then-same_bytes c = search cases
 
-pub overflow_sub-left : goal.overflow_sub-left
-overflow_sub-left c = search cases
-
-pub loop-left-smaller : goal.loop-left-smaller
-loop-left-smaller c = search cases
-
 pub loop-left-preserved : goal.loop-left-preserved
 loop-left-preserved c = search cases
 

@@ -5,6 +5,3 @@ use Rattle.text_fetching.proofs.part_of.Given as goal
 
 abbrev pub invariant-loop-left : goal.invariant-loop-left
 invariant-loop-left l = Looking l.text l.marked l.name l.i l.left
-
-abbrev pub decreases-loop-left : goal.decreases-loop-left
-decreases-loop-left l = l.left

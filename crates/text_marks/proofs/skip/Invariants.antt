@@ -7,6 +7,3 @@ use Rattle.text_marks.proofs.skip.Given as goal
 
 abbrev pub invariant-loop-left : goal.invariant-loop-left
 invariant-loop-left l = skip l.text (length l.text) l.at ≡ skip l.text l.left l.i
-
-abbrev pub decreases-loop-left : goal.decreases-loop-left
-decreases-loop-left l = l.left

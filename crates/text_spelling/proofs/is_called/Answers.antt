@@ -16,12 +16,6 @@ bounds-asked-i c = search cases
 pub returns-then-p-asked : goal.returns-then-p-asked
 returns-then-p-asked c = search (done, cases)
 
-pub overflow_add-i : goal.overflow_add-i
-overflow_add-i c = search cases
-
-pub loop-i-smaller : goal.loop-i-smaller
-loop-i-smaller c = search cases
-
 pub loop-i-preserved : goal.loop-i-preserved
 loop-i-preserved c = search (on, cases)
 

@@ -10,12 +10,6 @@ loop-i-init c = search cases
 pub returns-then-name_byte-eq95 : goal.returns-then-name_byte-eq95
 returns-then-name_byte-eq95 c = search (done, cases)
 
-pub overflow_add-i : goal.overflow_add-i
-overflow_add-i c = search cases
-
-pub loop-i-smaller : goal.loop-i-smaller
-loop-i-smaller c = search cases
-
 pub loop-i-preserved : goal.loop-i-preserved
 loop-i-preserved c = search (on, cases)
 

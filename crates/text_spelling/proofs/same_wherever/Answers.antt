@@ -16,12 +16,6 @@ returns-then-p-q c = done c.loop-i.invariant
     (across_off _ _ _ _ c.name_size-n.ensures c.name_size.ensures _ _ _ c.if-n-name_size.false c.loop-i-test.true
     c.name_byte-p.ensures c.name_byte-q.ensures c.if-p-q.true)
 
-pub overflow_add-i : goal.overflow_add-i
-overflow_add-i c = search cases
-
-pub loop-i-smaller : goal.loop-i-smaller
-loop-i-smaller c = search cases
-
 pub loop-i-preserved : goal.loop-i-preserved
 loop-i-preserved c = on c.loop-i.invariant
     (across_on _ _ _ _ c.name_size-n.ensures c.name_size.ensures _ _ _ c.if-n-name_size.false c.loop-i-test.true

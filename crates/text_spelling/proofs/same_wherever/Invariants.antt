@@ -1,6 +1,5 @@
 -- `text_spelling::same_wherever` meets its contract.
 -- Assumes nothing.
-use Prim.Native.Nat.{◌-◌}
 use mathlib.Core.Path.{◌≡◌}
 use lib.ListN.{drop}
 use Rattle.meaning.specs.Names.{same}
@@ -11,6 +10,3 @@ use Rattle.text_spelling.proofs.same_wherever.Given as goal
 abbrev pub invariant-loop-i : goal.invariant-loop-i
 invariant-loop-i l = same (name_of (joint l.library l.text) l.a) (name_of (joint l.behind l.other) l.b)
     ≡ same (drop l.i (name_of (joint l.library l.text) l.a)) (drop l.i (name_of (joint l.behind l.other) l.b))
-
-abbrev pub decreases-loop-i : goal.decreases-loop-i
-decreases-loop-i l = l.n - l.i

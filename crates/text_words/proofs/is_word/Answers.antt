@@ -1,22 +1,10 @@
--- `text_words::is_word` meets its contract: it tests what the definition tests, in the same order.
+-- `text_words::is_word` meets its contract.
 -- Assumes nothing.
-use Rattle.meaning.specs.Lists.{pick}
-use Rattle.meaning.specs.Tokens.{is_word}
-use Rattle.text_spelling.proofs.Auto.{tests}
+use Rattle.text_words.proofs.Runs.{word_by_class, word_by_quote}
 use Rattle.text_words.proofs.is_word.Goals as goal
 
-pub returns-then-b-ge97 : goal.returns-then-b-ge97
-unfolding is_word pick
-returns-then-b-ge97 c = search tests
+pub returns-then-is_ascii_alphanumeric : goal.returns-then-is_ascii_alphanumeric
+returns-then-is_ascii_alphanumeric c = word_by_class _ _ c.is_ascii_alphanumeric.ensures.value c.if-is_ascii_alphanumeric.true
 
-pub returns-then-b-ge65 : goal.returns-then-b-ge65
-unfolding is_word pick
-returns-then-b-ge65 c = search tests
-
-pub returns-then-b-ge48 : goal.returns-then-b-ge48
-unfolding is_word pick
-returns-then-b-ge48 c = search tests
-
-pub returns : goal.returns
-unfolding is_word pick
-returns c = search tests
+pub returns-else-is_ascii_alphanumeric : goal.returns-else-is_ascii_alphanumeric
+returns-else-is_ascii_alphanumeric c = word_by_quote _ _ c.is_ascii_alphanumeric.ensures.value c.if-is_ascii_alphanumeric.false

@@ -6,8 +6,5 @@ use Rattle.unite.proofs.unite_hidden_within.Goals as goal
 pub returns-then-more-eq0 : goal.returns-then-more-eq0
 returns-then-more-eq0 c = search unions
 
-pub unite_hidden_items-h-requires : goal.unite_hidden_items-h-requires
-unite_hidden_items-h-requires c = search unions
-
 pub returns : goal.returns
 returns c = search unions

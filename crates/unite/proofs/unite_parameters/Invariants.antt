@@ -1,12 +1,8 @@
 -- `unite::unite_parameters` meets its contract.
 -- Assumes nothing.
 use Rattle.unite.proofs.Slots.{Uniting}
-use Prim.Native.Nat.{◌-◌}
 use Rattle.text_names.specs.Joint.{joint}
 use Rattle.unite.proofs.unite_parameters.Given as goal
 
 abbrev pub invariant-loop-k : goal.invariant-loop-k
 invariant-loop-k l = Uniting (joint l.library l.text) l.t l.initial.work l.g l.f l.work l.n l.k
-
-abbrev pub decreases-loop-k : goal.decreases-loop-k
-decreases-loop-k l = l.more - l.k

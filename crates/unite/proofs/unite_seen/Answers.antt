@@ -5,6 +5,3 @@ use Rattle.unite.proofs.unite_seen.Goals as goal
 
 pub unite_visible-requires : goal.unite_visible-requires
 unite_visible-requires c = search seen
-
-pub returns : goal.returns
-returns c = search seen

@@ -1,12 +1,8 @@
 -- `unite_equations::absorb_first` meets its contract.
 -- Assumes nothing.
 use Rattle.unite_equations.proofs.Turns.{Joining}
-use Prim.Native.Nat.{◌-◌}
 use Rattle.text_names.specs.Joint.{joint}
 use Rattle.unite_equations.proofs.absorb_first.Given as goal
 
 abbrev pub invariant-loop-k : goal.invariant-loop-k
 invariant-loop-k l = Joining (joint l.library l.text) l.t l.initial.work l.g l.n l.o l.initial.h l.work l.h l.k
-
-abbrev pub decreases-loop-k : goal.decreases-loop-k
-decreases-loop-k l = l.n - l.k

@@ -3,9 +3,6 @@
 use Rattle.unite_items.proofs.Steps.{turns}
 use Rattle.unite_items.proofs.take_row.Goals as goal
 
-pub place_item-at-requires : goal.place_item-at-requires
-place_item-at-requires c = search turns
-
 pub returns-then-at-n : goal.returns-then-at-n
 returns-then-at-n c = search turns
 

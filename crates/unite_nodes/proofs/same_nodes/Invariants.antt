@@ -5,8 +5,5 @@ use Prim.Native.Nat.{◌+◌}
 use Rattle.text_names.specs.Joint.{joint}
 use Rattle.unite_nodes.proofs.same_nodes.Given as goal
 
-abbrev pub invariant-loop-left : goal.invariant-loop-left
-invariant-loop-left l = Running (joint l.library l.text) l.t l.work l.visible l.hidden (l.base + l.a) (l.base + l.b) l.c l.i l.j l.left
-
-abbrev pub decreases-loop-left : goal.decreases-loop-left
-decreases-loop-left l = l.left
+abbrev pub invariant-loop-k : goal.invariant-loop-k
+invariant-loop-k l = Running (joint l.library l.text) l.t l.work l.visible l.hidden (l.base + l.a) (l.base + l.b) l.c l.k

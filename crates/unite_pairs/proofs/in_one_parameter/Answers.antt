@@ -2,17 +2,11 @@
 use Rattle.unite_pairs.proofs.Cases.{cases}
 use Rattle.unite_pairs.proofs.in_one_parameter.Goals as goal
 
-pub returns-in-Export : goal.returns-in-Export
-returns-in-Export c = search cases
+pub returns-in-Parameter-Parameter : goal.returns-in-Parameter-Parameter
+returns-in-Parameter-Parameter c = search cases
 
-pub returns-in-Hidden : goal.returns-in-Hidden
-returns-in-Hidden c = search cases
+pub returns-in_default : goal.returns-in_default
+returns-in_default c = search cases
 
-pub returns-in-Export-b : goal.returns-in-Export-b
-returns-in-Export-b c = search cases
-
-pub returns-in-Hidden-b : goal.returns-in-Hidden-b
-returns-in-Hidden-b c = search cases
-
-pub returns-in-Parameter-b : goal.returns-in-Parameter-b
-returns-in-Parameter-b c = search cases
+pub returns-in_default-2 : goal.returns-in_default-2
+returns-in_default-2 c = search cases

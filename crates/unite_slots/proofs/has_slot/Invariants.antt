@@ -1,6 +1,5 @@
 -- `unite_slots::has_slot` meets its contract.
 -- Assumes nothing.
-use Prim.Native.Nat.{◌-◌}
 use Rattle.text_names.specs.Joint.{joint}
 use Rattle.form.specs.Forms.{slot_at}
 use Rattle.meaning.specs.Normal.{same_slot}
@@ -9,6 +8,3 @@ use Rattle.unite_slots.proofs.has_slot.Given as goal
 
 abbrev pub invariant-loop-i : goal.invariant-loop-i
 invariant-loop-i l = Seeking (same_slot (slot_at (joint l.library l.text) l.work l.q)) (joint l.library l.text) l.work l.base l.count l.i
-
-abbrev pub decreases-loop-i : goal.decreases-loop-i
-decreases-loop-i l = l.count - l.i

@@ -2,8 +2,5 @@
 use Rattle.values_c.proofs.Cases.{cases}
 use Rattle.values_c.proofs.bit.Goals as goal
 
-pub returns-then-b : goal.returns-then-b
-returns-then-b c = search cases
-
 pub returns : goal.returns
 returns c = search cases

@@ -1,11 +1,14 @@
+use Rattle.std.proofs.lemmas.Result.{err_from_is_err_and}
 use Rattle.clause.proofs.renaming.Cases.{cases}
 use Rattle.clause.proofs.renaming.rename.Goals as goal
 
 pub renamed-requires : goal.renamed-requires
 renamed-requires c = search cases
 
-pub returns-in-Stop : goal.returns-in-Stop
-returns-in-Stop c = search cases
+pub returns-in_err-clause_right : goal.returns-in_err-clause_right
+returns-in_err-clause_right c =
+    let p = err_from_is_err_and c.from_residual.result c.from_residual.ensures.1 in
+    rw (p.1, p.2) (search (cases, c.in_err-clause_right.was))
 
-pub returns-in-Fine : goal.returns-in-Fine
-returns-in-Fine c = search cases
+pub returns : goal.returns
+returns c = search cases

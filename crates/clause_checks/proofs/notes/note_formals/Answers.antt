@@ -9,12 +9,6 @@ loop-k-init c = search notings
 pub note_formal-requires : goal.note_formal-requires
 note_formal-requires c = search notings
 
-pub overflow_add-k : goal.overflow_add-k
-overflow_add-k c = search notings
-
-pub loop-k-smaller : goal.loop-k-smaller
-loop-k-smaller c = search notings
-
 pub loop-k-preserved : goal.loop-k-preserved
 loop-k-preserved c = search notings
 

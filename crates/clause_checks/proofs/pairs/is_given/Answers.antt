@@ -3,20 +3,14 @@
 use Rattle.clause_checks.proofs.PairCases.{looks}
 use Rattle.clause_checks.proofs.pairs.is_given.Goals as goal
 
-pub loop-left-init : goal.loop-left-init
-loop-left-init c = search looks
-
-pub overflow_sub-left : goal.overflow_sub-left
-overflow_sub-left c = search looks
+pub loop-j-init : goal.loop-j-init
+loop-j-init c = search looks
 
 pub returns-then-same_word : goal.returns-then-same_word
 returns-then-same_word c = search looks
 
-pub loop-left-smaller : goal.loop-left-smaller
-loop-left-smaller c = search looks
-
-pub loop-left-preserved : goal.loop-left-preserved
-loop-left-preserved c = search looks
+pub loop-j-preserved : goal.loop-j-preserved
+loop-j-preserved c = search looks
 
 pub returns : goal.returns
 returns c = search looks

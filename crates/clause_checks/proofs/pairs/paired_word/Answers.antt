@@ -9,12 +9,6 @@ loop-k-init c = search pairings
 pub returns-then-same_word : goal.returns-then-same_word
 returns-then-same_word c = search pairings
 
-pub overflow_add-k : goal.overflow_add-k
-overflow_add-k c = search pairings
-
-pub loop-k-smaller : goal.loop-k-smaller
-loop-k-smaller c = search pairings
-
 pub loop-k-preserved : goal.loop-k-preserved
 loop-k-preserved c = search pairings
 

@@ -21,12 +21,6 @@ overflow_add-parameters c = search seeks
 pub returns-then-same_word : goal.returns-then-same_word
 returns-then-same_word c = search seeks
 
-pub overflow_add-i : goal.overflow_add-i
-overflow_add-i c = search seeks
-
-pub loop-i-smaller : goal.loop-i-smaller
-loop-i-smaller c = search seeks
-
 pub loop-i-preserved : goal.loop-i-preserved
 loop-i-preserved c = search seeks
 

@@ -9,12 +9,6 @@ loop-k-init c = search keepings
 pub keep_parameter-n-requires : goal.keep_parameter-n-requires
 keep_parameter-n-requires c = search keepings
 
-pub overflow_add-k : goal.overflow_add-k
-overflow_add-k c = search keepings
-
-pub loop-k-smaller : goal.loop-k-smaller
-loop-k-smaller c = search keepings
-
 pub loop-k-preserved : goal.loop-k-preserved
 loop-k-preserved c = search keepings
 

@@ -18,12 +18,6 @@ slice_bounds-is_unfit-end c = search finds
 pub returns-then-is_unfit : goal.returns-then-is_unfit
 returns-then-is_unfit c = search finds
 
-pub overflow_add-i : goal.overflow_add-i
-overflow_add-i c = search finds
-
-pub loop-i-smaller : goal.loop-i-smaller
-loop-i-smaller c = search finds
-
 pub loop-i-preserved : goal.loop-i-preserved
 loop-i-preserved c = search finds
 

@@ -18,12 +18,6 @@ loop-k-init c = search renamings
 pub renames-requires : goal.renames-requires
 renames-requires c = search renamings
 
-pub overflow_add-k : goal.overflow_add-k
-overflow_add-k c = search renamings
-
-pub loop-k-smaller : goal.loop-k-smaller
-loop-k-smaller c = search renamings
-
 pub loop-k-preserved : goal.loop-k-preserved
 loop-k-preserved c = search renamings
 
@@ -36,8 +30,8 @@ slice_bounds-old_word-start c = search renamings
 pub slice_bounds-old_word-end : goal.slice_bounds-old_word-end
 slice_bounds-old_word-end c = search renamings
 
-pub returns-else-renames : goal.returns-else-renames
-returns-else-renames c = search renamings
+pub returns-then-not-renames : goal.returns-then-not-renames
+returns-then-not-renames c = search renamings
 
 pub returns : goal.returns
 returns c = search renamings

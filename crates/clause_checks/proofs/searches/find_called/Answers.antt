@@ -18,12 +18,6 @@ slice_bounds-is_row_called-end c = search finds
 pub returns-then-is_row_called : goal.returns-then-is_row_called
 returns-then-is_row_called c = search finds
 
-pub overflow_add-i : goal.overflow_add-i
-overflow_add-i c = search finds
-
-pub loop-i-smaller : goal.loop-i-smaller
-loop-i-smaller c = search finds
-
 pub loop-i-preserved : goal.loop-i-preserved
 loop-i-preserved c = search finds
 

@@ -1,7 +1,6 @@
 -- `clause_checks::searches::find_sort` meets its contract.
 -- Assumes nothing.
 use Rattle.form_walks.specs.Rows.{Finding}
-use Prim.Native.Nat.{◌-◌}
 use Rattle.text_names.specs.Word.{name_of}
 use Rattle.text_names.specs.Joint.{joint}
 use Rattle.form.specs.Memory.{part}
@@ -10,6 +9,3 @@ use Rattle.clause_checks.proofs.searches.find_sort.Given as goal
 
 abbrev pub invariant-loop-i : goal.invariant-loop-i
 invariant-loop-i l = Finding (sort_called (name_of (joint l.library l.text) l.a)) (joint l.library l.text) (part l.work 0 l.t) l.work l.b l.n l.i
-
-abbrev pub decreases-loop-i : goal.decreases-loop-i
-decreases-loop-i l = l.n - l.i

@@ -18,12 +18,6 @@ slice_bounds-is_formal_called-end c = search finds
 pub returns-then-is_formal_called : goal.returns-then-is_formal_called
 returns-then-is_formal_called c = search finds
 
-pub overflow_add-i : goal.overflow_add-i
-overflow_add-i c = search finds
-
-pub loop-i-smaller : goal.loop-i-smaller
-loop-i-smaller c = search finds
-
 pub loop-i-preserved : goal.loop-i-preserved
 loop-i-preserved c = search finds
 

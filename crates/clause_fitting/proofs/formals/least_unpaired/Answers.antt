@@ -6,14 +6,8 @@ use Rattle.clause_fitting.proofs.formals.least_unpaired.Goals as goal
 pub loop-k-init : goal.loop-k-init
 loop-k-init c = search lasts
 
-pub overflow_sub-k : goal.overflow_sub-k
-overflow_sub-k c = search lasts
-
 pub least_from-best-requires : goal.least_from-best-requires
 least_from-best-requires c = search lasts
-
-pub loop-k-smaller : goal.loop-k-smaller
-loop-k-smaller c = search lasts
 
 pub loop-k-preserved : goal.loop-k-preserved
 loop-k-preserved c = search lasts

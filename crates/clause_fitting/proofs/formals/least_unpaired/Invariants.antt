@@ -7,6 +7,3 @@ use Rattle.clause_fitting.proofs.formals.least_unpaired.Given as goal
 
 abbrev pub invariant-loop-k : goal.invariant-loop-k
 invariant-loop-k l = Lasting (joint l.library l.text) (part l.work 0 l.t) l.work l.m l.k l.best
-
-abbrev pub decreases-loop-k : goal.decreases-loop-k
-decreases-loop-k l = l.k

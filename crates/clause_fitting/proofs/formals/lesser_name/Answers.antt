@@ -9,5 +9,5 @@ returns-then-not_after c = search least
 pub returns-else-not_after : goal.returns-else-not_after
 returns-else-not_after c = search least
 
-pub returns-in-Nothing : goal.returns-in-Nothing
-returns-in-Nothing c = search least
+pub returns-in-None : goal.returns-in-None
+returns-in-None c = search least

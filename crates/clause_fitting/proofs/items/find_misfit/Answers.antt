@@ -1,7 +1,6 @@
 -- `clause_fitting::items::find_misfit` meets its contract.
 -- Assumes nothing.
 use Rattle.clause_fitting.proofs.FormalCases.{finds}
-use borrow.Author.Rules.{rules}
 use Rattle.clause_fitting.proofs.items.find_misfit.Goals as goal
 
 pub loop-i-init : goal.loop-i-init
@@ -12,12 +11,6 @@ is_misfit-requires c = search finds
 
 pub returns-then-is_misfit : goal.returns-then-is_misfit
 returns-then-is_misfit c = search finds
-
-pub overflow_add-i : goal.overflow_add-i
-overflow_add-i c = search (c.loop-i-test.true, c.well_formed.1.1.1.1.0, rules)
-
-pub loop-i-smaller : goal.loop-i-smaller
-loop-i-smaller c = search finds
 
 pub loop-i-preserved : goal.loop-i-preserved
 loop-i-preserved c = search finds

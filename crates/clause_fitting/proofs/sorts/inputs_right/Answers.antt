@@ -6,9 +6,6 @@ use Rattle.clause_fitting.proofs.sorts.inputs_right.Goals as goal
 pub loop-i-init : goal.loop-i-init
 loop-i-init c = search fittings
 
-pub overflow_add-i : goal.overflow_add-i
-overflow_add-i c = search fittings
-
 pub offset_bounds-sorts-i : goal.offset_bounds-sorts-i
 offset_bounds-sorts-i c = search fittings
 
@@ -18,20 +15,11 @@ bounds-sorts-i c = search fittings
 pub sort_right-requires : goal.sort_right-requires
 sort_right-requires c = search fittings
 
-pub overflow_add-i-then-sort_right : goal.overflow_add-i-then-sort_right
-overflow_add-i-then-sort_right c = search fittings
-
-pub loop-i-smaller : goal.loop-i-smaller
-loop-i-smaller c = search fittings
-
 pub loop-i-preserved : goal.loop-i-preserved
 loop-i-preserved c = search fittings
 
-pub returns-else-sort_right : goal.returns-else-sort_right
-returns-else-sort_right c = search fittings
-
-pub returns-else-i-end : goal.returns-else-i-end
-returns-else-i-end c = search fittings
+pub returns-then-not-sort_right : goal.returns-then-not-sort_right
+returns-then-not-sort_right c = search fittings
 
 pub returns : goal.returns
 returns c = search fittings

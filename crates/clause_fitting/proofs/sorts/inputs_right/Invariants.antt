@@ -2,13 +2,9 @@
 -- Assumes nothing.
 use Rattle.clause_checks.specs.Walks.{Fitting}
 use Rattle.clause_fitting.specs.Fits.{sort_fits}
-use Prim.Native.Nat.{◌-◌}
 use Rattle.text_names.specs.Joint.{joint}
 use Rattle.form.specs.Memory.{part}
 use Rattle.clause_fitting.proofs.sorts.inputs_right.Given as goal
 
 abbrev pub invariant-loop-i : goal.invariant-loop-i
 invariant-loop-i l = Fitting (joint l.library l.text) (part l.work 0 l.t) (sort_fits (joint l.library l.text) (part l.work 0 l.t) l.work l.m l.actual) l.kind l.sorts l.i
-
-abbrev pub decreases-loop-i : goal.decreases-loop-i
-decreases-loop-i l = 9 - l.i

@@ -3,8 +3,8 @@
 use Rattle.clause_fitting.proofs.SortCases.{theres}
 use Rattle.clause_fitting.proofs.sorts.is_paired_sort.Goals as goal
 
-pub returns-in-At : goal.returns-in-At
-returns-in-At c = search theres
+pub returns-in-Some : goal.returns-in-Some
+returns-in-Some c = search theres
 
-pub returns-in-Nothing : goal.returns-in-Nothing
-returns-in-Nothing c = search theres
+pub returns-in-None : goal.returns-in-None
+returns-in-None c = search theres

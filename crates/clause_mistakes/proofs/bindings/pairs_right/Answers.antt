@@ -18,23 +18,11 @@ loop-k-init c = search bindings
 pub pair_right-requires : goal.pair_right-requires
 pair_right-requires c = search bindings
 
-pub enum_known-number : goal.enum_known-number
-enum_known-number c = search bindings
-
-pub returns-in-Stop : goal.returns-in-Stop
-returns-in-Stop c = search bindings
-
-pub enum_told-1 : goal.enum_told-1
-enum_told-1 c = search bindings
-
-pub overflow_add-k : goal.overflow_add-k
-overflow_add-k c = search bindings
-
-pub loop-k-smaller : goal.loop-k-smaller
-loop-k-smaller c = search bindings
+pub returns-in_err-pair_right : goal.returns-in_err-pair_right
+returns-in_err-pair_right c = search bindings
 
 pub loop-k-preserved : goal.loop-k-preserved
-loop-k-preserved c = search bindings
+loop-k-preserved c = search (bindings, c.in_ok-pair_right.was)
 
 pub returns : goal.returns
 returns c = search bindings

@@ -3,8 +3,8 @@
 use Rattle.clause_mistakes.proofs.FormalCases.{verdicts}
 use Rattle.clause_mistakes.proofs.formals.unpaired.Goals as goal
 
-pub returns-in-At : goal.returns-in-At
-returns-in-At c = search verdicts
+pub returns-in-Some : goal.returns-in-Some
+returns-in-Some c = search verdicts
 
-pub returns-in-Nothing : goal.returns-in-Nothing
-returns-in-Nothing c = search verdicts
+pub returns-in-None : goal.returns-in-None
+returns-in-None c = search verdicts

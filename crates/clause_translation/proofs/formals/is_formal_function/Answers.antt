@@ -12,12 +12,6 @@ is_such_function-requires c = search asks
 pub returns-then-is_such_function : goal.returns-then-is_such_function
 returns-then-is_such_function c = search asks
 
-pub overflow_add-i : goal.overflow_add-i
-overflow_add-i c = search asks
-
-pub loop-i-smaller : goal.loop-i-smaller
-loop-i-smaller c = search asks
-
 pub loop-i-preserved : goal.loop-i-preserved
 loop-i-preserved c = search asks
 

@@ -9,12 +9,6 @@ loop-i-init c = search asks
 pub returns-then-is_such_sort : goal.returns-then-is_such_sort
 returns-then-is_such_sort c = search asks
 
-pub overflow_add-i : goal.overflow_add-i
-overflow_add-i c = search asks
-
-pub loop-i-smaller : goal.loop-i-smaller
-loop-i-smaller c = search asks
-
 pub loop-i-preserved : goal.loop-i-preserved
 loop-i-preserved c = search asks
 

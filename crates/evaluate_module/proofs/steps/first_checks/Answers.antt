@@ -1,8 +1,8 @@
 use Rattle.evaluate_module.proofs.Cases.{cases}
 use Rattle.evaluate_module.proofs.steps.first_checks.Goals as goal
 
-pub returns-in-Stop : goal.returns-in-Stop
-returns-in-Stop c = search cases
+pub returns-in_err-names_right : goal.returns-in_err-names_right
+returns-in_err-names_right c = search cases
 
-pub returns-in-Fine : goal.returns-in-Fine
-returns-in-Fine c = search cases
+pub returns : goal.returns
+returns c = search cases

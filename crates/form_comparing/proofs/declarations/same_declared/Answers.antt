@@ -10,5 +10,5 @@ returns-then-d-e c = search (one_declaration, rules)
 pub returns-then-same_name_at : goal.returns-then-same_name_at
 returns-then-same_name_at c = search (declared_told, rules)
 
-pub returns : goal.returns
-returns c = search (declared_names, rules)
+pub returns-else-same_name_at : goal.returns-else-same_name_at
+returns-else-same_name_at c = search (declared_names, rules)

@@ -1,11 +1,15 @@
 -- `form_comparing::declarations::same_names` meets its contract.
 -- Assumes nothing.
+use mathlib.Core.Path.{◌≡◌}
+use Prim.Native.Nat.{◌+◌}
+use Rattle.meaning.specs.Lists.{agree}
+use Rattle.meaning.specs.Names.{same}
 use Rattle.text_names.specs.Joint.{joint}
-use Rattle.form_comparing.proofs.Told.{Comparing}
+use Rattle.form_rows.specs.Entries.{names_from}
+use Rattle.form_comparing.proofs.Told.{NamesFrom}
 use Rattle.form_comparing.proofs.declarations.same_names.Given as goal
 
-abbrev pub invariant-loop-left : goal.invariant-loop-left
-invariant-loop-left l = Comparing (joint l.library l.text) l.tape l.d l.e l.c l.i l.j l.left
-
-abbrev pub decreases-loop-left : goal.decreases-loop-left
-decreases-loop-left l = l.left
+abbrev pub invariant-loop-k : goal.invariant-loop-k
+invariant-loop-k l =
+    agree same (names_from (joint l.library l.text) l.tape (l.d + 1) l.c) (names_from (joint l.library l.text) l.tape (l.e + 1) l.c)
+    ≡ NamesFrom (joint l.library l.text) l.tape (l.d + 1) (l.e + 1) l.c l.k

@@ -7,8 +7,8 @@ use Rattle.form_comparing.proofs.sorts.one_but_name.Goals as goal
 pub returns-then-same_origin : goal.returns-then-same_origin
 returns-then-same_origin c = search (item_standings, rules)
 
-pub returns-then-same_shape : goal.returns-then-same_shape
-returns-then-same_shape c = search (item_origins, rules)
+pub returns-else-same_origin : goal.returns-else-same_origin
+returns-else-same_origin c = search (item_origins, rules)
 
-pub returns : goal.returns
-returns c = search (item_shapes, rules)
+pub returns-then-not-same_shape : goal.returns-then-not-same_shape
+returns-then-not-same_shape c = search (item_shapes, rules)

@@ -7,5 +7,5 @@ use Rattle.form_comparing.proofs.sorts.one_item.Goals as goal
 pub returns-then-same_word : goal.returns-then-same_word
 returns-then-same_word c = search (item_told, rules)
 
-pub returns : goal.returns
-returns c = search (item_names, rules)
+pub returns-else-same_word : goal.returns-else-same_word
+returns-else-same_word c = search (item_names, rules)

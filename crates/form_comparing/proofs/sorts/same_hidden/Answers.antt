@@ -7,5 +7,5 @@ use Rattle.form_comparing.proofs.sorts.same_hidden.Goals as goal
 pub returns-then-same_name_at : goal.returns-then-same_name_at
 returns-then-same_name_at c = search (hidden_told, rules)
 
-pub returns : goal.returns
-returns c = search (hidden_names, rules)
+pub returns-else-same_name_at : goal.returns-else-same_name_at
+returns-else-same_name_at c = search (hidden_names, rules)

@@ -9,6 +9,6 @@ pub returns-then-role-eq-EXPORT_SORT : goal.returns-then-role-eq-EXPORT_SORT
 unfolding is_export_role pick
 returns-then-role-eq-EXPORT_SORT c = search tests
 
-pub returns : goal.returns
+pub returns-else-role-eq-EXPORT_SORT : goal.returns-else-role-eq-EXPORT_SORT
 unfolding is_export_role pick
-returns c = search tests
+returns-else-role-eq-EXPORT_SORT c = search tests

@@ -5,14 +5,10 @@ use Rattle.form_rows.specs.Entries.{is_function_role}
 use Rattle.form_rows.proofs.Auto.{tests}
 use Rattle.form_rows.proofs.entries.is_function_role.Goals as goal
 
-pub returns-then-role-eq-PARAMETER_FUNCTION : goal.returns-then-role-eq-PARAMETER_FUNCTION
-unfolding is_function_role pick
-returns-then-role-eq-PARAMETER_FUNCTION c = search tests
-
 pub returns-then-role-eq-EXPORT_FUNCTION : goal.returns-then-role-eq-EXPORT_FUNCTION
 unfolding is_function_role pick
 returns-then-role-eq-EXPORT_FUNCTION c = search tests
 
-pub returns : goal.returns
+pub returns-else-role-eq-EXPORT_FUNCTION : goal.returns-else-role-eq-EXPORT_FUNCTION
 unfolding is_function_role pick
-returns c = search tests
+returns-else-role-eq-EXPORT_FUNCTION c = search tests

@@ -9,6 +9,6 @@ pub returns-then-role-eq-PARAMETER_SORT : goal.returns-then-role-eq-PARAMETER_SO
 unfolding is_parameter_role pick
 returns-then-role-eq-PARAMETER_SORT c = search tests
 
-pub returns : goal.returns
+pub returns-else-role-eq-PARAMETER_SORT : goal.returns-else-role-eq-PARAMETER_SORT
 unfolding is_parameter_role pick
-returns c = search tests
+returns-else-role-eq-PARAMETER_SORT c = search tests

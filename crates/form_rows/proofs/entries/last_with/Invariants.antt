@@ -6,6 +6,3 @@ use Rattle.form_rows.proofs.entries.last_with.Given as goal
 
 abbrev pub invariant-loop-j : goal.invariant-loop-j
 invariant-loop-j l = last_with l.role l.tape l.i ≡ last_with l.role l.tape l.j
-
-abbrev pub decreases-loop-j : goal.decreases-loop-j
-decreases-loop-j l = l.j

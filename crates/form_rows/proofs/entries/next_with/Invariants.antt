@@ -7,6 +7,3 @@ use Rattle.form_rows.proofs.entries.next_with.Given as goal
 
 abbrev pub invariant-loop-j : goal.invariant-loop-j
 invariant-loop-j l = next_with l.role l.tape l.i (l.end - l.i) ≡ next_with l.role l.tape l.j (l.end - l.j)
-
-abbrev pub decreases-loop-j : goal.decreases-loop-j
-decreases-loop-j l = l.end - l.j

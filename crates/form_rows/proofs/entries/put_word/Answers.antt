@@ -4,5 +4,5 @@ use Rattle.form_rows.proofs.Scans.{put_past}
 use borrow.Author.Rules.{rules}
 use Rattle.form_rows.proofs.entries.put_word.Goals as goal
 
-pub returns : goal.returns
-returns c = search (put_past, rules)
+pub returns-else-i-t : goal.returns-else-i-t
+returns-else-i-t c = search (put_past, rules)

@@ -1,11 +1,7 @@
 -- `form_rows::rows::write_sorts` meets its contract.
 -- Assumes nothing.
 use Rattle.form_rows.proofs.Moves.{Storing}
-use Prim.Native.Nat.{◌-◌}
 use Rattle.form_rows.proofs.rows.write_sorts.Given as goal
 
 abbrev pub invariant-loop-i : goal.invariant-loop-i
 invariant-loop-i l = Storing l.initial.w l.b l.sorts l.w l.i
-
-abbrev pub decreases-loop-i : goal.decreases-loop-i
-decreases-loop-i l = 9 - l.i

@@ -6,38 +6,25 @@ use Rattle.form_rows.proofs.Told.{parameters_told}
 use borrow.Author.Rules.{rules}
 use Rattle.form_rows.proofs.sections.same_section.Goals as goal
 
-pub returns-in-Export-b : goal.returns-in-Export-b
+pub returns-in-Export-Export : goal.returns-in-Export-Export
 unfolding same_section section_of
-returns-in-Export-b c = search rules
+returns-in-Export-Export c = search rules
 
-pub returns-in-Hidden-b : goal.returns-in-Hidden-b
+pub returns-in-Hidden-Hidden : goal.returns-in-Hidden-Hidden
 unfolding same_section section_of
-returns-in-Hidden-b c = search rules
+returns-in-Hidden-Hidden c = search rules
 
-pub returns-in-Parameter-b : goal.returns-in-Parameter-b
+pub returns-in_default : goal.returns-in_default
 unfolding same_section section_of
-returns-in-Parameter-b c = search rules
+returns-in_default c = search rules
 
-pub returns-in-Export-b-2 : goal.returns-in-Export-b-2
+pub returns-in_default-2 : goal.returns-in_default-2
 unfolding same_section section_of
-returns-in-Export-b-2 c = search rules
+returns-in_default-2 c = search rules
 
-pub returns-in-Hidden-b-2 : goal.returns-in-Hidden-b-2
+pub returns-in_default-3 : goal.returns-in_default-3
 unfolding same_section section_of
-returns-in-Hidden-b-2 c = search rules
+returns-in_default-3 c = search rules
 
-pub returns-in-Parameter-b-2 : goal.returns-in-Parameter-b-2
-unfolding same_section section_of
-returns-in-Parameter-b-2 c = search rules
-
-pub returns-in-Export-b-3 : goal.returns-in-Export-b-3
-unfolding same_section section_of
-returns-in-Export-b-3 c = search rules
-
-pub returns-in-Hidden-b-3 : goal.returns-in-Hidden-b-3
-unfolding same_section section_of
-returns-in-Hidden-b-3 c = search rules
-
-pub returns-in-Parameter-b-3 : goal.returns-in-Parameter-b-3
-unfolding same_section section_of
-returns-in-Parameter-b-3 c = search (parameters_told, rules)
+pub returns-in-Parameter-Parameter : goal.returns-in-Parameter-Parameter
+returns-in-Parameter-Parameter c = search (parameters_told, rules)

@@ -11,17 +11,11 @@ loop-j-init c = search cases
 pub overflow_cast-j : goal.overflow_cast-j
 overflow_cast-j c = search cases
 
-pub overflow_add-j : goal.overflow_add-j
-overflow_add-j c = search cases
-
-pub loop-j-smaller : goal.loop-j-smaller
-loop-j-smaller c = search cases
-
 pub loop-j-preserved : goal.loop-j-preserved
 loop-j-preserved c = search cases
 
-pub returns-else-is_of_run : goal.returns-else-is_of_run
-returns-else-is_of_run c = search cases
+pub returns-then-not-is_of_run : goal.returns-then-not-is_of_run
+returns-then-not-is_of_run c = search cases
 
 pub returns : goal.returns
 returns c = search cases

@@ -1,4 +1,6 @@
 -- `imports::turns::clauses_from` meets its contract. Assumes nothing.
+use mathlib.Core.Path.{refl}
+use Rattle.std.proofs.lemmas.Result.{err_from_is_err_and}
 use Rattle.imports.specs.Clausal.{clauses_again}
 use Rattle.imports.proofs.Cases.{cases}
 use Rattle.imports.proofs.turns.clauses_from.Goals as goal
@@ -33,27 +35,14 @@ run_end-end-requires c = search cases
 pub clause_turn-requires : goal.clause_turn-requires
 clause_turn-requires c = search cases
 
-pub enum_known-k : goal.enum_known-k
-enum_known-k c = search cases
-
-pub shape_of-work-in-Refused : goal.shape_of-work-in-Refused
-shape_of-work-in-Refused c = search cases
-
-pub returns-in-Refused : goal.returns-in-Refused
-returns-in-Refused c = search cases
-
-pub enum_known-made : goal.enum_known-made
-enum_known-made c = search cases
-
-pub overflow_sub-n : goal.overflow_sub-n
-overflow_sub-n c = search cases
-
-pub loop-n-smaller : goal.loop-n-smaller
-loop-n-smaller c = search cases
+pub returns-in_err-f : goal.returns-in_err-f
+returns-in_err-f c =
+    let p = err_from_is_err_and c.from_residual.result c.from_residual.ensures.1 in
+    rw (p.1, p.2) (search (cases, c.in_err-f.was))
 
 pub loop-n-preserved : goal.loop-n-preserved
 loop-n-preserved c = clauses_again _ _ _ _ _ _ _ _ _ _ _ _ c.loop-n.invariant _ _ _ _ c.starts_clause.ensures c.if-starts_clause.true
-    c.run_end-end.ensures c.clause_turn.ensures _ _ c.in-Done.is c.other-turn.ensures
+    c.run_end-end.ensures c.clause_turn.ensures _ _ c.in_ok-f.was refl
 
 pub shape_of-work-else-starts_clause : goal.shape_of-work-else-starts_clause
 shape_of-work-else-starts_clause c = search cases

@@ -7,6 +7,3 @@ use Rattle.imports.proofs.turns.clauses_from.Given as goal
 abbrev pub invariant-loop-n : goal.invariant-loop-n
 invariant-loop-n l =
     ClausesGoing (joint l.library l.text) l.t l.initial.work (heads_in l.h) l.left l.i l.initial.f l.n l.at l.f l.turn l.work
-
-abbrev pub decreases-loop-n : goal.decreases-loop-n
-decreases-loop-n l = l.n

@@ -2,9 +2,6 @@
 use Rattle.list_order.proofs.CompareCases.{cases}
 use Rattle.list_order.proofs.comparing.item_rows.Goals as goal
 
-pub hidden_not_after-requires : goal.hidden_not_after-requires
-hidden_not_after-requires c = search cases
-
 pub returns-in-Visible : goal.returns-in-Visible
 returns-in-Visible c = search cases
 

@@ -2,9 +2,6 @@
 use Rattle.list_order.proofs.CompareCases.{cases}
 use Rattle.list_order.proofs.comparing.row_not_after.Goals as goal
 
-pub item_rows-requires-in-Hidden : goal.item_rows-requires-in-Hidden
-item_rows-requires-in-Hidden c = search cases
-
 pub returns-in-Visible : goal.returns-in-Visible
 returns-in-Visible c = search cases
 

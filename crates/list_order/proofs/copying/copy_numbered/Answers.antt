@@ -4,6 +4,3 @@ use Rattle.list_order.proofs.copying.copy_numbered.Goals as goal
 
 pub copy_row-requires : goal.copy_row-requires
 copy_row-requires c = search cases
-
-pub returns-then-r-n : goal.returns-then-r-n
-returns-then-r-n c = search cases

@@ -2,8 +2,5 @@
 use Rattle.list_order.proofs.CopyCases.{cases}
 use Rattle.list_order.proofs.copying.sort_rows.Goals as goal
 
-pub copy_rows-requires : goal.copy_rows-requires
-copy_rows-requires c = search cases
-
 pub returns : goal.returns
 returns c = search cases

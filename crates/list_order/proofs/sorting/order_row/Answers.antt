@@ -2,9 +2,6 @@
 use Rattle.list_order.proofs.SortCases.{cases}
 use Rattle.list_order.proofs.sorting.order_row.Goals as goal
 
-pub place_of-k-requires : goal.place_of-k-requires
-place_of-k-requires c = search cases
-
 pub returns-then-is_listed : goal.returns-then-is_listed
 returns-then-is_listed c = search cases
 

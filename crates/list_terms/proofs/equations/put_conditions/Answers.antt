@@ -4,27 +4,12 @@ use borrow.Author.Rules.{rules}
 use Rattle.list_terms.proofs.TermCases.{listing_again, terms}
 use Rattle.list_terms.proofs.equations.put_conditions.Goals as goal
 
-pub loop-more-init : goal.loop-more-init
-loop-more-init c = search terms
-
-pub shape_of-out-then-more-eq1 : goal.shape_of-out-then-more-eq1
-shape_of-out-then-more-eq1 c = search terms
-
-pub returns-then-more-eq1 : goal.returns-then-more-eq1
-returns-then-more-eq1 c = search terms
-
-pub overflow_sub-more : goal.overflow_sub-more
-overflow_sub-more c = search terms
-
-pub loop-more-smaller : goal.loop-more-smaller
-loop-more-smaller c = search terms
+pub returns-then-more-eq0 : goal.returns-then-more-eq0
+returns-then-more-eq0 c = search terms
 
 pub loop-more-preserved : goal.loop-more-preserved
-loop-more-preserved c = listing_again _ _ _ _ _ _ _ _ _ _ c.loop-more.invariant _ _ c.put_sides-p.ensures _ _ c.loop-more-test.true c.if-more-eq1.false (search rules)
+loop-more-preserved c = listing_again _ _ _ _ _ _ _ _ _ _ c.loop-more.invariant _ _ c.put_sides-p.ensures c.loop-more-test.true _ _ c.if-more-eq0.false (search rules)
     c.put-to.ensures
-
-pub shape_of-out : goal.shape_of-out
-shape_of-out c = search terms
 
 pub returns : goal.returns
 returns c = search terms

@@ -8,6 +8,3 @@ use Rattle.list_terms.proofs.equations.put_conditions.Given as goal
 abbrev pub invariant-loop-more : goal.invariant-loop-more
 invariant-loop-more l =
     Listing l.limit (sides_at (joint l.library l.text) l.work l.visible l.depth) l.at l.initial.out l.left l.i l.more l.node l.to l.out
-
-abbrev pub decreases-loop-more : goal.decreases-loop-more
-decreases-loop-more l = l.more

@@ -16,15 +16,9 @@ decreases-put_more l = l.depth * 2 + 1
 
 abbrev pub invariant-put_deep-loop-n : goal.invariant-put_deep-loop-n
 invariant-put_deep-loop-n l =
-    Backing (joint l.source.library.now l.source.text.now) l.source.work.now l.depth l.i l.initial.n l.initial.places l.initial.out l.n l.places l.out
+    Backing (joint l.source.library.now l.source.text.now) l.source.work.now l.depth l.i l.heads l.initial.places l.initial.out l.n l.places l.out
 
-abbrev pub decreases-put_deep-loop-n : goal.decreases-put_deep-loop-n
-decreases-put_deep-loop-n l = l.n
-
-abbrev pub invariant-put_more-loop-more : goal.invariant-put_more-loop-more
-invariant-put_more-loop-more l =
+abbrev pub invariant-put_more-loop : goal.invariant-put_more-loop
+invariant-put_more-loop l =
     let one = term_at (joint l.source.library.now l.source.text.now) l.source.work.now (get_or l.initial.places 3 0) l.depth in
-    Leaving (closed one l.left (get_or l.initial.places 1 0)) l.initial.places l.initial.out (closed one l.more (get_or l.places 1 0)) l.places l.out
-
-abbrev pub decreases-put_more-loop-more : goal.decreases-put_more-loop-more
-decreases-put_more-loop-more l = l.more
+    Leaving (closed one l.left (get_or l.initial.places 1 0)) l.initial.places l.initial.out (closed one l.counter (get_or l.places 1 0)) l.places l.out

@@ -9,12 +9,6 @@ loop-n-init c = search places
 pub returns-then-arguments_at-eq0 : goal.returns-then-arguments_at-eq0
 returns-then-arguments_at-eq0 c = search places
 
-pub overflow_add-n : goal.overflow_add-n
-overflow_add-n c = search places
-
-pub loop-n-smaller : goal.loop-n-smaller
-loop-n-smaller c = search places
-
 pub loop-n-preserved : goal.loop-n-preserved
 loop-n-preserved c = search places
 

@@ -1,9 +1,5 @@
 use Rattle.own_completing.proofs.Notes.{Noting}
-use Prim.Native.Nat.{◌-◌}
 use Rattle.own_completing.proofs.hidden.note_same.Given as goal
 
 abbrev pub invariant-loop-i : goal.invariant-loop-i
 invariant-loop-i l = Noting l.initial.work l.base l.n l.work l.i
-
-abbrev pub decreases-loop-i : goal.decreases-loop-i
-decreases-loop-i l = l.n - l.i

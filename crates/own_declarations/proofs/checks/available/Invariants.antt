@@ -10,6 +10,3 @@ use Rattle.own_declarations.proofs.checks.available.Given as goal
 
 abbrev pub invariant-loop-i : goal.invariant-loop-i
 invariant-loop-i l = walked (available_at (joint l.library l.text) (part l.work 0 l.t) l.work l.own) l.own.from (l.end - l.own.from) ≡ walked (available_at (joint l.library l.text) (part l.work 0 l.t) l.work l.own) l.i (l.end - l.i)
-
-abbrev pub decreases-loop-i : goal.decreases-loop-i
-decreases-loop-i l = l.end - l.i

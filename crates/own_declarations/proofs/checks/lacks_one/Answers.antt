@@ -3,9 +3,6 @@
 use Rattle.own_declarations.proofs.Told.{checking}
 use Rattle.own_declarations.proofs.checks.lacks_one.Goals as goal
 
-pub loop-j-init : goal.loop-j-init
-loop-j-init c = search checking
-
 pub returns-then-lacks : goal.returns-then-lacks
 returns-then-lacks c = search checking
 

@@ -10,6 +10,3 @@ use Rattle.own_declarations.proofs.checks.lacks_one.Given as goal
 
 abbrev pub invariant-loop-j : goal.invariant-loop-j
 invariant-loop-j l = found (lacks (joint l.library l.text) (part l.work 0 l.t) l.work l.own l.hidden) l.i (l.end - l.i) ≡ found (lacks (joint l.library l.text) (part l.work 0 l.t) l.work l.own l.hidden) l.j (l.end - l.j)
-
-abbrev pub decreases-loop-j : goal.decreases-loop-j
-decreases-loop-j l = l.end - l.j

@@ -10,6 +10,3 @@ use Rattle.own_declarations.proofs.checks.variables_right.Given as goal
 
 abbrev pub invariant-loop-i : goal.invariant-loop-i
 invariant-loop-i l = walked (variable_at (joint l.library l.text) (part l.work 0 l.t) l.work l.own l.b l.n) l.own.from (l.end - l.own.from) ≡ walked (variable_at (joint l.library l.text) (part l.work 0 l.t) l.work l.own l.b l.n) l.i (l.end - l.i)
-
-abbrev pub decreases-loop-i : goal.decreases-loop-i
-decreases-loop-i l = l.end - l.i

@@ -3,9 +3,6 @@
 use Rattle.own_declarations.proofs.Made.{making}
 use Rattle.own_declarations.proofs.rows.own_sorts.Goals as goal
 
-pub returns-then-kind-gt-VARIABLE : goal.returns-then-kind-gt-VARIABLE
-returns-then-kind-gt-VARIABLE c = search making
-
 pub returns-then-kind-eq-VARIABLE : goal.returns-then-kind-eq-VARIABLE
 returns-then-kind-eq-VARIABLE c = search making
 

@@ -3,9 +3,6 @@
 use Rattle.own_declarations.proofs.Cases.{cases}
 use Rattle.own_declarations.proofs.sorts.declares_one.Goals as goal
 
-pub loop-i-init : goal.loop-i-init
-loop-i-init c = search cases
-
 pub returns-then-declares_at : goal.returns-then-declares_at
 returns-then-declares_at c = search cases
 

@@ -3,9 +3,6 @@
 use Rattle.own_declarations.proofs.Cases.{cases}
 use Rattle.own_declarations.proofs.sorts.first_named.Goals as goal
 
-pub loop-i-init : goal.loop-i-init
-loop-i-init c = search cases
-
 pub returns-then-is_named : goal.returns-then-is_named
 returns-then-is_named c = search cases
 

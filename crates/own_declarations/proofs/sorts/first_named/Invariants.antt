@@ -10,6 +10,3 @@ use Rattle.own_declarations.proofs.sorts.first_named.Given as goal
 
 abbrev pub invariant-loop-i : goal.invariant-loop-i
 invariant-loop-i l = first_of (is_named (joint l.library l.text) l.tape l.role (name_of (joint l.library l.text) l.w)) l.a (l.e - l.a) ≡ first_of (is_named (joint l.library l.text) l.tape l.role (name_of (joint l.library l.text) l.w)) l.i (l.e - l.i)
-
-abbrev pub decreases-loop-i : goal.decreases-loop-i
-decreases-loop-i l = l.e - l.i

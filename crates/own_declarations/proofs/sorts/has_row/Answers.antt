@@ -3,9 +3,6 @@
 use Rattle.own_declarations.proofs.Cases.{cases}
 use Rattle.own_declarations.proofs.sorts.has_row.Goals as goal
 
-pub loop-i-init : goal.loop-i-init
-loop-i-init c = search cases
-
 pub returns-then-is_row : goal.returns-then-is_row
 returns-then-is_row c = search cases
 

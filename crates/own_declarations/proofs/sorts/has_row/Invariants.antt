@@ -10,6 +10,3 @@ use Rattle.own_declarations.proofs.sorts.has_row.Given as goal
 
 abbrev pub invariant-loop-i : goal.invariant-loop-i
 invariant-loop-i l = found (is_row (joint l.library l.text) l.work l.b l.kind (name_of (joint l.library l.text) l.w)) 0 l.n ≡ found (is_row (joint l.library l.text) l.work l.b l.kind (name_of (joint l.library l.text) l.w)) l.i (l.n - l.i)
-
-abbrev pub decreases-loop-i : goal.decreases-loop-i
-decreases-loop-i l = l.n - l.i

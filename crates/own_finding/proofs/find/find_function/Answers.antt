@@ -3,20 +3,8 @@
 use Rattle.own_finding.proofs.Seeks.{seeks}
 use Rattle.own_finding.proofs.find.find_function.Goals as goal
 
-pub loop-i-init : goal.loop-i-init
-loop-i-init c = search seeks
-
-pub is_such_function-requires : goal.is_such_function-requires
-is_such_function-requires c = search seeks
-
 pub returns-then-is_such_function : goal.returns-then-is_such_function
 returns-then-is_such_function c = search seeks
-
-pub overflow_add-i : goal.overflow_add-i
-overflow_add-i c = search seeks
-
-pub loop-i-smaller : goal.loop-i-smaller
-loop-i-smaller c = search seeks
 
 pub loop-i-preserved : goal.loop-i-preserved
 loop-i-preserved c = search seeks

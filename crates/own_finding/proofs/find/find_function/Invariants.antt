@@ -1,7 +1,6 @@
 -- `own_finding::find::find_function` meets its contract.
 -- Assumes nothing.
 use mathlib.Core.List.{map}
-use Prim.Native.Nat.{◌-◌}
 use lib.ListN.{take}
 use Rattle.text_names.specs.Word.{name_of}
 use Rattle.text_names.specs.Joint.{joint}
@@ -14,6 +13,3 @@ use Rattle.own_finding.proofs.find.find_function.Given as goal
 abbrev pub invariant-loop-i : goal.invariant-loop-i
 invariant-loop-i l =
     Finding (function_called (name_of (joint l.library l.text) l.w) (map (sort_of (joint l.library l.text) (part l.work 0 l.t)) (take l.count l.sorts))) (joint l.library l.text) (part l.work 0 l.t) l.work l.b l.n l.i
-
-abbrev pub decreases-loop-i : goal.decreases-loop-i
-decreases-loop-i l = l.n - l.i

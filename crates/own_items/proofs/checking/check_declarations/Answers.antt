@@ -3,8 +3,8 @@
 use Rattle.own_items.proofs.Told.{telling}
 use Rattle.own_items.proofs.checking.check_declarations.Goals as goal
 
-pub returns-in-Stop : goal.returns-in-Stop
-returns-in-Stop c = search telling
+pub returns-in_err-available : goal.returns-in_err-available
+returns-in_err-available c = search telling
 
-pub returns-in-Fine : goal.returns-in-Fine
-returns-in-Fine c = search telling
+pub returns : goal.returns
+returns c = search telling

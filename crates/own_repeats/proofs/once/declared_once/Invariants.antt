@@ -9,6 +9,3 @@ use Rattle.own_repeats.proofs.once.declared_once.Given as goal
 
 abbrev pub invariant-loop-i : goal.invariant-loop-i
 invariant-loop-i l = walked (once_at (joint l.library l.text) l.tape l.a) l.a (l.e - l.a) ≡ walked (once_at (joint l.library l.text) l.tape l.a) l.i (l.e - l.i)
-
-abbrev pub decreases-loop-i : goal.decreases-loop-i
-decreases-loop-i l = l.e - l.i

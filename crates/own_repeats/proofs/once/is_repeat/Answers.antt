@@ -3,9 +3,6 @@
 use Rattle.own_repeats.proofs.Cases.{cases}
 use Rattle.own_repeats.proofs.once.is_repeat.Goals as goal
 
-pub loop-j-init : goal.loop-j-init
-loop-j-init c = search cases
-
 pub returns-then-repeats : goal.returns-then-repeats
 returns-then-repeats c = search cases
 

@@ -9,6 +9,3 @@ use Rattle.own_repeats.proofs.once.is_repeat.Given as goal
 
 abbrev pub invariant-loop-j : goal.invariant-loop-j
 invariant-loop-j l = found (repeats (joint l.library l.text) l.tape l.i) l.start (l.i - l.start) ≡ found (repeats (joint l.library l.text) l.tape l.i) l.j (l.i - l.j)
-
-abbrev pub decreases-loop-j : goal.decreases-loop-j
-decreases-loop-j l = l.i - l.j

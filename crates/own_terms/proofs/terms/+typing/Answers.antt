@@ -2,37 +2,16 @@
 use mathlib.Core.Path.{refl}
 use borrow.Author.Rules.{rules}
 use Rattle.own_terms.proofs.Words.{reached_room, reached_fits, room_at, at_less, at_some}
-use Rattle.own_terms.proofs.Arguments.{deep_tape, deep_fits, deep_still, deep_few, deep_nine, deep_done, deep_many, deep_whole, deep_down, deep_falls, deep_ill, deep_long, deep_rises, deep_again}
-use Rattle.own_terms.proofs.Row.{operator_infix, back_open, back_entry, back_place, back_less, back_room, back_some, back_fits, back_ill, back_long, back_rises, back_fewer, back_again, back_end, row_less, row_room, row_ended, row_back_less, row_backed, onward_less}
+use Rattle.own_terms.proofs.Arguments.{deep_tape, deep_fits, deep_still, deep_few, deep_nine, deep_done, deep_many, deep_falls, deep_ill, deep_again}
+use Rattle.own_terms.proofs.Row.{operator_infix, back_open, back_less, back_room, back_some, back_fits, back_ill, back_fewer, back_again, back_end, row_less, row_room, row_ended, row_back_less, row_backed, onward_less}
 use Rattle.own_terms.proofs.Deep.{deep_sunk, deep_row, read_room, deeper}
 use Rattle.own_terms.proofs.terms.+typing.Goals as goal
-
-pub type_args-loop-free-init : goal.type_args-loop-free-init
-type_args-loop-free-init t c = search deeper
-
-pub type_args-bounds-words-0 : goal.type_args-bounds-words-0
-type_args-bounds-words-0 t c = search deeper
-
-pub type_args-bounds-words-5 : goal.type_args-bounds-words-5
-type_args-bounds-words-5 t c = search deeper
-
-pub type_args-slice_bounds-ends_in-end : goal.type_args-slice_bounds-ends_in-end
-type_args-slice_bounds-ends_in-end t c = search deeper
-
-pub type_args-overflow_sub-count : goal.type_args-overflow_sub-count
-type_args-overflow_sub-count t c = search deeper
 
 pub type_args-ends_in-requires : goal.type_args-ends_in-requires
 type_args-ends_in-requires t c = deep_tape _ _ _ _ _ _ _ _ _ c.loop-free.invariant c.requires.0
 
-pub type_args-bounds-words-6 : goal.type_args-bounds-words-6
-type_args-bounds-words-6 t c = search deeper
-
 pub type_args-behind-requires : goal.type_args-behind-requires
 type_args-behind-requires t c = λ _. deep_fits _ _ _ _ _ _ _ _ _ c.loop-free.invariant _ _ c.ends_in.ensures c.if-ends_in.true c.requires.0
-
-pub type_args-move_to-requires : goal.type_args-move_to-requires
-type_args-move_to-requires t c = search deeper
 
 pub type_args-type_named-requires : goal.type_args-type_named-requires
 type_args-type_named-requires t c = let still = deep_still _ _ _ _ _ _ _ _ _ c.loop-free.invariant _ _ c.ends_in.ensures c.requires.0 in
@@ -45,9 +24,6 @@ type_args-returns-then-ends_in t c = deep_done _ _ _ _ _ _ _ _ _ c.loop-free.inv
 pub type_args-returns-then-count-eq9 : goal.type_args-returns-then-count-eq9
 type_args-returns-then-count-eq9 t c = deep_many _ _ _ _ _ _ _ _ _ c.loop-free.invariant _ _ c.ends_in.ensures c.if-ends_in.false _ c.if-count-eq9.true
 
-pub type_args-descend-requires : goal.type_args-descend-requires
-type_args-descend-requires t c = (deep_whole _ _ _ _ _ _ _ _ _ c.loop-free.invariant, deep_down _ _ _ _ _ _ _ _ _ c.loop-free.invariant c.requires.1)
-
 pub type_args-type_deep-sort-requires : goal.type_args-type_deep-sort-requires
 type_args-type_deep-sort-requires t c = let still = deep_still _ _ _ _ _ _ _ _ _ c.loop-free.invariant _ _ c.ends_in.ensures c.requires.0 in
     (deep_falls _ _ _ _ _ _ _ _ _ c.loop-free.invariant _ _ c.descend.ensures c.requires.1 c.decreases, room_at _ _ _ _ _ _ c.descend.ensures (search rules) still)
@@ -56,31 +32,6 @@ pub type_args-returns-then-sort-eq0 : goal.type_args-returns-then-sort-eq0
 type_args-returns-then-sort-eq0 t c = deep_ill _ _ _ _ _ _ _ _ _ c.loop-free.invariant _ _ c.ends_in.ensures c.if-ends_in.false c.if-count-eq9.false _
     c.descend.ensures _ _ _ c.type_deep-sort.ensures c.if-sort-eq0.true
 
-pub type_args-ascend-requires : goal.type_args-ascend-requires
-type_args-ascend-requires t c = let long = deep_long _ _ _ _ _ _ _ _ _ c.loop-free.invariant _ _ c.ends_in.ensures c.if-ends_in.false c.if-count-eq9.false _
-    c.descend.ensures _ _ _ c.type_deep-sort.ensures c.if-sort-eq0.false in
-    let rises = deep_rises _ _ _ _ _ _ _ _ _ c.loop-free.invariant _ _ c.ends_in.ensures c.if-ends_in.false c.if-count-eq9.false _
-    c.descend.ensures _ _ _ c.type_deep-sort.ensures c.if-sort-eq0.false c.requires.0 c.requires.1 in
-    (long, rises)
-
-pub type_args-overflow_sub-sorts : goal.type_args-overflow_sub-sorts
-type_args-overflow_sub-sorts t c = search deeper
-
-pub type_args-overflow_cast-sorts : goal.type_args-overflow_cast-sorts
-type_args-overflow_cast-sorts t c = search deeper
-
-pub type_args-offset_bounds-sorts-count : goal.type_args-offset_bounds-sorts-count
-type_args-offset_bounds-sorts-count t c = search deeper
-
-pub type_args-bounds-sorts-count : goal.type_args-bounds-sorts-count
-type_args-bounds-sorts-count t c = search deeper
-
-pub type_args-overflow_add-count : goal.type_args-overflow_add-count
-type_args-overflow_add-count t c = search deeper
-
-pub type_args-loop-free-smaller : goal.type_args-loop-free-smaller
-type_args-loop-free-smaller t c = search deeper
-
 pub type_args-loop-free-preserved : goal.type_args-loop-free-preserved
 type_args-loop-free-preserved t c = deep_again _ _ _ _ _ _ _ _ _ c.loop-free.invariant _ _ c.ends_in.ensures c.if-ends_in.false c.if-count-eq9.false _
     c.descend.ensures _ _ _ c.type_deep-sort.ensures c.if-sort-eq0.false _ _ c.requires.1 c.ascend.ensures refl
@@ -88,23 +39,11 @@ type_args-loop-free-preserved t c = deep_again _ _ _ _ _ _ _ _ _ c.loop-free.inv
 pub type_back-loop-row-init : goal.type_back-loop-row-init
 type_back-loop-row-init t c = back_open _ _ _ _ _ c.requires.1 c.requires.2 c.requires.0.words.long c.requires.3
 
-pub type_back-bounds-row-2 : goal.type_back-bounds-row-2
-type_back-bounds-row-2 t c = search deeper
-
-pub type_back-step_back-requires : goal.type_back-step_back-requires
-type_back-step_back-requires t c = (back_entry _ _ _ _ _ _ _ _ _ c.loop-row.invariant c.loop-row-test.true, back_place _ _ _ _ _ _ _ _ _ c.loop-row.invariant c.loop-row-test.true)
-
 pub type_back-type_operator-sort-requires : goal.type_back-type_operator-sort-requires
 type_back-type_operator-sort-requires t c = (back_less _ _ _ _ _ _ _ _ _ c.loop-row.invariant c.loop-row-test.true _ c.decreases, (back_room _ _ _ _ _ _ _ _ _ c.loop-row.invariant c.requires.0, back_some _ _ _ _ _ _ _ _ _ c.loop-row.invariant, back_fits _ _ _ _ _ _ _ _ _ c.loop-row.invariant))
 
 pub type_back-returns-then-sort-eq0 : goal.type_back-returns-then-sort-eq0
 type_back-returns-then-sort-eq0 t c = back_ill _ _ _ _ _ _ _ _ _ c.loop-row.invariant c.loop-row-test.true _ c.step_back.ensures _ _ _ c.type_operator-sort.ensures c.if-sort-eq0.true
-
-pub type_back-ascend-requires : goal.type_back-ascend-requires
-type_back-ascend-requires t c = (
-  back_long _ _ _ _ _ _ _ _ _ c.loop-row.invariant c.loop-row-test.true _ c.step_back.ensures _ _ _ c.type_operator-sort.ensures c.if-sort-eq0.false,
-  back_rises _ _ _ _ _ _ _ _ _ c.loop-row.invariant c.loop-row-test.true _ c.step_back.ensures _ _ _ c.type_operator-sort.ensures c.if-sort-eq0.false,
-)
 
 pub type_back-loop-row-smaller : goal.type_back-loop-row-smaller
 type_back-loop-row-smaller t c = back_fewer _ _ _ _ _ _ _ _ _ c.loop-row.invariant c.loop-row-test.true _ c.step_back.ensures _ _ _ c.type_operator-sort.ensures c.if-sort-eq0.false _
@@ -116,18 +55,6 @@ type_back-loop-row-preserved t c = back_again _ _ _ _ _ _ _ _ _ c.loop-row.invar
 
 pub type_back-returns : goal.type_back-returns
 type_back-returns t c = back_end _ _ _ _ _ _ _ _ _ c.loop-row.invariant c.loop-row-test.false
-
-pub type_deep-bounds-words-5 : goal.type_deep-bounds-words-5
-type_deep-bounds-words-5 t c = search deeper
-
-pub type_deep-bounds-words-6 : goal.type_deep-bounds-words-6
-type_deep-bounds-words-6 t c = search deeper
-
-pub type_deep-slice_bounds-operators_from-end : goal.type_deep-slice_bounds-operators_from-end
-type_deep-slice_bounds-operators_from-end t c = search deeper
-
-pub type_deep-operators_from-row-requires : goal.type_deep-operators_from-row-requires
-type_deep-operators_from-row-requires t c = search deeper
 
 pub type_deep-type_primary-first-requires : goal.type_deep-type_primary-first-requires
 type_deep-type_primary-first-requires t c = (row_less _ _ _ _ _ _ _ c.operators_from-row.ensures _ c.decreases, (row_room _ _ _ _ _ _ _ c.operators_from-row.ensures c.requires, search deeper, row_ended _ _ _ _ _ _ _ c.operators_from-row.ensures))
@@ -149,44 +76,11 @@ type_deep-type_back-requires t c = (
 pub type_deep-returns : goal.type_deep-returns
 type_deep-returns t c = deep_row _ _ _ _ _ _ c.operators_from-row.ensures _ _ _ c.type_primary-first.ensures _ _ _ c.if-first-eq0.false c.type_back.ensures
 
-pub type_onward-type_deep-requires : goal.type_onward-type_deep-requires
-type_onward-type_deep-requires t c = search deeper
-
-pub type_onward-returns : goal.type_onward-returns
-type_onward-returns t c = search deeper
-
-pub type_operator-overflow_sub-sorts : goal.type_operator-overflow_sub-sorts
-type_operator-overflow_sub-sorts t c = search deeper
-
-pub type_operator-overflow_cast-sorts : goal.type_operator-overflow_cast-sorts
-type_operator-overflow_cast-sorts t c = search deeper
-
-pub type_operator-bounds-sorts-0 : goal.type_operator-bounds-sorts-0
-type_operator-bounds-sorts-0 t c = search deeper
-
-pub type_operator-bounds-row-2 : goal.type_operator-bounds-row-2
-type_operator-bounds-row-2 t c = search deeper
-
-pub type_operator-type_named-requires : goal.type_operator-type_named-requires
-type_operator-type_named-requires t c = search deeper
-
 pub type_operator-returns-then-row-eq0 : goal.type_operator-returns-then-row-eq0
 type_operator-returns-then-row-eq0 t c = search deeper
 
-pub type_operator-type_deep-second-requires : goal.type_operator-type_deep-second-requires
-type_operator-type_deep-second-requires t c = search deeper
-
 pub type_operator-returns-then-second-eq0 : goal.type_operator-returns-then-second-eq0
 type_operator-returns-then-second-eq0 t c = search deeper
-
-pub type_operator-overflow_sub-sorts-2 : goal.type_operator-overflow_sub-sorts-2
-type_operator-overflow_sub-sorts-2 t c = search deeper
-
-pub type_operator-overflow_cast-sorts-2 : goal.type_operator-overflow_cast-sorts-2
-type_operator-overflow_cast-sorts-2 t c = search deeper
-
-pub type_operator-bounds-sorts-1 : goal.type_operator-bounds-sorts-1
-type_operator-bounds-sorts-1 t c = search deeper
 
 pub type_operator-type_named-requires-2 : goal.type_operator-type_named-requires-2
 type_operator-type_named-requires-2 t c = (reached_room _ _ _ _ _ _ _ c.type_deep-second.ensures c.if-second-eq0.false _ refl (search rules) c.requires.0, search deeper, search deeper)
@@ -194,41 +88,11 @@ type_operator-type_named-requires-2 t c = (reached_room _ _ _ _ _ _ _ c.type_dee
 pub type_operator-returns : goal.type_operator-returns
 type_operator-returns t c = search (operator_infix, c.type_named-2.ensures, c.type_deep-second.ensures, rules)
 
-pub type_primary-bounds-words-7 : goal.type_primary-bounds-words-7
-type_primary-bounds-words-7 t c = search deeper
-
 pub type_primary-returns-then-words-eq0 : goal.type_primary-returns-then-words-eq0
 type_primary-returns-then-words-eq0 t c = search deeper
 
-pub type_primary-bounds-words-0 : goal.type_primary-bounds-words-0
-type_primary-bounds-words-0 t c = search deeper
-
-pub type_primary-bounds-row-0 : goal.type_primary-bounds-row-0
-type_primary-bounds-row-0 t c = search deeper
-
-pub type_primary-bounds-row-1 : goal.type_primary-bounds-row-1
-type_primary-bounds-row-1 t c = search deeper
-
-pub type_primary-slice_bounds-role_in-end : goal.type_primary-slice_bounds-role_in-end
-type_primary-slice_bounds-role_in-end t c = search deeper
-
-pub type_primary-role_in-role-requires : goal.type_primary-role_in-role-requires
-type_primary-role_in-role-requires t c = search deeper
-
-pub type_primary-type_leaf-requires : goal.type_primary-type_leaf-requires
-type_primary-type_leaf-requires t c = search deeper
-
 pub type_primary-returns-then-role-eq-ALONE : goal.type_primary-returns-then-role-eq-ALONE
 type_primary-returns-then-role-eq-ALONE t c = search deeper
-
-pub type_primary-overflow_add-i : goal.type_primary-overflow_add-i
-type_primary-overflow_add-i t c = search deeper
-
-pub type_primary-overflow_add-q : goal.type_primary-overflow_add-q
-type_primary-overflow_add-q t c = search deeper
-
-pub type_primary-move_to-requires : goal.type_primary-move_to-requires
-type_primary-move_to-requires t c = search deeper
 
 pub type_primary-type_args-requires : goal.type_primary-type_args-requires
 type_primary-type_args-requires t c = let still = read_room _ _ _ _ c.role_in-role.ensures _ c.requires.0 in
@@ -237,18 +101,9 @@ type_primary-type_args-requires t c = let still = read_room _ _ _ _ c.role_in-ro
 pub type_primary-returns-then-role-eq-HEAD : goal.type_primary-returns-then-role-eq-HEAD
 type_primary-returns-then-role-eq-HEAD t c = search deeper
 
-pub type_primary-bounds-row-2 : goal.type_primary-bounds-row-2
-type_primary-bounds-row-2 t c = search deeper
-
-pub type_primary-move_to-requires-then-row-gt1 : goal.type_primary-move_to-requires-then-row-gt1
-type_primary-move_to-requires-then-row-gt1 t c = search deeper
-
 pub type_primary-type_onward-requires : goal.type_primary-type_onward-requires
 type_primary-type_onward-requires t c = let still = read_room _ _ _ _ c.role_in-role.ensures _ c.requires.0 in
     (onward_less _ c.args.row.now _ _ _ _ _ c.if-row-gt1.true c.decreases c.move_to-then-row-gt1.ensures, room_at _ _ _ _ _ _ c.move_to-then-row-gt1.ensures (search rules) still)
-
-pub type_primary-returns-then-row-gt1 : goal.type_primary-returns-then-row-gt1
-type_primary-returns-then-row-gt1 t c = search deeper
 
 pub type_primary-returns-then-q-work : goal.type_primary-returns-then-q-work
 type_primary-returns-then-q-work t c = search deeper

@@ -1,87 +1,27 @@
 -- `own_typing::equations::type_marked` meets its contract.
 -- Assumes nothing.
 use borrow.Author.Rules.{rules}
-use Rattle.own_typing.proofs.Passes.{pass_dropped, passing}
+use native.Mathlib.Omega.{arith}
+use Rattle.own_typing.proofs.Passes.{pass_ill, pass_past, pass_kept, pass_dropped, passing}
+use Rattle.own_typing.proofs.equations.type_marked.Goals.{then-role_at-role, else-role_at-role}
 use Rattle.own_typing.proofs.equations.type_marked.Goals as goal
 
-pub loop-rest-init : goal.loop-rest-init
-loop-rest-init c = search passing
+pub returns-then-not-begins_at : goal.returns-then-not-begins_at
+returns-then-not-begins_at c = search passing
 
-pub slice_bounds-begins_at-count : goal.slice_bounds-begins_at-count
-slice_bounds-begins_at-count c = search passing
+pub returns-in_err-sides : goal.returns-in_err-sides
+returns-in_err-sides c = rw c.from_residual.ensures
+    (pass_ill _ _ _ _ _ _ _ _ _ _ _ _ _ _ c.loop.invariant (search rules) _ c.begins_at.ensures c.if-not-begins_at.false _ _ c.type_sides.ensures c.in_err-sides.was)
 
-pub slice_bounds-begins_at-start : goal.slice_bounds-begins_at-start
-slice_bounds-begins_at-start c = search passing
+pub returns-then-t-sides : goal.returns-then-t-sides
+returns-then-t-sides c = pass_past _ _ _ _ _ _ _ _ _ _ _ _ _ _ c.loop.invariant (search rules) _ c.begins_at.ensures c.if-not-begins_at.false _ _ c.type_sides.ensures _ c.in_ok-sides.was c.if-t-sides.true
 
-pub slice_bounds-begins_at-end : goal.slice_bounds-begins_at-end
-slice_bounds-begins_at-end c = search passing
-
-pub type_sides-a-requires : goal.type_sides-a-requires
-type_sides-a-requires c = search passing
-
-pub enum_known-a : goal.enum_known-a
-enum_known-a c = search passing
-
-pub enum_told-1 : goal.enum_told-1
-enum_told-1 c = search passing
-
-pub shape_of-work-in_default : goal.shape_of-work-in_default
-shape_of-work-in_default c = search passing
-
-pub returns-in_default : goal.returns-in_default
-returns-in_default c = search passing
-
-pub shape_of-work-then-t-next : goal.shape_of-work-then-t-next
-shape_of-work-then-t-next c = search passing
-
-pub returns-then-t-next : goal.returns-then-t-next
-returns-then-t-next c = search passing
-
-pub slice_bounds-role_at-count : goal.slice_bounds-role_at-count
-slice_bounds-role_at-count c = search passing
-
-pub slice_bounds-role_at-start : goal.slice_bounds-role_at-start
-slice_bounds-role_at-start c = search passing
-
-pub slice_bounds-role_at-end : goal.slice_bounds-role_at-end
-slice_bounds-role_at-end c = search passing
-
-pub overflow_add-count : goal.overflow_add-count
-overflow_add-count c = search passing
-
-pub overflow_add-at : goal.overflow_add-at
-overflow_add-at c = search passing
-
-pub overflow_sub-rest : goal.overflow_sub-rest
-overflow_sub-rest c = search passing
-
-pub loop-rest-smaller-then-mark-role : goal.loop-rest-smaller-then-mark-role
-loop-rest-smaller-then-mark-role c = search passing
-
-pub loop-rest-preserved-then-mark-role : goal.loop-rest-preserved-then-mark-role
-loop-rest-preserved-then-mark-role c = search passing
-
-pub overflow_add-at-else-mark-role : goal.overflow_add-at-else-mark-role
-overflow_add-at-else-mark-role c = search passing
-
-pub overflow_sub-rest-else-mark-role : goal.overflow_sub-rest-else-mark-role
-overflow_sub-rest-else-mark-role c = search passing
-
-pub loop-rest-smaller : goal.loop-rest-smaller
-loop-rest-smaller c = search passing
-
-pub loop-rest-preserved : goal.loop-rest-preserved
-loop-rest-preserved c = pass_dropped _ _ _ _ _ _ _ _ _ _ _ _ _ _ c.loop-rest.invariant c.loop-rest-test.true _ c.begins_at.ensures c.if-begins_at.true _ _ c.type_sides-a.ensures _ _ _
-    c.in-Sorted.is c.if-t-next.false _ c.role_at-mark.ensures (search rules) c.if-mark-role.false
-
-pub shape_of-work-else-begins_at : goal.shape_of-work-else-begins_at
-shape_of-work-else-begins_at c = search passing
-
-pub returns-else-begins_at : goal.returns-else-begins_at
-returns-else-begins_at c = search passing
-
-pub shape_of-work : goal.shape_of-work
-shape_of-work c = search passing
+pub loop-preserved : goal.loop-preserved
+loop-preserved c =
+    elim c.if-role_at-role.branch [
+      | then-role_at-role w ↦ rw (w.free-is, w.count-is) (pass_kept _ _ _ _ _ _ _ _ _ _ _ _ _ _ c.loop.invariant (search rules) _ c.begins_at.ensures c.if-not-begins_at.false _ _ c.type_sides.ensures _ c.in_ok-sides.was c.if-t-sides.false _ c.role_at.ensures (search rules) _ (omega arith) w.if-role_at-role.true)
+      | else-role_at-role w ↦ rw (w.free-is, w.count-is) (pass_dropped _ _ _ _ _ _ _ _ _ _ _ _ _ _ c.loop.invariant (search rules) _ c.begins_at.ensures c.if-not-begins_at.false _ _ c.type_sides.ensures _ c.in_ok-sides.was c.if-t-sides.false _ c.role_at.ensures (search rules) _ (omega arith) w.if-role_at-role.false)
+    ]
 
 pub returns : goal.returns
 returns c = search passing

@@ -1,13 +1,10 @@
 -- `own_typing::equations::type_marked` meets its contract.
 -- Assumes nothing.
+use Prim.Native.Nat.{◌-◌}
 use Rattle.text_names.specs.Joint.{joint}
 use Rattle.own_typing.proofs.Passes.{Passing}
 use Rattle.own_typing.proofs.equations.type_marked.Given as goal
 
-abbrev pub invariant-loop-rest : goal.invariant-loop-rest
-invariant-loop-rest l =
-    Passing (joint l.library l.text) l.k l.role l.end l.left l.i l.q l.n l.initial.work l.rest l.at l.free l.count l.work
-
-abbrev pub decreases-loop-rest : goal.decreases-loop-rest
-decreases-loop-rest l =
-    l.rest
+abbrev pub invariant-loop : goal.invariant-loop
+invariant-loop l =
+    Passing (joint l.library l.text) l.k l.role l.end l.left l.i l.q l.n l.initial.work (l.left - l.counter) l.at l.free l.count l.work

@@ -1,37 +1,24 @@
 -- `read_entries::declarations::read_functions` meets its contract. The loop keeps what is to be read: what was at first comes to what is now.
 -- Assumes nothing.
 use Rattle.meaning.specs.Numbers.{text_size}
-use borrow.Author.Rules.{rules}
-use Rattle.read_steps.proofs.Lists.{loops, sized}
+use Rattle.read_steps.proofs.Lists.{loops}
 use Rattle.read_entries.proofs.declarations.read_functions.Goals as goal
 
-pub loop-left-init : goal.loop-left-init
+pub loop-init : goal.loop-init
 unfolding text_size
-loop-left-init c = search loops
+loop-init c = search loops
 
-pub loop-left-preserved : goal.loop-left-preserved
+pub loop-preserved : goal.loop-preserved
 unfolding text_size
-loop-left-preserved c = search loops
-
-pub shape_of-tape-else-begins_function : goal.shape_of-tape-else-begins_function
-unfolding text_size
-shape_of-tape-else-begins_function c = search (sized, rules)
+loop-preserved c = search loops
 
 pub returns-else-begins_function : goal.returns-else-begins_function
 unfolding text_size
 returns-else-begins_function c = search loops
 
-pub shape_of-tape-then-begins_function-2 : goal.shape_of-tape-then-begins_function-2
-unfolding text_size
-shape_of-tape-then-begins_function-2 c = search (sized, rules)
-
 pub returns-then-begins_function-2 : goal.returns-then-begins_function-2
 unfolding text_size
 returns-then-begins_function-2 c = search loops
-
-pub shape_of-tape : goal.shape_of-tape
-unfolding text_size
-shape_of-tape c = search (sized, rules)
 
 pub returns : goal.returns
 unfolding text_size

@@ -3,8 +3,8 @@
 use Rattle.read_kept.proofs.Cases.{cases}
 use Rattle.read_kept.proofs.nodes.next_role.Goals as goal
 
-pub returns-in-Refused : goal.returns-in-Refused
-returns-in-Refused c = search cases
+pub returns-in-Err : goal.returns-in-Err
+returns-in-Err c = search cases
 
-pub returns-in-Done : goal.returns-in-Done
-returns-in-Done c = search cases
+pub returns-in-Ok : goal.returns-in-Ok
+returns-in-Ok c = search cases

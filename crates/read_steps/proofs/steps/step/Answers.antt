@@ -3,8 +3,8 @@
 use Rattle.read_steps.proofs.Cases.{cases}
 use Rattle.read_steps.proofs.steps.step.Goals as goal
 
-pub returns-in-Refused : goal.returns-in-Refused
-returns-in-Refused c = search cases
+pub returns-in_err-p : goal.returns-in_err-p
+returns-in_err-p c = search cases
 
-pub returns-in-Done : goal.returns-in-Done
-returns-in-Done c = search cases
+pub returns : goal.returns
+returns c = search cases

@@ -6,8 +6,8 @@ use Rattle.read_steps.proofs.steps.write.Goals as goal
 pub returns-then-n-tape : goal.returns-then-n-tape
 returns-then-n-tape c = search cases
 
-pub returns-in-Refused : goal.returns-in-Refused
-returns-in-Refused c = search cases
+pub returns-in_err-p : goal.returns-in_err-p
+returns-in_err-p c = search cases
 
-pub returns-else-n-tape : goal.returns-else-n-tape
-returns-else-n-tape c = search cases
+pub returns : goal.returns
+returns c = search cases

@@ -9,7 +9,7 @@ use Rattle.meaning.specs.Tokens.{operator}
 use Rattle.read_kept.specs.Kept.{kept}
 use lib.Dec.{eqb}
 use Rattle.read_steps.proofs.Lists.{Comes}
-use Prim.Native.Nat.{◌+◌, ◌*◌}
+use Prim.Native.Nat.{◌+◌, ◌-◌, ◌*◌}
 use Rattle.read_terms.proofs.term.+reading.Given as goal
 
 abbrev pub decreases-read_arguments : goal.decreases-read_arguments
@@ -30,14 +30,11 @@ decreases-read_operands l = l.depth * 6 + 1
 abbrev pub decreases-read_primary : goal.decreases-read_primary
 decreases-read_primary l = l.depth * 6
 
-abbrev pub invariant-read_arguments-loop-rest : goal.invariant-read_arguments-loop-rest
-invariant-read_arguments-loop-rest l =
+abbrev pub invariant-read_arguments-loop : goal.invariant-read_arguments-loop
+invariant-read_arguments-loop l =
     Comes (separated l.text.now l.left (byte ",") begins_term (term l.text.now l.depth))
-    (separated l.text.now l.rest (byte ",") begins_term (term l.text.now l.depth))
+    (separated l.text.now (l.left - l.counter) (byte ",") begins_term (term l.text.now l.depth))
     (kept l.initial.state) l.initial.tape (kept l.state) l.tape
-
-abbrev pub decreases-read_arguments-loop-rest : goal.decreases-read_arguments-loop-rest
-decreases-read_arguments-loop-rest l = l.rest
 
 abbrev pub invariant-read_operands-loop-state : goal.invariant-read_operands-loop-state
 invariant-read_operands-loop-state l =

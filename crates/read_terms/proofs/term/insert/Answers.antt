@@ -4,10 +4,10 @@ use Rattle.read_terms.proofs.Cases.{cases}
 use Rattle.read_terms.proofs.term.insert.Goals as goal
 
 pub returns-then-n-tape : goal.returns-then-n-tape
-returns-then-n-tape c = search cases
+returns-then-n-tape c = search (c.in_ok-p.was, cases)
 
-pub returns-in-Refused : goal.returns-in-Refused
-returns-in-Refused c = search cases
+pub returns-in_err-p : goal.returns-in_err-p
+returns-in_err-p c = search cases
 
-pub returns-else-n-tape : goal.returns-else-n-tape
-returns-else-n-tape c = search cases
+pub returns : goal.returns
+returns c = search (c.in_ok-p.was, cases)

@@ -10,8 +10,8 @@ slice_bounds-compare_names-end c = search cases
 pub slice_bounds-compare_names-end-then-have_room : goal.slice_bounds-compare_names-end-then-have_room
 slice_bounds-compare_names-end-then-have_room c = search cases
 
-pub returns-then-c-lt3 : goal.returns-then-c-lt3
-returns-then-c-lt3 c = search (here_seen, rules)
+pub returns-in-Some : goal.returns-in-Some
+returns-in-Some c = search (here_seen, rules)
 
 pub returns : goal.returns
 returns c = search cases

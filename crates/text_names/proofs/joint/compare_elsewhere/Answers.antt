@@ -19,5 +19,5 @@ overflow_sub-a c = search cases
 pub overflow_sub-b : goal.overflow_sub-b
 overflow_sub-b c = search cases
 
-pub returns-then-c-lt3 : goal.returns-then-c-lt3
-returns-then-c-lt3 c = search (there_seen, rules)
+pub returns-in-Some : goal.returns-in-Some
+returns-in-Some c = search (there_seen, rules)

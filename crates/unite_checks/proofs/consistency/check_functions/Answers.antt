@@ -2,8 +2,8 @@
 use Rattle.unite_checks.proofs.VerdictCases.{cases}
 use Rattle.unite_checks.proofs.consistency.check_functions.Goals as goal
 
-pub returns-in-At : goal.returns-in-At
-returns-in-At c = search cases
+pub returns-in-Some : goal.returns-in-Some
+returns-in-Some c = search cases
 
-pub returns-in-Nothing : goal.returns-in-Nothing
-returns-in-Nothing c = search cases
+pub returns-in-None : goal.returns-in-None
+returns-in-None c = search cases

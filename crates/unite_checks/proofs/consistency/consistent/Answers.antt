@@ -8,8 +8,8 @@ order_names-requires c = search cases
 pub check_rows-requires : goal.check_rows-requires
 check_rows-requires c = search cases
 
-pub returns-in-At : goal.returns-in-At
-returns-in-At c = search cases
+pub returns-in-Some : goal.returns-in-Some
+returns-in-Some c = search cases
 
-pub returns-in-Nothing : goal.returns-in-Nothing
-returns-in-Nothing c = search cases
+pub returns-in-None : goal.returns-in-None
+returns-in-None c = search cases

@@ -1,5 +1,0 @@
-use Rattle.form_keeping.proofs.Cases.{cases}
-use Rattle.form_keeping.proofs.put_four.Goals as goal
-
-pub returns : goal.returns
-returns c = search cases

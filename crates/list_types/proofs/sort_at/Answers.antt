@@ -1,7 +1,0 @@
--- `list_types::sort_at` meets its contract.
--- Assumes nothing.
-use Rattle.list_types.proofs.Cases.{cases}
-use Rattle.list_types.proofs.sort_at.Goals as goal
-
-pub returns : goal.returns
-returns c = search cases
