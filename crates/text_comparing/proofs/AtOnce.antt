@@ -2,13 +2,15 @@
 use mathlib.Core.Path.{◌≡◌, refl, sym, ap, ap₂, ◌∙◌}
 use mathlib.Core.Bool.{Bool, true, false}
 use mathlib.Core.List.{List, [], ◌∷◌}
-use Prim.Native.Nat.{ℕ, suc, ◌+◌, ◌-◌, ◌<◌, ◌≤◌}
+use Prim.Native.Nat.{ℕ, suc, ◌+◌, ◌-◌, ◌*◌, ◌^◌, ◌<◌, ◌≤◌}
 use native.Mathlib.Omega.{arith}
 use native.Mathlib.Numerals.{add-one}
 use lib.Dec.{ltb}
 use lib.ListN.{length, get_or, take, drop, length-drop, drop_of_length-le}
 use lib.Seq.{drop-cons, drop-drop}
-use borrow.Author.Tests.{lt-ltb, ne_eqb}
+use borrow.Author.Tests.{lt-ltb, ltb-true, ltb-false, ne_eqb}
+use mir.Syntax.{w64}
+use mir.Val.{Fits}
 use Rattle.std.proofs.Common.{Option, Some, None}
 use Rattle.std.proofs.lemmas.Bool.{false≢true}
 use Rattle.std.specs.declared.cmp.Ordering.{Ordering}
@@ -19,8 +21,8 @@ use Rattle.meaning.specs.Tokens.{run, run_end}
 use Rattle.text_words.specs.Tests.{in_front}
 use Rattle.meaning.specs.Names.{same, bytes_not_after, is_digit}
 use Rattle.text_runs.specs.Orders.{compared, bytes_compared}
-use Rattle.text_runs.specs.Runs.{leading, digits_of, runs_compared, plainly_compared, plain_size, has_zeros, Seen, Decides}
-use Rattle.text_runs.specs.RunLaws.{in_cases, digits_length, size_less, size_more, size_level, digit_begins, other_less, other_more, run_first, run_second, runs_decide, runs_pass, runs_level}
+use Rattle.text_runs.specs.Runs.{leading, digits_of, by_size, runs_compared, plainly_compared, plain_size, has_zeros, Seen, Decides}
+use Rattle.text_runs.specs.RunLaws.{in_cases, size_alike, bytes_step, digits_length, size_less, size_more, size_level, digit_begins, other_less, other_more, run_first, run_second, runs_decide, runs_pass, runs_level}
 use Rattle.text_runs.specs.Codes.{seen_index, decided_index, index_same, index_level, size_told}
 use Rattle.text_runs.specs.Canonical.{canonical_runs}
 use Rattle.text_runs.specs.Turns.{left_longer, left_shorter, left_none}
@@ -66,6 +68,35 @@ module _ (a : List ℕ) (i : ℕ) where
   unfolding leading
   digit_past l = rw (drop_of_length-le a l)
 
+  module _ (s : Bool) (e : s ≡ ltb 0 (digits_of (drop i a))) where
+    run_none : s ≡ false → digits_of (drop i a) ≡ 0
+    run_none f = omega (arith, ltb-false 0 (digits_of (drop i a)) (sym e ∙ f))
+
+    module _ (t : s ≡ true) where
+      run_some : 0 < digits_of (drop i a)
+      run_some = ltb-true 0 (digits_of (drop i a)) (sym e ∙ t)
+
+      digit_within : i < length a
+      digit_within = omega (arith, run_some, digits_length (drop i a), length-drop i a)
+
+      pub digit_less : length a - (i + 1) < length a - i
+      digit_less = omega (arith, digit_within)
+
+      pub digit_fits : length a * 1 < 2 ^ 63 → Fits w64 (i + 1)
+      digit_fits l = omega (arith, digit_within)
+
+      run_goes : digits_of (drop i a) ≡ suc (digits_of (drop (i + 1) a))
+      unfolding leading pick
+      run_goes = rw (drop-cons a i 0 digit_within, add-one) (go (is_digit (get_or a i 0)) (rw (drop-cons a i 0 digit_within) at run_some))
+        where
+          go : (d : Bool) → 0 < pick d (suc (digits_of (drop (suc i) a))) 0
+              → pick d (suc (digits_of (drop (suc i) a))) 0 ≡ suc (digits_of (drop (suc i) a))
+          go true h = refl
+          go false h = absurd (omega arith)
+
+      run_text : take (digits_of (drop i a)) (drop i a) ≡ get_or a i 0 ∷ take (digits_of (drop (i + 1) a)) (drop (i + 1) a)
+      run_text = rw run_goes (rw (drop-cons a i 0 digit_within, add-one))
+
 -- ---- zeros in front: s tells of a digit behind the byte at i
 
 module _ (a : List ℕ) (i : ℕ) (h : i < length a) where
@@ -77,29 +108,66 @@ module _ (a : List ℕ) (i : ℕ) (h : i < length a) where
   unfolding has_zeros pick
   zeros_not z = rw (drop-cons a i 0, ne_eqb (get_or a i 0) 48 z)
 
--- ---- digits from i on, which end at n and m
+-- ---- a loop over the digits of both is at i: s and t tell of a digit there
 
-module _ (a b : List ℕ) (i n m : ℕ) (en : n ≡ i + digits_of (drop i a)) (em : m ≡ i + digits_of (drop i b)) where
-  pub digits_to : i ≤ length a → n ≤ length a
-  digits_to h = omega (arith, digits_length (drop i a), length-drop i a)
+module _ (a b : List ℕ) (i : ℕ) (s t : Bool) (es : s ≡ ltb 0 (digits_of (drop i a))) (et : t ≡ ltb 0 (digits_of (drop i b))) where
+  -- one goes on alone, or none does
+  module _ (level : ℕ) where
+    pub sizes_first : s ≡ true → t ≡ false → by_size (digits_of (drop i a)) (digits_of (drop i b)) level ≡ 2
+    sizes_first u v = rw (run_none b i t et v) (size_more (run_some a i s es u) level)
 
-  pub digits_to_2 : i ≤ length b → m ≤ length b
-  digits_to_2 h = omega (arith, digits_length (drop i b), length-drop i b)
+    pub sizes_second : s ≡ false → t ≡ true → by_size (digits_of (drop i a)) (digits_of (drop i b)) level ≡ 0
+    sizes_second u v = rw (run_none a i s es u) (size_less (run_some b i t et v) level)
 
-  pub digits_apart : (n ≡ m → ⊥) → ordering_index (nat_cmp n m) ≡ plainly_compared (drop i a) (drop i b)
+    pub sizes_level : s ≡ false → t ≡ false → by_size (digits_of (drop i a)) (digits_of (drop i b)) level ≡ level
+    sizes_level u v = size_level (run_none a i s es u ∙ sym (run_none b i t et v)) level
+
+  pub digits_first : s ≡ true → t ≡ false → plainly_compared (drop i a) (drop i b) ≡ 2
   unfolding plainly_compared
-  digits_apart h =
-      size_told n m
-      ∙ in_cases n m
-      (λ l. size_less l 1 ∙ sym (size_less (omega arith) _))
-      (λ l. size_more l 1 ∙ sym (size_more (omega arith) _))
-      (λ l. absurd (h l))
+  digits_first u v = sizes_first _ u v
 
-  pub digits_level : (o : Ordering) → n ≡ m → ordering_index o ≡ bytes_compared (take (n - i) (drop i a)) (take (m - i) (drop i b))
-      → ordering_index o ≡ plainly_compared (drop i a) (drop i b)
+  pub digits_second : s ≡ false → t ≡ true → plainly_compared (drop i a) (drop i b) ≡ 0
   unfolding plainly_compared
-  digits_level o h e =
-      e ∙ ap₂ (λ (j k : ℕ). bytes_compared (take j (drop i a)) (take k (drop i b))) (omega arith) (omega arith) ∙ sym (size_level (omega arith) _)
+  digits_second u v = sizes_second _ u v
+
+  pub digits_level : s ≡ false → t ≡ false → plainly_compared (drop i a) (drop i b) ≡ 1
+  unfolding plainly_compared bytes_compared same pick
+  digits_level u v = sizes_level _ u v ∙ rw (run_none a i s es u, run_none b i t et v)
+
+  -- both go on
+  module _ (u : s ≡ true) (v : t ≡ true) where
+    pub sizes_on : (level : ℕ) → by_size (digits_of (drop i a)) (digits_of (drop i b)) level
+        ≡ by_size (digits_of (drop (i + 1) a)) (digits_of (drop (i + 1) b)) level
+    sizes_on level =
+        let n = digits_of (drop (i + 1) a) in
+        let m = digits_of (drop (i + 1) b) in
+        rw (run_goes a i s es u, run_goes b i t et v)
+        (size_alike (suc n) (suc m) n m level (λ l. omega arith) (λ l. omega arith) (λ l. omega arith))
+
+    led : plainly_compared (drop i a) (drop i b)
+        ≡ by_size (digits_of (drop (i + 1) a)) (digits_of (drop (i + 1) b)) (by_size (get_or a i 0) (get_or b i 0)
+        (bytes_compared (take (digits_of (drop (i + 1) a)) (drop (i + 1) a)) (take (digits_of (drop (i + 1) b)) (drop (i + 1) b))))
+    unfolding plainly_compared
+    led = sizes_on _ ∙ rw (run_text a i s es u, run_text b i t et v, bytes_step)
+
+    -- p and q are the bytes there
+    module _ (p q : ℕ) (ep : p ≡ get_or a i 0) (eq : q ≡ get_or b i 0) where
+      pub digits_other : (o : Ordering) (r : ℕ) → (p ≡ q → ⊥) → o ≡ nat_cmp p q
+          → r ≡ by_size (digits_of (drop (i + 1) a)) (digits_of (drop (i + 1) b)) (ordering_index o)
+          → plainly_compared (drop i a) (drop i b) ≡ r
+      digits_other o r h eo e = led ∙ rw (← ep, ← eq) (ap (by_size (digits_of (drop (i + 1) a)) (digits_of (drop (i + 1) b))) (differ _)) ∙ sym e
+        where
+          differ : (level : ℕ) → by_size p q level ≡ ordering_index o
+          differ level =
+              in_cases p q
+              (λ l. size_less l level ∙ sym (size_less l 1))
+              (λ l. size_more l level ∙ sym (size_more l 1))
+              (λ l. absurd (h l))
+              ∙ sym (size_told p q) ∙ sym (ap ordering_index eo)
+
+      pub digits_on : p ≡ q → plainly_compared (drop i a) (drop i b) ≡ plainly_compared (drop (i + 1) a) (drop (i + 1) b)
+      unfolding plainly_compared
+      digits_on l = led ∙ rw (← ep, ← eq, size_level {n = p} {m = q} l)
 
 -- ---- runs from i on, on slices: s and t tell of zeros in front
 

@@ -1,15 +1,14 @@
 // Names compared on slices as far as is seen at once, that is unless a run of digits has a zero in front.
 #![tactic(auto)]
 
-ghost use Rattle.std.specs.Prelude.{◌≡◌, true, ◌+◌, ◌<◌, ◌≤◌, ltb, length, get_or, drop};
+ghost use Rattle.std.specs.Prelude.{◌≡◌, true, ◌+◌, ◌<◌, ltb, length, get_or, drop};
 ghost use Rattle.std.specs.Ordering.{ordering_index};
 ghost use Rattle.meaning.specs.Names.{is_digit};
-ghost use Rattle.text_runs.specs.Runs.{digits_of, plainly_compared, has_zeros, plain_size, Seen, Decides};
+ghost use Rattle.text_runs.specs.Runs.{digits_of, by_size, plainly_compared, has_zeros, plain_size, Seen, Decides};
 ghost use Rattle.text_runs.specs.Codes.{seen_index, decided_index};
 
 use std::cmp::Ordering;
-use text_by_bytes::compare_bytes;
-use text_spelling::is_digit;
+use text_spelling::{byte_at, is_digit};
 use text_words::run_end;
 
 // Past the bytes from `at` on that two names have in common and that are no digits.
@@ -58,18 +57,45 @@ fn has_zeros(text: &[u8], i: usize) -> bool
     false
 }
 
-// The runs of digits from `at` on, by their sizes and then byte by byte.
+// Which of the runs of digits from `at` on is shorter, else `level`.
+fn compare_sizes(a: &[u8], b: &[u8], at: usize, level: Ordering) -> Ordering
+    ensures { ordering_index result ≡ by_size (digits_of (drop at a.now)) (digits_of (drop at b.now)) (ordering_index level) }
+{
+    let mut i = at;
+    // a while: it ends where a's run does
+    while digit_at(a, i) {
+        if !digit_at(b, i) {
+            return Ordering::Greater;
+        }
+        i += 1;
+    }
+    if digit_at(b, i) {
+        return Ordering::Less;
+    }
+    level
+}
+
+// The runs of digits from `at` on, by their sizes and then byte by byte: the first byte in which they differ counts if none goes on alone.
 fn compare_digits(a: &[u8], b: &[u8], at: usize) -> Ordering
-    requires at_in_bounds { at ≤ length a.now }
-    requires at_in_bounds_2 { at ≤ length b.now }
     ensures { ordering_index result ≡ plainly_compared (drop at a.now) (drop at b.now) }
 {
-    let n = digits_end(a, at);
-    let m = digits_end(b, at);
-    if n != m {
-        return n.cmp(&m);
+    let mut i = at;
+    // a while: it ends where a's run does
+    while digit_at(a, i) {
+        if !digit_at(b, i) {
+            return Ordering::Greater;
+        }
+        let p = byte_at(a, i);
+        let q = byte_at(b, i);
+        if p != q {
+            return compare_sizes(a, b, i + 1, p.cmp(&q));
+        }
+        i += 1;
     }
-    compare_bytes(&a[at..n], &b[at..m])
+    if digit_at(b, i) {
+        return Ordering::Less;
+    }
+    Ordering::Equal
 }
 
 // Which of the runs of digits from i on comes first, `Equal` if they are the same; none where zeros must be looked at.

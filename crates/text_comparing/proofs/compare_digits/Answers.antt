@@ -1,19 +1,30 @@
 -- `text_comparing::compare_digits` meets its contract.
 -- Assumes nothing.
-use mathlib.Core.Path.{ap, ◌∙◌}
-use Rattle.std.specs.Ordering.{ordering_index}
-use Rattle.text_comparing.proofs.AtOnce.{digits_to, digits_to_2, digits_apart, digits_level}
+use Rattle.text_spelling.proofs.Auto.{on, done}
+use Rattle.text_comparing.proofs.AtOnce.{digit_fits, digit_less, digits_other, digits_on, digits_first, digits_second, digits_level}
 use borrow.Author.Rules.{rules}
 use Rattle.text_comparing.proofs.compare_digits.Goals as goal
 
-pub returns-then-n-m : goal.returns-then-n-m
-returns-then-n-m c = ap ordering_index c.cmp.ensures ∙ digits_apart _ _ _ _ _ c.digits_end-n.ensures c.digits_end-m.ensures c.if-n-m.true
+pub returns-then-not-digit_at : goal.returns-then-not-digit_at
+returns-then-not-digit_at c = search (done, digits_first, rules)
 
-pub slice_bounds-compare_bytes-end : goal.slice_bounds-compare_bytes-end
-slice_bounds-compare_bytes-end c = search (digits_to, rules)
+pub overflow_add-i : goal.overflow_add-i
+overflow_add-i c = search (digit_fits, rules)
 
-pub slice_bounds-compare_bytes-end-2 : goal.slice_bounds-compare_bytes-end-2
-slice_bounds-compare_bytes-end-2 c = search (digits_to_2, rules)
+pub returns-then-p-q : goal.returns-then-p-q
+returns-then-p-q c = search (done, digits_other, rules)
+
+pub overflow_add-i-in-loop-at : goal.overflow_add-i-in-loop-at
+overflow_add-i-in-loop-at c = search (digit_fits, rules)
+
+pub loop-at-smaller : goal.loop-at-smaller
+loop-at-smaller c = digit_less c.args.a.now c.loop-at.i _ c.digit_at.ensures c.loop-at-test.true
+
+pub loop-at-preserved : goal.loop-at-preserved
+loop-at-preserved c = search (on, digits_on, rules)
+
+pub returns-then-digit_at : goal.returns-then-digit_at
+returns-then-digit_at c = search (done, digits_second, rules)
 
 pub returns : goal.returns
-returns c = search (digits_level, rules)
+returns c = search (done, digits_level, rules)
