@@ -2,6 +2,7 @@
 use mathlib.Core.Path.{◌≡◌, refl, sym, ap, ap₂, ◌∙◌}
 use mathlib.Core.Bool.{Bool, true, false, ◌&&◌, false≢true}
 use mathlib.Core.Option.{none, some}
+use Rattle.std.specs.Prelude as Code
 use Rattle.std.specs.Prelude.{Some, None}
 use mathlib.Core.List.{List, [], ◌∷◌, map}
 use Prim.Native.Nat.{ℕ, zero, suc, ◌+◌, ◌*◌, ◌-◌, ◌≤◌, ◌<◌}
@@ -86,7 +87,7 @@ row_told w b p i k r ek er = er ∙ ap (λ (j : ℕ). row_at w (b + j * row_size
 pub name_told : (w : List ℕ) (b p i k r : ℕ) → k ≡ get_or w (p + i) 0 → r ≡ get_or w (b + k * slot_size) 0 → r ≡ get_or w (b + get_or w (p + i) 0 * slot_size) 0
 name_told w b p i k r ek er = er ∙ ap (λ (j : ℕ). get_or w (b + j * slot_size) 0) ek
 
--- ---- `has_rival`
+-- ---- a row's rivals: whether one behind it is at odds with it
 
 pub record Inner (text tape w : List ℕ) (b n p : ℕ) (t : Test) (i : ℕ) (x : Row) (j : ℕ) : Type 0 where
   pub behind : i < j
@@ -150,6 +151,11 @@ module _ (text tape w : List ℕ) (b n p : ℕ) (t : Test) (i : ℕ) (x : Row) w
     inner_end l = sym (ap (any at_odds_with) (from_none (row_item text tape w b) w p n j l)) ∙ inv.comes
 
 -- ---- `find_clash`
+
+-- a loop that has found nothing yet
+pub record Unfound (least : Code.Option ℕ) (State : Type 0) : Type 0 where
+  pub nothing : least ≡ None
+  pub so_far : State
 
 abbrev called : Item → Name
 called i = i.name

@@ -4,7 +4,7 @@ ghost use Rattle.text_names.specs.Joint.{joint};
 ghost use Rattle.form_rows.specs.Rows.{row_at, row_size};
 ghost use Rattle.form.specs.Forms.{slots_at, items_at, slot_size};
 ghost use Rattle.form_order.specs.Order.{InOrder};
-ghost use Rattle.unite_checks.specs.Clashes.{named, clash_name, first_rival, has_rival, repeated_name};
+ghost use Rattle.unite_checks.specs.Clashes.{named, clash_name, first_rival, repeated_name};
 
 use form::SLOT_SIZE;
 use form_order::{name_in, number_in};
@@ -39,38 +39,8 @@ fn first_rival(test: Test, x: Row, i: u32, n: u32) -> u32
     }
 }
 
-// Is a row behind x, which is i-th in order, at odds with it? Items of one name stand side by side in the order table, so that a row is
-// tested against no more than those of its name.
-fn has_rival(
-    library: &[u8],
-    text: &[u8],
-    tape: &[u32],
-    w: &[u32],
-    b: u32,
-    n: u32,
-    p: u32,
-    test: Test,
-    i: u32,
-    x: Row,
-) -> bool
-    requires in_order { InOrder (joint library.now text.now) w.now (b + 1) row_size p n }
-    requires i_in_order { i < n }
-    requires x_there { x ≡ row_at w.now (b + get_or w.now (p + i) 0 * row_size) }
-    ensures { result ≡ has_rival (joint library.now text.now) tape.now w.now b n p test i x }
-{
-    for j in first_rival(test, x, i, n)..n {
-        let y = row_by(w, b, p, j);
-        if !same_called(library, text, x, y) {
-            return false;
-        }
-        if at_odds(library, text, tape, test, x, y) {
-            return true;
-        }
-    }
-    false
-}
-
-// The word of the least name of two of the n items at b that are at odds, if there are such.
+// The word of the least name of two of the n items at b that are at odds, if there are such. Items of one name stand side by side in the order
+// table, so that a row is tested against no more than those of its name.
 pub fn find_clash(
     library: &[u8],
     text: &[u8],
@@ -84,13 +54,21 @@ pub fn find_clash(
     requires { InOrder (joint library.now text.now) w.now (b + 1) row_size p n }
     ensures { named (joint library.now text.now) result ≡ clash_name test (items_at (joint library.now text.now) tape.now w.now b n) }
 {
-    for i in 0..n {
+    let mut least = None;
+    'outer: for i in 0..n {
         let x = row_by(w, b, p, i);
-        if has_rival(library, text, tape, w, b, n, p, test, i, x) {
-            return Some(x.name);
+        for j in first_rival(test, x, i, n)..n {
+            let y = row_by(w, b, p, j);
+            if !same_called(library, text, x, y) {
+                continue 'outer;
+            }
+            if at_odds(library, text, tape, test, x, y) {
+                least = Some(x.name);
+                break 'outer;
+            }
         }
     }
-    None
+    least
 }
 
 // The word of the name of the parameter that is i-th in order.
