@@ -19,10 +19,12 @@ module _ (text tape : List ℕ) (fits : Sort → Bool) where
   inputs_pass ss = all_pass fits (map (sort_of text tape) ss)
 
   pub record Fitting (kind : ℕ) (sorts : List ℕ) (i : ℕ) : Type 0 where
+    pub inside : i ≤ 9
+    pub few : i ≤ kind - 2
     pub done : (j : ℕ) → j < i → true ≡ fits (sort_of text tape (get_or sorts j 0))
 
   pub fitting_start : (kind : ℕ) (sorts : List ℕ) → Fitting kind sorts 0
-  fitting_start kind sorts = record { done = λ j h. absurd (omega arith) }
+  fitting_start kind sorts = record { inside = omega arith; few = omega arith; done = λ j h. absurd (omega arith) }
 
   all_fit : (n : ℕ) (xs : List ℕ) → ((j : ℕ) → j < n → j < length xs → true ≡ fits (sort_of text tape (get_or xs j 0))) → inputs_pass (take n xs) ≡ true
   unfolding inputs_pass all_pass any pick
@@ -43,16 +45,31 @@ module _ (text tape : List ℕ) (fits : Sort → Bool) where
       go false ih = refl
 
   module _ (kind : ℕ) (sorts : List ℕ) (i : ℕ) (inv : Fitting kind sorts i) where
-    pub fitting_end : (few n : ℕ) → few ≡ kind - 2 → n ≡ min few 9 → length sorts ≡ 9 → n ≤ i → true ≡ inputs_pass (take (kind - 2) sorts)
-    fitting_end few n d e nine h = sym (all_fit (kind - 2) sorts (λ j l k. inv.done j (omega arith)))
+    pub fitting_all : length sorts ≡ 9 → 9 ≤ i → true ≡ inputs_pass (take (kind - 2) sorts)
+    fitting_all nine h = sym (all_fit (kind - 2) sorts (λ j l k. inv.done j (omega arith)))
 
-    module _ (few n : ℕ) (d : few ≡ kind - 2) (e : n ≡ min few 9) (h : i < n) (r : Bool) (f : r ≡ fits (sort_of text tape (get_or sorts i 0))) where
+    pub fitting_end : kind ≤ i + 2 → true ≡ inputs_pass (take (kind - 2) sorts)
+    fitting_end h = sym (all_fit (kind - 2) sorts (λ j l k. inv.done j (omega arith)))
+
+    module _ (l : i < 9) (h : i + 2 < kind) (r : Bool) (f : r ≡ fits (sort_of text tape (get_or sorts i 0))) where
       pub fitting_again : r ≡ true → Fitting kind sorts (i + 1)
-      fitting_again q = record { done = λ j k. at j k (eqb j i) refl }
+      fitting_again q = record { inside = omega arith; few = omega arith; done = λ j d. at j d (eqb j i) refl }
         where
           at : (j : ℕ) → j < i + 1 → (b : Bool) → eqb j i ≡ b → true ≡ fits (sort_of text tape (get_or sorts j 0))
-          at j k true e = let same : j ≡ i = eqb-true j i e in rw same (sym q ∙ f)
-          at j k false e = let other = eqb-false j i e in inv.done j (omega arith)
+          at j d true e = let same : j ≡ i = eqb-true j i e in rw same (sym q ∙ f)
+          at j d false e = let other = eqb-false j i e in inv.done j (omega arith)
 
       pub fitting_not : length sorts ≡ 9 → r ≡ false → false ≡ inputs_pass (take (kind - 2) sorts)
       fitting_not nine q = sym (one_not (kind - 2) sorts i (omega arith) (omega arith) (sym q ∙ f))
+
+    -- a loop to the lesser of both bounds
+    module _ (few n : ℕ) (d : few ≡ kind - 2) (e : n ≡ min few 9) where
+      pub bounded_end : length sorts ≡ 9 → n ≤ i → true ≡ inputs_pass (take (kind - 2) sorts)
+      bounded_end nine h = sym (all_fit (kind - 2) sorts (λ j l k. inv.done j (omega arith)))
+
+      module _ (h : i < n) (r : Bool) (f : r ≡ fits (sort_of text tape (get_or sorts i 0))) where
+        pub bounded_again : r ≡ true → Fitting kind sorts (i + 1)
+        bounded_again = fitting_again (omega arith) (omega arith) r f
+
+        pub bounded_not : length sorts ≡ 9 → r ≡ false → false ≡ inputs_pass (take (kind - 2) sorts)
+        bounded_not = fitting_not (omega arith) (omega arith) r f

@@ -23,7 +23,7 @@ use Rattle.clause_translation.specs.Translation.{mode_formals}
 use Rattle.clause_checks.specs.Pairs.{found}
 use Rattle.clause_checks.specs.Searches.{sort_called}
 use Rattle.clause_checks.specs.SortOrigins.{origin_among, origin_there, origin_nowhere}
-use Rattle.clause_checks.specs.Walks.{all_pass, inputs_pass, fitting_start, fitting_again, fitting_not, fitting_end}
+use Rattle.clause_checks.specs.Walks.{all_pass, inputs_pass, fitting_start, bounded_again, bounded_not, bounded_end}
 use Rattle.clause_fitting.specs.Fits.{one_origin, mode_whole, sort_fits, sorts_fit}
 
 -- ---- origins
@@ -108,4 +108,4 @@ pub ruleset origins = (origins_both, origins_first, origins_second, origins_none
 
 pub ruleset rights = (name_paired, name_same, sort_visible, sort_hidden, sorts_output, sorts_inputs, rules)
 
-pub ruleset fittings = (fitting_start, fitting_again, fitting_not, fitting_end, rules)
+pub ruleset fittings = (fitting_start, bounded_again, bounded_not, bounded_end, rules)
