@@ -10,7 +10,7 @@ use denote.Ref.{at_last}
 use Rattle.list_pen.specs.Pen.{pen, written}
 use Rattle.list_pen.proofs.Laws.{then}
 use Rattle.list_terms.specs.declared.Printed.{Printed}
-use Rattle.list_terms.specs.Terms.{Spelt, spelt, item_at, alone, opened, term_at, Shown, Lent, Placed}
+use Rattle.list_terms.specs.Terms.{Spelt, spelt, item_at, alone, opened, term_at, Shown, reached, Lent, Placed}
 use Rattle.list_terms.specs.Terms.{followed, heads_at, down_at, closed, back_at, Applied, Headed}
 use Rattle.list_terms.proofs.TermCases.{term_leaf, heads_next, down_back, applied_again}
 
@@ -166,5 +166,10 @@ module _ (text w : List ℕ) (d i n₀ : ℕ) (p₀ : List ℕ) (o₀ : Lent) (n
         applied = λ m z. v.applied m (omega arith);
         leaving = rw turn.shown.node (leaving_then whole p₀ o₀ a (back_at text w b d (n - 1) i a.next) p o p₁ o₁ (rw x at v.leaving) turn);
       }
+
+-- the output comes back as the reference that is handed back shows it, since both have one name
+pub came_back : (s : Spelt) (p : List ℕ) (o : Lent) (p' : List ℕ) (o' : Lent) (r : List ℕ) → (o.ghost_name ≡ o'.ghost_name → r ≡ o'.now) → Placed s p o p' o'
+    → Shown (get_or p 2 0) (get_or p 0 0) s o.now (reached p') r
+came_back s p o p' o' r f h = rw (f (sym (ap (λ x. x.ghost_name) h.same))) h.shown
 
 pub ruleset places = (placed, marked, opened_placed, heading_first, heading_end, heading_leaf, heading_again, rules)

@@ -14,7 +14,7 @@ use Rattle.own_finding.specs.Arguments.{ends_at}
 use Rattle.std.specs.Prelude.{None}
 use Rattle.own_terms.specs.Typing.{Out, out, settled, variable_at, no_sorts, alone_at, applied_at, term_at, args_at, known_of, At, AtName, Room, answered, Told, Typed, Lent, Reached, Read, item_at, Answer}
 use Rattle.own_terms.proofs.Cases.{stays_on, end_fits, Arguing, args_again, args_end, args_done, args_many, args_ill}
-use Rattle.own_terms.proofs.Words.{room_on, room_at, typed_as, reached_ill, reached_as, reached_on, reached_out, reached_at, answered_sorted, answered_ill, worded}
+use Rattle.own_terms.proofs.Words.{room_on, room_at, typed_as, reached_ill, reached_as, reached_on, reached_out, reached_at, reached_long, answered_sorted, answered_ill, worded}
 
 -- ---- a name
 
@@ -89,6 +89,9 @@ module _ (text p₀ : List ℕ) (head place : ℕ) (w₀ : Lent) where
     pub deep_few : n ≤ 9
     deep_few = omega (arith, arguing.few)
 
+    pub deep_whole : length p ≡ 10
+    deep_whole = inv.left.long
+
     pub deep_falls : (p₁ : List ℕ) (t : ℕ) → At (known_of p) i q (get_or p 7 0 - 1) p₁ → (d ≡ 0 → ⊥) → d * 3 ≡ t → get_or p₁ 7 0 * 3 + 2 < t
     deep_falls p₁ t e y x = omega (arith, e.deep, inv.left.deep)
 
@@ -148,6 +151,9 @@ module _ (text p₀ : List ℕ) (head place : ℕ) (w₀ : Lent) where
               (answered_ill r (get_or p₂ 5 0) (get_or p₂ 6 0) x)))
 
           module _ (x : r ≡ 0 → ⊥) where
+            pub deep_long : length p₂ ≡ 10
+            deep_long = reached_long _ k (d - 1) w r p₂ u further_on x
+
             pub deep_again : (p₃ more : List ℕ) → (d ≡ 0 → ⊥) → At (known_of p₂) (get_or p₂ 5 0) (get_or p₂ 6 0) (get_or p₂ 7 0 + 1) p₃ → more ≡ set sorts n (r - 1)
                 → Deep text p₀ head place w₀ (n + 1) more p₃ u
             unfolding known_of

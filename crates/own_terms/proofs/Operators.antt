@@ -175,6 +175,9 @@ module _ (p₀ : List ℕ) (i q : ℕ) (w : List ℕ) (n word : ℕ) (p : List �
   stands : Ended (known_of p₀) (get_or p 7 0) words w → Operators p₀ i q w words p w
   stands e = record { n = n; stand = v.row; entry = refl; place = refl; left = v.left; ended = e; kept = refl }
 
+  pub row_long : length p ≡ 10
+  row_long = v.left.long
+
   module _ (a : ℕ) (e : a ≡ operands_at (get_or p₀ 0 0) (i + n) (q + n) w) where
     pub row_stops : a ≡ 0 → Operators p₀ i q w words p w
     unfolding known_of

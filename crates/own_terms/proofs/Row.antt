@@ -13,7 +13,7 @@ use Rattle.std.specs.Prelude.{None}
 use Rattle.own_terms.specs.Typing.{Out, out, no_sorts, applied_at, further, args_by, term_at, operated, operated_row, operators_in, returned, Backed, stepped, shortened, Ended, Operators, known_of, At, Room, answered, Told, Lent, Stays, Reached, Answer, of_sort}
 use Rattle.own_terms.proofs.Operators.{doubled, halved, halved_some}
 use Rattle.own_terms.proofs.Cases.{stays_here, stays_on}
-use Rattle.own_terms.proofs.Words.{room_on, room_as, room_at, typed_as, reached_ill, reached_as, reached_on, reached_out, reached_at, answered_sorted, answered_ill}
+use Rattle.own_terms.proofs.Words.{room_on, room_as, room_at, typed_as, reached_ill, reached_as, reached_on, reached_out, reached_at, reached_long, answered_sorted, answered_ill}
 
 -- ---- an operator
 
@@ -268,6 +268,9 @@ module _ (text p₀ row₀ : List ℕ) (first : ℕ) (w₀ : Lent) where
             ∙ row_ill text kb _ _ _ (left - 1) (get_or row 2 0 / 2) u.now))
 
         module _ (y : r ≡ 0 → ⊥) where
+          pub back_long : length p' ≡ 10
+          back_long = reached_long _ kb (get_or p 7 0) w r p' u typed y
+
           module _ (row'' : List ℕ) (e' : row'' ≡ shortened row') where
             pub back_fewer : get_or row'' 2 0 < get_or row 2 0
             unfolding stepped shortened

@@ -1,6 +1,6 @@
 -- What a level of a term is lent, in words: what is known, the two places, the depth and a name's places, the room in the memory, and an answer as a number.
 use mathlib.Core.Path.{◌≡◌, refl, sym, ap, ◌∙◌}
-use mathlib.Core.List.{List}
+use mathlib.Core.List.{List, [], ◌∷◌}
 use Prim.Native.Nat.{ℕ, zero, suc, ◌+◌, ◌-◌, ◌*◌, ◌^◌, ◌<◌, ◌≤◌}
 use native.Mathlib.Numerals.{add-one, sub-one}
 use native.Mathlib.Omega.{arith}
@@ -14,6 +14,10 @@ use Rattle.own_terms.specs.Typing.{Out, out, operators_in, known_of, Words, At, 
 use Rattle.own_terms.proofs.Cases.{stays_on}
 
 -- ---- what is known
+
+pub known_at : (k : Known) (i q d : ℕ) → At k i q d (k.tape ∷ k.base ∷ k.count ∷ k.visible ∷ k.hidden ∷ i ∷ q ∷ d ∷ 0 ∷ 0 ∷ [])
+unfolding known_of
+known_at k i q d = record { long = refl; known = refl; next_at = refl; free_at = refl; deep = refl }
 
 module _ (known : Known) (k : List ℕ) (e : known ≡ known_of k) where
   pub known_tape : (n : ℕ) → get_or k 0 0 ≤ n → known.tape ≤ n
@@ -134,6 +138,9 @@ room_at p w i q d p' e m h = room_as p p' w e.long e.known (rw e.deep (omega (ar
 pub room_pointed : (p w : List ℕ) (i q : ℕ) (p' : List ℕ) → AtName p i q p' → Room p w → Room p' w
 room_pointed p w i q p' e h = room_at p w (get_or p 5 0) (get_or p 6 0) (get_or p 7 0) p' e.left (omega arith) h
 
+pub room_long : (p w : List ℕ) → Room p w → length p ≡ 10
+room_long p w h = h.words.long
+
 module _ (k : Known) (i q d : ℕ) (p : List ℕ) (e : At k i q d p) where
   pub at_some : (d ≡ 0 → ⊥) → get_or p 7 0 ≡ 0 → ⊥
   at_some y z = y (sym e.deep ∙ z)
@@ -194,4 +201,4 @@ unfolding answered
 answered_ill r next free e = rw e
 
 -- what the words of a level hand to `search`
-pub ruleset worded = (known_tape, known_count, known_row, known_hidden, room_known, moved, deepened, pointed, room_at, room_pointed, tell_ill, tell_sorted, rules)
+pub ruleset worded = (known_at, known_tape, known_count, known_row, known_hidden, room_known, moved, deepened, pointed, room_at, room_pointed, room_long, tell_ill, tell_sorted, rules)
